@@ -1,0 +1,160 @@
+-- 01, 'Move list' ('move list' is a term of paper 01).
+use Prim.Native.Nat.{ℕ, zero, suc, _+_, _*_}
+use mathlib.Core.Bool.{Bool, true, false, _&&_, _||_}
+use mathlib.Core.List.{List, [], _∷_, _++_, flatten}
+use lib.ListN.{length, drop, replicate}
+use lib.Dec.{leb, eqb}
+use Rattle.rules.specs.Bytes.{choose, number, bytes, part, field}
+use Rattle.rules.specs.State.{Limits, Adapter, Place, free, holds, Record, recordBytes, State, fresh, listing}
+use Rattle.rules.specs.Outcome.{EINVAL, EOPNOTSUPP, EFAULT, ENOMEM, E2BIG, Outcome, refuse, accept, undo, need_else_⨾_}
+use Rattle.rules.specs.Requests.{isZero, nonZero, setRequest, request}
+
+-- A request of the list, always a set.
+pub record Entry : Type 0 where
+  pub group : ℕ
+  pub attr : ℕ
+  pub payload : List ℕ
+
+abbrev pub flag : Bool → ℕ
+flag true = 1
+flag false = 0
+
+-- Written, in order: REGISTER for each adapter by rising id, MODIFY type 1 for each masked one by rising id, ..
+abbrev pub registerEntry : ℕ → Adapter → Entry
+registerEntry id x =
+    record
+      { group = 6
+      ; attr = 0
+      ; payload = bytes 4 id ++ (x .isc ∷ flag (x .maskable) ∷ flag (x .swap) ∷ flag (x .suppressible) ∷ []) }
+
+abbrev pub modifyEntry : ℕ → Entry
+modifyEntry id = record { group = 7; attr = 0; payload = bytes 4 id ++ (1 ∷ 1 ∷ replicate 10 0) }
+
+unfoldable pub registerEntries : ℕ → List Place → List Entry
+registerEntries id [] = []
+registerEntries id (free ∷ ps) = registerEntries (suc id) ps
+registerEntries id (holds x ∷ ps) = registerEntry id x ∷ registerEntries (suc id) ps
+
+unfoldable pub modifyEntries : ℕ → List Place → List Entry
+modifyEntries id [] = []
+modifyEntries id (free ∷ ps) = modifyEntries (suc id) ps
+modifyEntries id (holds x ∷ ps) = choose (x .masked) (modifyEntry id ∷ []) [] ++ modifyEntries (suc id) ps
+
+-- .. one ENQUEUE of the whole listing if any, AISM_ALL if capable and a mask is not 0, APF_ENABLE if on.
+unfoldable pub enqueueEntries : List Record → List Entry
+enqueueEntries [] = []
+enqueueEntries (r ∷ rs) = record { group = 2; attr = recordBytes * length (r ∷ rs); payload = flatten (r ∷ rs) } ∷ []
+
+unfoldable pub aismAllEntries : Bool → ℕ → ℕ → List Entry
+aismAllEntries ais simm nimm =
+    choose (ais && (nonZero simm || nonZero nimm)) (record { group = 11; attr = 0; payload = simm ∷ nimm ∷ [] } ∷ []) []
+
+unfoldable pub apfEntries : Bool → List Entry
+apfEntries true = record { group = 4; attr = 0; payload = [] } ∷ []
+apfEntries false = []
+
+unfoldable pub entries : State → List Entry
+entries s =
+    registerEntries 0 (s .adapters)
+    ++ (modifyEntries 0 (s .adapters)
+    ++ (enqueueEntries (listing (s .pending)) ++ (aismAllEntries (s .ais) (s .device .simm) (s .device .nimm) ++ apfEntries (s .device .apf))))
+
+-- Header of five numbers; table entries of 24 bytes: payload offset, group, payload length, zero, attribute; payloads without gaps.
+abbrev pub headerBytes : ℕ
+headerBytes = 20
+
+abbrev pub slotBytes : ℕ
+slotBytes = 24
+
+unfoldable pub payloads : List Entry → List ℕ
+payloads [] = []
+payloads (e ∷ es) = e .payload ++ payloads es
+
+unfoldable pub table : ℕ → List Entry → List ℕ
+table at [] = []
+table at (e ∷ es) =
+    bytes 4 at ++ (bytes 4 (e .group) ++ (bytes 4 (length (e .payload)) ++ (bytes 4 0 ++ (bytes 8 (e .attr) ++ table (at + length (e .payload)) es))))
+
+abbrev pub payloadsAt : ℕ → ℕ
+payloadsAt count = headerBytes + slotBytes * count
+
+abbrev pub total : List Entry → ℕ
+total es = payloadsAt (length es) + length (payloads es)
+
+unfoldable pub moveList : Bool → List Entry → List ℕ
+moveList ais es =
+    bytes 4 (total es) ++ (bytes 4 (length es) ++ (bytes 4 headerBytes ++ (bytes 4 (payloadsAt (length es)) ++ (bytes 4 (flag ais)
+    ++ (table (payloadsAt (length es)) es ++ payloads es)))))
+
+-- Writing: the list from the buffer's start; its length.
+unfoldable pub writes : State → List ℕ → Outcome
+writes s b =
+    need leb (total (entries s)) (length b) else ENOMEM ⨾
+    accept (total (entries s)) s (moveList (s .ais) (entries s))
+
+-- A played list: the header's numbers and the table's entries as they stand.
+abbrev pub totalIn : List ℕ → ℕ
+totalIn b = field 0 4 b
+
+abbrev pub countIn : List ℕ → ℕ
+countIn b = field 4 4 b
+
+abbrev pub tableIn : List ℕ → ℕ
+tableIn b = field 8 4 b
+
+abbrev pub payloadsIn : List ℕ → ℕ
+payloadsIn b = field 12 4 b
+
+abbrev pub flagIn : List ℕ → ℕ
+flagIn b = field 16 4 b
+
+pub record Slot : Type 0 where
+  pub at : ℕ
+  pub group : ℕ
+  pub size : ℕ
+  pub zeroWord : ℕ
+  pub attr : ℕ
+
+abbrev pub slotIn : List ℕ → Slot
+slotIn b = record { at = field 0 4 b; group = field 4 4 b; size = field 8 4 b; zeroWord = field 12 4 b; attr = field 16 8 b }
+
+unfoldable pub slotsIn : ℕ → List ℕ → List Slot
+slotsIn zero b = []
+slotsIn (suc n) b = slotIn b ∷ slotsIn n (drop slotBytes b)
+
+-- place without gap, zero word, group 2, 4, 6, 7 or 11; last end
+abbrev pub movable : ℕ → Bool
+movable group = eqb group 2 || (eqb group 4 || (eqb group 6 || (eqb group 7 || eqb group 11)))
+
+unfoldable pub formed : ℕ → ℕ → List Slot → Bool
+formed end at [] = eqb at end
+formed end at (e ∷ es) = eqb (e .at) at && (isZero (e .zeroWord) && (movable (e .group) && formed end (at + e .size) es))
+
+unfoldable pub entriesIn : List ℕ → List Slot → List Entry
+entriesIn b [] = []
+entriesIn b (e ∷ es) = record { group = e .group; attr = e .attr; payload = part (e .at) (e .size) b } ∷ entriesIn b es
+
+-- The requests are applied in order; the first refused one ends it, with its code and its place from 0.
+unfoldable pub onward : Outcome → ℕ → (State → Outcome) → Outcome
+onward (refuse code) place rest = undo code place
+onward (accept count next written) place rest = rest next
+onward (undo code at) place rest = undo code place
+
+unfoldable pub applies : Limits → ℕ → State → List Entry → Outcome
+applies L place s [] = accept place s []
+applies L place s (e ∷ es) = onward (request L s (setRequest (e .group)) (e .attr) (e .payload)) place (λ t. applies L (suc place) t es)
+
+-- The most requests of a played list. It is no function of the limits.
+abbrev pub mostRequests : ℕ
+mostRequests = 131
+
+unfoldable pub plays : Limits → State → List ℕ → Outcome
+plays L s b =
+    need leb headerBytes (length b) else EFAULT ⨾
+    need eqb (totalIn b) (length b) else EINVAL ⨾
+    need leb (flagIn b) 1 else EINVAL ⨾
+    need leb (countIn b) mostRequests else E2BIG ⨾
+    need eqb (tableIn b) headerBytes && (eqb (payloadsIn b) (payloadsAt (countIn b)) && leb (payloadsIn b) (length b)) else EINVAL ⨾
+    need formed (length b) (payloadsIn b) (slotsIn (countIn b) (drop headerBytes b)) else EINVAL ⨾
+    need eqb (flagIn b) (flag (s .ais)) else EOPNOTSUPP ⨾
+    applies L 0 (fresh L (s .ais)) (entriesIn b (slotsIn (countIn b) (drop headerBytes b)))

@@ -1,0 +1,233 @@
+-- 01, 'Request numbers and effects', with the checks of 'Codes and the order of checks' after the adapter table's.
+use Prim.Native.Nat.{ℕ, zero, suc, _+_, _*_, _/_, _%_, _^_}
+use mathlib.Core.Bool.{Bool, true, false, not, _&&_, _||_}
+use mathlib.Core.Option.{Option, none, some}
+use mathlib.Core.List.{List, [], _∷_, _++_, flatten}
+use lib.ListN.{length, getD, take, drop, replicate}
+use lib.Dec.{leb, ltb, eqb}
+use Rattle.rules.specs.Bytes.{choose, number, bytes, byte, part, field}
+use Rattle.rules.specs.State.{Limits, Adapter, Place, free, holds, Record, recordBytes, Pending, Device, State, nothing, withPending, withDevice, withAdapter, hasBit, withBit, withoutBit, Kind, kind, subchannelId, subchannelNumber, subclass, addIo, addAll, queued, listing}
+use Rattle.rules.specs.Outcome.{EINVAL, EOPNOTSUPP, EFAULT, ENOMEM, EBUSY, Outcome, refuse, accept, need_else_⨾_, holder_else_⨾_}
+
+-- The requests, by group number; a group that is unknown, or not to be set or read, is no request.
+pub data Request : Type 0 where
+  noRequest getAllIrqs enqueue clearIrqs apfEnable apfDisableWait adapterRegister adapterModify clearIoIrq aism airqInject setAismAll getAismAll : Request
+
+abbrev pub setGroups : List Request
+setGroups =
+    noRequest ∷ noRequest ∷ enqueue ∷ clearIrqs ∷ apfEnable ∷ apfDisableWait ∷ adapterRegister ∷ adapterModify ∷ clearIoIrq ∷ aism ∷ airqInject ∷ setAismAll ∷ []
+
+abbrev pub getGroups : List Request
+getGroups =
+    noRequest ∷ getAllIrqs ∷ noRequest ∷ noRequest ∷ noRequest ∷ noRequest ∷ noRequest ∷ noRequest ∷ noRequest ∷ noRequest ∷ noRequest ∷ getAismAll ∷ []
+
+abbrev pub setRequest : ℕ → Request
+setRequest group = getD setGroups group noRequest
+
+abbrev pub getRequest : ℕ → Request
+getRequest group = getD getGroups group noRequest
+
+-- The longest ENQUEUE. It is no function of the limits.
+abbrev pub enqueueBytes : ℕ
+enqueueBytes = 18576
+
+abbrev pub isZero : ℕ → Bool
+isZero n = eqb n 0
+
+abbrev pub nonZero : ℕ → Bool
+nonZero n = not (eqb n 0)
+
+-- 1 GET_ALL_IRQS: the listing; records written. The bytes after them stay.
+unfoldable pub lists : State → ℕ → Outcome
+lists s claimed =
+    need leb (recordBytes * length (listing (s .pending))) claimed else ENOMEM ⨾
+    accept (length (listing (s .pending))) s (flatten (listing (s .pending)))
+
+-- 2 ENQUEUE: every record is checked before room, and all are added in order or none; records given.
+unfoldable pub recordsIn : ℕ → List ℕ → List Record
+recordsIn zero b = []
+recordsIn (suc n) b = take recordBytes b ∷ recordsIn n (drop recordBytes b)
+
+unfoldable pub taken : Kind → Bool
+taken Kind.io = true
+taken Kind.done = true
+taken Kind.service = true
+taken Kind.mchk = true
+taken Kind.other = false
+
+unfoldable pub allTaken : List Record → Bool
+allTaken [] = true
+allTaken (r ∷ rs) = taken (kind r) && allTaken rs
+
+-- how many of the nine queues' places a record wants
+unfoldable pub wants : Kind → ℕ
+wants Kind.io = 1
+wants Kind.done = 1
+wants Kind.service = 0
+wants Kind.mchk = 0
+wants Kind.other = 0
+
+unfoldable pub allWant : List Record → ℕ
+allWant [] = 0
+allWant (r ∷ rs) = wants (kind r) + allWant rs
+
+unfoldable pub enqueues : Limits → State → List Record → Outcome
+enqueues L s rs =
+    need allTaken rs else EINVAL ⨾
+    need leb (queued (s .pending) + allWant rs) (L .room) else EBUSY ⨾
+    accept (length rs) (withPending (addAll rs (s .pending)) s) []
+
+-- 3 CLEAR_IRQS: nothing pending; records removed.
+unfoldable pub clears : State → Outcome
+clears s = accept (length (listing (s .pending))) (withPending nothing s) []
+
+-- 4, 5 APF_ENABLE, APF_DISABLE_WAIT: the flag; 0.
+unfoldable pub flags : State → Bool → Outcome
+flags s on = accept 0 (withDevice (record { simm = s .device .simm; nimm = s .device .nimm; apf = on }) s) []
+
+-- 6 ADAPTER_REGISTER: an unmasked adapter; 0.
+abbrev pub placeOf : State → ℕ → Place
+placeOf s id = getD (s .adapters) id free
+
+abbrev pub isFree : Place → Bool
+isFree free = true
+isFree (holds x) = false
+
+unfoldable pub registers : Limits → State → ℕ → Adapter → Outcome
+registers L s id x =
+    need ltb id (L .places) else EINVAL ⨾
+    need isFree (placeOf s id) else EINVAL ⨾
+    need leb (x .isc) 7 else EINVAL ⨾
+    accept 0 (withAdapter id x s) []
+
+-- id (4), isc, maskable, swap, flags: any non-zero maskable or swap means yes, the flags bit of value 1 means suppressible.
+unfoldable pub adapterIn : List ℕ → Adapter
+adapterIn b =
+    record
+      { isc = byte 4 b
+      ; maskable = nonZero (byte 5 b)
+      ; swap = nonZero (byte 6 b)
+      ; suppressible = eqb (byte 7 b % 2) 1
+      ; masked = false }
+
+-- 7 ADAPTER_MODIFY: type 1 sets masked or unmasked, types 2 and 3 do nothing; 0.
+abbrev pub withMask : Bool → Adapter → Adapter
+withMask on x = record { isc = x .isc; maskable = x .maskable; swap = x .swap; suppressible = x .suppressible; masked = on }
+
+unfoldable pub modifies : Limits → State → ℕ → ℕ → Bool → Outcome
+modifies L s id type on =
+    need ltb id (L .places) else EINVAL ⨾
+    holder placeOf s id else EINVAL ⨾ λ x.
+    need leb 1 type && leb type 3 else EINVAL ⨾
+    need not (eqb type 1) || x .maskable else EINVAL ⨾
+    accept 0 (choose (eqb type 1) (withAdapter id (withMask on x) s) s) []
+
+-- 8 CLEAR_IO_IRQ: the first I/O record in listing order that has both subchannel id and number is removed; 0 or 1.
+abbrev pub isFor : ℕ → ℕ → Record → Bool
+isFor id nr r = eqb (subchannelId r) id && eqb (subchannelNumber r) nr
+
+abbrev pub consTo {ℓ} : {A : Type ℓ} → A → Option (List A) → Option (List A)
+consTo a none = none
+consTo a (some l) = some (a ∷ l)
+
+unfoldable pub without : (Record → Bool) → List Record → Option (List Record)
+without f [] = none
+without f (r ∷ q) = choose (f r) (some q) (consTo r (without f q))
+
+abbrev pub orIn : Option (List Record) → List Record → List (List Record) → Option (List (List Record)) → Option (List (List Record))
+orIn none q qs later = consTo q later
+orIn (some q′) q qs later = some (q′ ∷ qs)
+
+unfoldable pub withoutFirst : (Record → Bool) → List (List Record) → Option (List (List Record))
+withoutFirst f [] = none
+withoutFirst f (q ∷ qs) = orIn (without f q) q qs (withoutFirst f qs)
+
+unfoldable pub removes : State → Option (List (List Record)) → Outcome
+removes s none = accept 0 s []
+removes s (some qs) =
+    accept 1 (withPending (record { io = qs; done = s .pending .done; service = s .pending .service; mchk = s .pending .mchk }) s) []
+
+unfoldable pub clearsIo : State → ℕ → ℕ → Outcome
+clearsIo s id nr =
+    need not (isZero id && isZero nr) else EINVAL ⨾
+    removes s (withoutFirst (isFor id nr) (s .pending .io))
+
+-- 9 AISM: mode 0 (ALL) clears both bits, mode 1 (SINGLE) sets simm and clears nimm; 0.
+abbrev pub withMasks : ℕ → ℕ → State → State
+withMasks simm nimm s = withDevice (record { simm = simm; nimm = nimm; apf = s .device .apf }) s
+
+unfoldable pub setsMode : State → ℕ → ℕ → Outcome
+setsMode s isc mode =
+    need leb isc 7 else EINVAL ⨾
+    need leb mode 1 else EINVAL ⨾
+    accept 0 (withMasks (choose (eqb mode 0) (withoutBit isc (s .device .simm)) (withBit isc (s .device .simm))) (withoutBit isc (s .device .nimm)) s) []
+
+-- 10 AIRQ_INJECT: masked, or suppressed: code 0, count 0, no change; else the record is appended, and nimm set in SINGLE mode.
+abbrev pub underAis : State → Adapter → ℕ → Bool
+underAis s x mask = s .ais && (x .suppressible && hasBit (x .isc) mask)
+
+abbrev pub adapterInterrupt : ℕ → Record
+adapterInterrupt isc =
+    bytes 8 0x04000000 ++ (bytes 2 0 ++ (bytes 2 0 ++ (bytes 4 0 ++ (bytes 4 (0x80000000 + isc * 2 ^ 27) ++ replicate 52 0))))
+
+unfoldable pub injected : State → Adapter → State
+injected s x =
+    withPending (addIo (x .isc) (adapterInterrupt (x .isc)) (s .pending))
+    (withMasks (s .device .simm) (choose (underAis s x (s .device .simm)) (withBit (x .isc) (s .device .nimm)) (s .device .nimm)) s)
+
+unfoldable pub injects : Limits → State → ℕ → Outcome
+injects L s id =
+    need ltb id (L .places) else EINVAL ⨾
+    holder placeOf s id else EINVAL ⨾ λ x.
+    choose (x .masked || underAis s x (s .device .nimm)) (accept 0 s [])
+    (need ltb (queued (s .pending)) (L .room) else EBUSY ⨾ accept 1 (injected s x) [])
+
+-- A request that is set or read: attribute, 95, claimed length, lent length, then the contents.
+unfoldable pub request : Limits → State → Request → ℕ → List ℕ → Outcome
+request L s noRequest attr b = refuse EINVAL
+request L s getAllIrqs attr b =
+    need nonZero attr else EINVAL ⨾
+    need leb attr (length b) else EFAULT ⨾
+    lists s attr
+request L s enqueue attr b =
+    need nonZero attr && (leb attr enqueueBytes && isZero (attr % recordBytes)) else EINVAL ⨾
+    need leb attr (length b) else EFAULT ⨾
+    enqueues L s (recordsIn (attr / recordBytes) b)
+request L s clearIrqs attr b =
+    need isZero attr else EINVAL ⨾
+    clears s
+request L s apfEnable attr b =
+    need isZero attr else EINVAL ⨾
+    flags s true
+request L s apfDisableWait attr b =
+    need isZero attr else EINVAL ⨾
+    flags s false
+request L s adapterRegister attr b =
+    need isZero attr else EINVAL ⨾
+    need leb 8 (length b) else EFAULT ⨾
+    registers L s (field 0 4 b) (adapterIn b)
+request L s adapterModify attr b =
+    need isZero attr else EINVAL ⨾
+    need leb 16 (length b) else EFAULT ⨾
+    modifies L s (field 0 4 b) (byte 4 b) (nonZero (byte 5 b))
+request L s clearIoIrq attr b =
+    need leb 4 attr else EINVAL ⨾
+    need leb 4 (length b) else EFAULT ⨾
+    clearsIo s (field 0 2 b) (field 2 2 b)
+request L s aism attr b =
+    need isZero attr else EINVAL ⨾
+    need s .ais else EOPNOTSUPP ⨾
+    need leb 4 (length b) else EFAULT ⨾
+    setsMode s (byte 0 b) (field 2 2 b)
+request L s airqInject attr b =
+    injects L s attr
+request L s setAismAll attr b =
+    need isZero attr else EINVAL ⨾
+    need s .ais else EOPNOTSUPP ⨾
+    need leb 2 (length b) else EFAULT ⨾
+    accept 0 (withMasks (byte 0 b) (byte 1 b) s) []
+request L s getAismAll attr b =
+    need isZero attr else EINVAL ⨾
+    need s .ais else EOPNOTSUPP ⨾
+    need leb 2 (length b) else EFAULT ⨾
+    accept 0 s (s .device .simm ∷ s .device .nimm ∷ [])

@@ -1,0 +1,67 @@
+-- 01, 'Guest take' ('guest take' is a term of paper 01).
+use Prim.Native.Nat.{ℕ, zero, suc}
+use mathlib.Core.Bool.{Bool, true, false, _&&_}
+use mathlib.Core.Option.{Option, none, some}
+use mathlib.Core.List.{List, [], _∷_}
+use lib.ListN.{length}
+use lib.Dec.{leb}
+use Rattle.rules.specs.Bytes.{choose}
+use Rattle.rules.specs.State.{Record, recordBytes, Pending, State, withPending, hasBit}
+use Rattle.rules.specs.Outcome.{EFAULT, Outcome, accept, need_else_⨾_}
+
+-- A record handed out, and what is left of that from which it was taken.
+pub record Handed (A : Type 0) : Type 0 where
+  pub given : Record
+  pub left : A
+
+abbrev pub orElse {ℓ} : {A : Type ℓ} → Option A → Option A → Option A
+orElse none later = later
+orElse (some a) later = some a
+
+-- machine check
+abbrev pub handMchk : Pending → Option Record → Option (Handed Pending)
+handMchk p none = none
+handMchk p (some r) = some (record { given = r; left = record { io = p .io; done = p .done; service = p .service; mchk = none } })
+
+-- service
+abbrev pub handService : Pending → Option Record → Option (Handed Pending)
+handService p none = none
+handService p (some r) = some (record { given = r; left = record { io = p .io; done = p .done; service = none; mchk = p .mchk } })
+
+-- oldest page fault done
+abbrev pub handDone : Pending → List Record → Option (Handed Pending)
+handDone p [] = none
+handDone p (r ∷ q) = some (record { given = r; left = record { io = p .io; done = q; service = p .service; mchk = p .mchk } })
+
+-- I/O by subclass 0 to 7, oldest first: of queues whose first is that of subclass n
+abbrev pub keep : List Record → Option (Handed (List (List Record))) → Option (Handed (List (List Record)))
+keep q none = none
+keep q (some h) = some (record { given = h .given; left = q ∷ h .left })
+
+unfoldable pub firstAllowed : ℕ → ℕ → List (List Record) → Option (Handed (List (List Record)))
+firstAllowed n allowed [] = none
+firstAllowed n allowed ([] ∷ qs) = keep [] (firstAllowed (suc n) allowed qs)
+firstAllowed n allowed ((r ∷ q) ∷ qs) =
+    choose (hasBit n allowed) (some (record { given = r; left = q ∷ qs })) (keep (r ∷ q) (firstAllowed (suc n) allowed qs))
+
+abbrev pub handIo : Pending → Option (Handed (List (List Record))) → Option (Handed Pending)
+handIo p none = none
+handIo p (some h) =
+    some (record { given = h .given; left = record { io = h .left; done = p .done; service = p .service; mchk = p .mchk } })
+
+-- the first allowed; service and page fault are external
+unfoldable pub handed : Pending → ℕ → Bool → Bool → Option (Handed Pending)
+handed p subclasses external mcheck =
+    orElse (choose mcheck (handMchk p (p .mchk)) none)
+    (orElse (choose external (handService p (p .service)) none)
+    (orElse (choose external (handDone p (p .done)) none)
+    (handIo p (firstAllowed 0 subclasses (p .io)))))
+
+unfoldable pub handsOut : State → Option (Handed Pending) → Outcome
+handsOut s none = accept 0 s []
+handsOut s (some h) = accept 1 (withPending (h .left) s) (h .given)
+
+unfoldable pub takes : State → ℕ → Bool → Bool → List ℕ → Outcome
+takes s subclasses external mcheck b =
+    need leb recordBytes (length b) else EFAULT ⨾
+    handsOut s (handed (s .pending) subclasses external mcheck)

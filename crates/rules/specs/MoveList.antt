@@ -20,44 +20,40 @@ flag true = 1
 flag false = 0
 
 -- Written, in order: REGISTER for each adapter by rising id, MODIFY type 1 for each masked one by rising id, ..
-abbrev pub registerEntry : ℕ → Adapter → Entry
+unfoldable pub byRisingId : (ℕ → Adapter → List Entry) → ℕ → List Place → List Entry
+byRisingId f id [] = []
+byRisingId f id (free ∷ ps) = byRisingId f (suc id) ps
+byRisingId f id (holds x ∷ ps) = f id x ++ byRisingId f (suc id) ps
+
+unfoldable pub registerEntry : ℕ → Adapter → List Entry
 registerEntry id x =
-    record
-      { group = 6
-      ; attr = 0
-      ; payload = bytes 4 id ++ (x .isc ∷ flag (x .maskable) ∷ flag (x .swap) ∷ flag (x .suppressible) ∷ []) }
+    record {
+      group = 6;
+      attr = 0;
+      payload = bytes 4 id ++ (x .isc ∷ flag (x .maskable) ∷ flag (x .swap) ∷ flag (x .suppressible) ∷ []);
+    } ∷ []
 
-abbrev pub modifyEntry : ℕ → Entry
-modifyEntry id = record { group = 7; attr = 0; payload = bytes 4 id ++ (1 ∷ 1 ∷ replicate 10 0) }
-
-unfoldable pub registerEntries : ℕ → List Place → List Entry
-registerEntries id [] = []
-registerEntries id (free ∷ ps) = registerEntries (suc id) ps
-registerEntries id (holds x ∷ ps) = registerEntry id x ∷ registerEntries (suc id) ps
-
-unfoldable pub modifyEntries : ℕ → List Place → List Entry
-modifyEntries id [] = []
-modifyEntries id (free ∷ ps) = modifyEntries (suc id) ps
-modifyEntries id (holds x ∷ ps) = choose (x .masked) (modifyEntry id ∷ []) [] ++ modifyEntries (suc id) ps
+unfoldable pub modifyEntry : ℕ → Adapter → List Entry
+modifyEntry id x = choose (x .masked) (record { group = 7; attr = 0; payload = bytes 4 id ++ (1 ∷ 1 ∷ replicate 10 0) } ∷ []) []
 
 -- .. one ENQUEUE of the whole listing if any, AISM_ALL if capable and a mask is not 0, APF_ENABLE if on.
-unfoldable pub enqueueEntries : List Record → List Entry
-enqueueEntries [] = []
-enqueueEntries (r ∷ rs) = record { group = 2; attr = recordBytes * length (r ∷ rs); payload = flatten (r ∷ rs) } ∷ []
+unfoldable pub enqueueEntry : List Record → List Entry
+enqueueEntry [] = []
+enqueueEntry (r ∷ rs) = record { group = 2; attr = recordBytes * length (r ∷ rs); payload = flatten (r ∷ rs) } ∷ []
 
-unfoldable pub aismAllEntries : Bool → ℕ → ℕ → List Entry
-aismAllEntries ais simm nimm =
+unfoldable pub aismAllEntry : Bool → ℕ → ℕ → List Entry
+aismAllEntry ais simm nimm =
     choose (ais && (nonZero simm || nonZero nimm)) (record { group = 11; attr = 0; payload = simm ∷ nimm ∷ [] } ∷ []) []
 
-unfoldable pub apfEntries : Bool → List Entry
-apfEntries true = record { group = 4; attr = 0; payload = [] } ∷ []
-apfEntries false = []
+unfoldable pub apfEntry : Bool → List Entry
+apfEntry true = record { group = 4; attr = 0; payload = [] } ∷ []
+apfEntry false = []
 
 unfoldable pub entries : State → List Entry
 entries s =
-    registerEntries 0 (s .adapters)
-    ++ (modifyEntries 0 (s .adapters)
-    ++ (enqueueEntries (listing (s .pending)) ++ (aismAllEntries (s .ais) (s .device .simm) (s .device .nimm) ++ apfEntries (s .device .apf))))
+    byRisingId registerEntry 0 (s .adapters)
+    ++ (byRisingId modifyEntry 0 (s .adapters)
+    ++ (enqueueEntry (listing (s .pending)) ++ (aismAllEntry (s .ais) (s .device .simm) (s .device .nimm) ++ apfEntry (s .device .apf))))
 
 -- Header of five numbers; table entries of 24 bytes: payload offset, group, payload length, zero, attribute; payloads without gaps.
 abbrev pub headerBytes : ℕ

@@ -103,12 +103,13 @@ registers L s id x =
 -- id (4), isc, maskable, swap, flags: any non-zero maskable or swap means yes, the flags bit of value 1 means suppressible.
 unfoldable pub adapterIn : List ℕ → Adapter
 adapterIn b =
-    record
-      { isc = byte 4 b
-      ; maskable = nonZero (byte 5 b)
-      ; swap = nonZero (byte 6 b)
-      ; suppressible = eqb (byte 7 b % 2) 1
-      ; masked = false }
+    record {
+      isc = byte 4 b;
+      maskable = nonZero (byte 5 b);
+      swap = nonZero (byte 6 b);
+      suppressible = eqb (byte 7 b % 2) 1;
+      masked = false;
+    }
 
 -- 7 ADAPTER_MODIFY: type 1 sets masked or unmasked, types 2 and 3 do nothing; 0.
 abbrev pub withMask : Bool → Adapter → Adapter

@@ -60,11 +60,12 @@ nothing = record { io = replicate 8 []; done = []; service = none; mchk = none }
 
 unfoldable pub fresh : Limits → Bool → State
 fresh L ais =
-    record
-      { ais = ais
-      ; adapters = replicate (L .places) free
-      ; pending = nothing
-      ; device = record { simm = 0; nimm = 0; apf = false } }
+    record {
+      ais = ais;
+      adapters = replicate (L .places) free;
+      pending = nothing;
+      device = record { simm = 0; nimm = 0; apf = false };
+    }
 
 abbrev pub withPending : Pending → State → State
 withPending p s = record { ais = s .ais; adapters = s .adapters; pending = p; device = s .device }

@@ -1,3 +1,5 @@
 pub mod Computes
 pub mod Examples
 pub mod Checks
+pub mod Lists
+pub mod Reachable

@@ -14,7 +14,7 @@ pub record Handed (A : Type 0) : Type 0 where
   pub given : Record
   pub left : A
 
-abbrev pub orElse {ℓ} : {A : Type ℓ} → Option A → Option A → Option A
+unfoldable pub orElse {ℓ} : {A : Type ℓ} → Option A → Option A → Option A
 orElse none later = later
 orElse (some a) later = some a
 

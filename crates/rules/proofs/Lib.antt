@@ -2,4 +2,8 @@ pub mod Computes
 pub mod Examples
 pub mod Checks
 pub mod Lists
+pub mod Codec
+pub mod Decode
 pub mod Reachable
+pub mod Replay
+pub mod Move

@@ -1,9 +1,9 @@
 -- The order of checks, and choices: what a test's value makes of them.
 use Prim.Native.Nat.{ℕ}
-use mathlib.Core.Path.{_≡_, refl, ap, _∙_}
-use mathlib.Core.Bool.{Bool, true, false, not, _&&_, _||_}
+use mathlib.Core.Path.{_≡_, refl}
+use mathlib.Core.Bool.{Bool, true, false, _&&_}
 use Rattle.rules.specs.Bytes.{choose}
-use Rattle.rules.specs.State.{Adapter, Place, free, holds}
+use Rattle.rules.specs.State.{Adapter, Place, holds}
 use Rattle.rules.specs.Outcome.{Outcome, refuse, need_else_⨾_, holder_else_⨾_}
 
 pub passes : (t : Bool) (code : ℕ) (rest : Outcome) → t ≡ true → (need t else code ⨾ rest) ≡ rest

@@ -1,9 +1,9 @@
 -- 01, 'Checked examples': P1 to P12 as one list under one claim, and further examples of single rules. Each line is a call and what its
 -- caller must see: code, count, and the bytes written from the buffer's start; the bytes after those must stay.
-use Prim.Native.Nat.{ℕ, _+_, _*_, _/_, _%_, _^_}
+use Prim.Native.Nat.{ℕ, _+_, _*_}
 use mathlib.Core.Path.{_≡_, refl}
 use mathlib.Core.Bool.{Bool, true, false}
-use mathlib.Core.List.{List, [], _∷_, _++_, map, flatten, zipWith}
+use mathlib.Core.List.{List, [], _∷_, _++_, map}
 use lib.ListN.{length, drop, replicate}
 use Rattle.rules.specs.Bytes.{bytes}
 use Rattle.rules.specs.State.{paperLimits, fresh}

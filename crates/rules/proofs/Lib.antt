@@ -7,3 +7,4 @@ pub mod Decode
 pub mod Reachable
 pub mod Replay
 pub mod Move
+pub mod Unread

@@ -1,25 +1,24 @@
 -- The move at machine level: a list that is written can be played on any state of the same capability, and gives back the very state.
 use Prim.Native.Nat.{ℕ, zero, suc, _+_, _*_, _^_, _<_, _≤_}
 use mathlib.Core.Path.{_≡_, refl, ap, ap₂, sym, _∙_}
-use mathlib.Core.Bool.{Bool, true, false, _&&_, _||_}
-use mathlib.Core.List.{List, [], _∷_, _++_, flatten}
+use mathlib.Core.Bool.{Bool, true, false, _||_}
+use mathlib.Core.List.{List, [], _∷_, _++_}
 use native.Mathlib.Omega.{arith}
 use lib.ListN.{length, take, drop, replicate, length-append}
 use lib.Seq.{take-at}
 use borrow.Author.Tests.{le-leb, eq-eqb}
 use Rattle.rules.specs.Bytes.{choose, bytes}
-use Rattle.rules.specs.State.{Limits, paperLimits, Adapter, Place, free, holds, Record, recordBytes, State, fresh, queued, listing}
+use Rattle.rules.specs.State.{Limits, paperLimits, Adapter, Place, free, holds, Record, recordBytes, State, fresh, listing}
 use Rattle.rules.specs.Outcome.{accept, Answer, result}
-use Rattle.rules.specs.Requests.{enqueueBytes, nonZero}
-use Rattle.rules.specs.MoveList.{Entry, flag, byRisingId, registerEntry, modifyEntry, enqueueEntry, aismAllEntry, apfEntry, entries, payloads, payloadsAt, total, moveList, writes, totalIn, countIn, mostRequests, plays}
-use Rattle.rules.specs.Machine.{Call, setAttr, writeList, playList, outcome, step, Seen, answers, after}
+use Rattle.rules.specs.Requests.{nonZero}
+use Rattle.rules.specs.MoveList.{Entry, flag, byRisingId, registerEntry, modifyEntry, enqueueEntry, aismAllEntry, apfEntry, entries, payloads, payloadsAt, total, moveList, writes, countIn, mostRequests}
+use Rattle.rules.specs.Machine.{Call, setAttr, writeList, playList, outcome, step, answers, after}
 use Rattle.rules.proofs.Checks.{passes}
 use Rattle.rules.proofs.Computes.{computes}
 use Rattle.rules.proofs.Lists.{All, all-append}
-use Rattle.rules.proofs.Codec.{length-bytes}
-use Rattle.rules.proofs.Decode.{Fits, flag-le, length-moveList, total-written, count-written, reads-back}
-use Rattle.rules.proofs.Reachable.{Sound, reachable, fresh-ais}
-use Rattle.rules.proofs.Replay.{Movable, listing-sendable, listing-length, length-records, replays}
+use Rattle.rules.proofs.Decode.{Fits, flag-le, length-moveList, count-written, reads-back}
+use Rattle.rules.proofs.Reachable.{Whole, Sound, listing-sendable, listing-length, length-records, reachable, fresh-ais}
+use Rattle.rules.proofs.Replay.{Movable, replays}
 
 -- ---- how long a list is
 
@@ -73,7 +72,7 @@ modify-short id x = go (x .masked)
     go true = short-one _ (record { moves = refl; group = omega arith; attr = omega arith })
     go false = short-none 1 16
 
-enqueue-short : (size : ℕ) (rs : List Record) → All (λ (r : Record). length r ≡ recordBytes) rs → recordBytes * length rs ≤ size → size < 2 ^ 64
+enqueue-short : (size : ℕ) (rs : List Record) → All Whole rs → recordBytes * length rs ≤ size → size < 2 ^ 64
     → Short 1 size (enqueueEntry rs)
 unfolding enqueueEntry
 enqueue-short size [] w h k = short-none 1 size

@@ -1,25 +1,26 @@
 -- What every state that a fresh one can reach satisfies, kept by every call.
-use Prim.Native.Nat.{ℕ, zero, suc, _+_, _-_, _*_, _/_, _%_, _^_, _<_, _≤_}
+use Prim.Native.Nat.{ℕ, zero, suc, _+_, _*_, _/_, _<_, _≤_}
 use mathlib.Core.Path.{_≡_, refl, ap, sym, _∙_, subst}
 use mathlib.Core.Bool.{Bool, true, false, not, _&&_, _||_}
 use mathlib.Core.Option.{Option, none, some}
-use mathlib.Core.List.{List, [], _∷_, _++_, flatten, zipWith}
+use mathlib.Core.List.{List, [], _∷_, _++_, flatten, zipWith, append-nil}
 use native.Mathlib.Omega.{arith}
-use native.Mathlib.Nat.{mod-lt, div-mul-le-self, mul-comm, add-zero, add-suc, suc-add, zero-add, not-suc-le-zero, le-of-suc-le-suc, suc-inj}
-use lib.ListN.{length, getD, set, take, drop, replicate, length-append, length-take, length-drop, length-set, length-replicate}
+use native.Mathlib.Nat.{mod-lt, div-mul-le-self, add-zero, add-suc, suc-add, zero-add, mul-zero, suc-inj}
+use lib.ListN.{length, getD, set, take, drop, length-append, length-take, length-drop, length-set, length-replicate}
 use lib.Seq.{take-at, length-take-le}
-use lib.Dec.{leb, ltb, eqb}
+use lib.Dec.{eqb}
 use lib.Bits.{bitOr}
-use borrow.Author.Tests.{leb-true, ltb-true, eqb-true}
+use borrow.Author.Tests.{leb-true, ltb-true}
 use Rattle.rules.specs.Bytes.{choose, byte, field, bytes, number}
-use Rattle.rules.specs.State.{Limits, Adapter, Place, free, holds, Record, recordBytes, Pending, Device, State, nothing, fresh, withPending, withDevice, withAdapter, hasBit, withBit, withoutBit, Kind, kindOf, kind, subclass, merged, addIo, firstOr, mergedOr, addAs, add, addAll, queued, listing}
-use Rattle.rules.specs.Outcome.{Outcome, refuse, accept, undo, need_else_⨾_, holder_else_⨾_, Answer, result}
-use Rattle.rules.specs.Requests.{Request, noRequest, getAllIrqs, enqueue, clearIrqs, apfEnable, apfDisableWait, adapterRegister, adapterModify, clearIoIrq, aism, airqInject, setAismAll, getAismAll, setRequest, getRequest, enqueueBytes, isZero, nonZero, lists, recordsIn, taken, allTaken, wants, allWant, enqueues, clears, flags, placeOf, isFree, registers, adapterIn, withMask, modifies, isFor, consTo, without, orIn, withoutFirst, removes, clearsIo, withMasks, setsMode, underAis, adapterInterrupt, injected, injects, request}
+use Rattle.rules.specs.State.{Limits, Adapter, Place, free, holds, Record, recordBytes, Pending, Device, State, nothing, fresh, withPending, withDevice, withAdapter, hasBit, withBit, Kind, kindOf, kind, subclass, merged, addIo, firstOr, mergedOr, addAs, add, addAll, queued, single, listing}
+use Rattle.rules.specs.Outcome.{Outcome, refuse, accept, undo, need_else_⨾_, holder_else_⨾_, result}
+use Rattle.rules.specs.Requests.{Request, noRequest, getAllIrqs, enqueue, clearIrqs, apfEnable, apfDisableWait, adapterRegister, adapterModify, clearIoIrq, aism, airqInject, setAismAll, getAismAll, setRequest, getRequest, nonZero, lists, recordsIn, taken, allTaken, wants, allWant, enqueues, clears, flags, placeOf, registers, adapterIn, withMask, modifies, isFor, consTo, without, orIn, withoutFirst, removes, clearsIo, withMasks, setsMode, adapterInterrupt, injected, injects, request}
 use Rattle.rules.specs.Take.{Handed, orElse, handMchk, handService, handDone, keep, firstAllowed, handIo, handed, handsOut, takes}
-use Rattle.rules.specs.MoveList.{Entry, entries, total, moveList, writes, entriesIn, slotsIn, countIn, headerBytes, onward, applies, plays}
+use Rattle.rules.specs.MoveList.{Entry, writes, entriesIn, slotsIn, countIn, headerBytes, onward, applies, plays}
 use Rattle.rules.specs.Machine.{Ask, setAttr, getAttr, guestTake, writeList, playList, Call, outcome, step, after}
-use Rattle.rules.proofs.Checks.{left, right}
-use Rattle.rules.proofs.Lists.{All, Maybe, all-append, all-set, all-get, all-replicate, flatten-more, flatten-empty}
+use Rattle.rules.proofs.Checks.{left}
+use Rattle.rules.proofs.Decode.{length-moveList}
+use Rattle.rules.proofs.Lists.{All, Maybe, all-append, all-set, all-get, all-replicate, flatten-more}
 
 -- ---- the facts
 
@@ -31,12 +32,15 @@ abbrev pub SoundPlace : Place → Type 0
 SoundPlace free = Unit {0}
 SoundPlace (holds x) = SoundAdapter x
 
+abbrev pub Whole : Record → Type 0
+Whole r = length r ≡ recordBytes
+
 pub record IsKind (k : Kind) (r : Record) : Type 0 where
-  pub whole : length r ≡ recordBytes
+  pub whole : Whole r
   pub is-kind : kind r ≡ k
 
 pub record IsIo (isc : ℕ) (r : Record) : Type 0 where
-  pub whole : length r ≡ recordBytes
+  pub whole : Whole r
   pub is-io : kind r ≡ Kind.io
   pub is-subclass : subclass r ≡ isc
 
@@ -144,25 +148,86 @@ queued-as Kind.service r p e = omega arith
 queued-as Kind.mchk r p e = omega arith
 queued-as Kind.other r p e = omega arith
 
-pub add-all : (rs : List Record) (p : Pending) → All (λ (r : Record). length r ≡ recordBytes) rs → SoundPending p → SoundPending (addAll rs p)
+pub add-all : (rs : List Record) (p : Pending) → All Whole rs → SoundPending p → SoundPending (addAll rs p)
 unfolding addAll add
 add-all [] p w h = h
 add-all (r ∷ rs) p w h = add-all rs (add r p) (w .1) (add-as (kind r) r p refl (w .0) h)
 
-queued-all : (rs : List Record) (p : Pending) → All (λ (r : Record). length r ≡ recordBytes) rs → SoundPending p
+queued-all : (rs : List Record) (p : Pending) → All Whole rs → SoundPending p
     → queued (addAll rs p) ≡ queued p + allWant rs
 unfolding addAll add allWant
 queued-all [] p w h = omega arith
 queued-all (r ∷ rs) p w h =
     omega (arith, queued-all rs (add r p) (w .1) (add-as (kind r) r p refl (w .0) h), queued-as (kind r) r p (h .eight))
 
-whole-records : (n : ℕ) (b : List ℕ) → n * recordBytes ≤ length b → All (λ (r : Record). length r ≡ recordBytes) (recordsIn n b)
+whole-records : (n : ℕ) (b : List ℕ) → n * recordBytes ≤ length b → All Whole (recordsIn n b)
 unfolding recordsIn
 whole-records zero b h = tt
 whole-records (suc n) b h = (
   length-take-le recordBytes b (omega arith),
   whole-records n (drop recordBytes b) (rw length-drop (omega arith)),
 )
+
+-- ---- the listing: whole records of the types taken
+
+-- whole records of the types taken, that want so many places of the nine queues
+pub record Sendable (n : ℕ) (rs : List Record) : Type 0 where
+  pub whole : All Whole rs
+  pub good : allTaken rs ≡ true
+  pub wanted : allWant rs ≡ n
+
+sendable-none : Sendable 0 []
+unfolding allTaken allWant
+sendable-none = record { whole = tt; good = refl; wanted = refl }
+
+sendable-more : (k : Kind) (n : ℕ) (r : Record) (rs : List Record) → IsKind k r → taken k ≡ true → Sendable n rs → Sendable (wants k + n) (r ∷ rs)
+unfolding allTaken allWant
+sendable-more k n r rs h ok u =
+    record { whole = (h .whole, u .whole); good = rw (h .is-kind, ok) (u .good); wanted = rw (h .is-kind, u .wanted) }
+
+-- records of one kind, before others
+sendable-kind : (k : Kind) (n : ℕ) (q rs : List Record) → taken k ≡ true → All (IsKind k) q → Sendable n rs → Sendable (wants k * length q + n) (q ++ rs)
+sendable-kind k n [] rs ok h u = rw (mul-zero, zero-add) u
+sendable-kind k n (r ∷ q) rs ok h u =
+    subst (λ (m : ℕ). Sendable m (r ∷ q ++ rs)) (omega arith)
+    (sendable-more k (wants k * length q + n) r (q ++ rs) (h .0) ok (sendable-kind k n q rs ok (h .1) u))
+
+all-single : (k : Kind) (o : Option Record) → Maybe (IsKind k) o → All (IsKind k) (single o)
+all-single k none h = tt
+all-single k (some r) h = (h, tt)
+
+all-io : (n : ℕ) (q : List Record) → All (IsIo n) q → All (IsKind Kind.io) q
+all-io n [] h = tt
+all-io n (r ∷ q) h = (record { whole = h .0 .whole; is-kind = h .0 .is-io }, all-io n q (h .1))
+
+all-queues : (n : ℕ) (qs : List (List Record)) → IoQueues n qs → All (IsKind Kind.io) (flatten qs)
+unfolding flatten
+all-queues n [] h = tt
+all-queues n (q ∷ qs) h = all-append (IsKind Kind.io) q (flatten qs) (all-io n q (h .0)) (all-queues (suc n) qs (h .1))
+
+pub listing-sendable : (p : Pending) → SoundPending p → Sendable (queued p) (listing p)
+unfolding listing wants taken
+listing-sendable p h =
+    subst (λ (m : ℕ). Sendable m (listing p)) (omega arith)
+    (sendable-kind Kind.io _ (flatten (p .io)) _ refl (all-queues 0 (p .io) (h .in-io))
+    (sendable-kind Kind.done _ (p .done) _ refl (h .in-done)
+    (sendable-kind Kind.service _ (single (p .service)) _ refl (all-single Kind.service (p .service) (h .in-service))
+    (subst (λ (rs : List Record). Sendable (0 * length (single (p .mchk)) + 0) rs) (append-nil (single (p .mchk)))
+    (sendable-kind Kind.mchk 0 (single (p .mchk)) [] refl (all-single Kind.mchk (p .mchk) (h .in-mchk)) sendable-none)))))
+
+-- at most two more than the nine queues hold
+single-le : (o : Option Record) → length (single o) ≤ 1
+single-le none = omega arith
+single-le (some r) = omega arith
+
+pub listing-length : (p : Pending) → length (listing p) ≤ queued p + 2
+unfolding listing
+listing-length p = simp length-append (omega (arith, single-le (p .service), single-le (p .mchk)))
+
+pub length-records : (rs : List Record) → All Whole rs → length (flatten rs) ≡ recordBytes * length rs
+unfolding flatten
+length-records [] h = refl
+length-records (r ∷ rs) h = simp length-append (omega (arith, h .0, length-records rs (h .1)))
 
 -- ---- records that go: one record less in one of the queues
 
@@ -247,33 +312,56 @@ first-allowed-less n allowed ((r ∷ q) ∷ qs) =
     go true k = in-this less-here
     go false k = k
 
+abbrev GivenWhole : Handed (List (List Record)) → Type 0
+GivenWhole h = Whole (h .given)
+
+keep-whole : (q : List Record) (o : Option (Handed (List (List Record)))) → Maybe GivenWhole o → Maybe GivenWhole (keep q o)
+keep-whole q none k = tt
+keep-whole q (some h) k = k
+
+first-allowed-whole : (n allowed isc : ℕ) (qs : List (List Record)) → IoQueues isc qs → Maybe GivenWhole (firstAllowed n allowed qs)
+unfolding firstAllowed choose
+first-allowed-whole n allowed isc [] h = tt
+first-allowed-whole n allowed isc ([] ∷ qs) h = keep-whole [] (firstAllowed (suc n) allowed qs) (first-allowed-whole (suc n) allowed (suc isc) qs (h .1))
+first-allowed-whole n allowed isc ((r ∷ q) ∷ qs) h =
+    go (hasBit n allowed) (keep-whole (r ∷ q) (firstAllowed (suc n) allowed qs) (first-allowed-whole (suc n) allowed (suc isc) qs (h .1)))
+  where
+    go : (t : Bool) → Maybe GivenWhole (keep (r ∷ q) (firstAllowed (suc n) allowed qs))
+        → Maybe GivenWhole (choose t (some (record { given = r; left = q ∷ qs })) (keep (r ∷ q) (firstAllowed (suc n) allowed qs)))
+    go true k = h .0 .0 .whole
+    go false k = k
+
 -- ---- the facts are kept, with the capability
 
 pub record Kept (L : Limits) (s t : State) : Type 0 where
   pub sound : Sound L t
   pub same-ais : t .ais ≡ s .ais
 
--- P of the state that an outcome gives, where it gives one
-abbrev pub Gives : (State → Type 0) → Outcome → Type 0
-Gives P (refuse code) = Unit {0}
-Gives P (accept count next written) = P next
-Gives P (undo code place) = Unit {0}
+-- what an outcome gives: P of the next state, and no more bytes written than are lent
+abbrev pub Gives : (State → Type 0) → List ℕ → Outcome → Type 0
+Gives P b (refuse code) = Unit {0}
+Gives P b (accept count next written) = P next × (length written ≤ length b)
+Gives P b (undo code place) = Unit {0}
 
-module _ (P : State → Type 0) where
-  gives-need : (t : Bool) (code : ℕ) (o : Outcome) → (t ≡ true → Gives P o) → Gives P (need t else code ⨾ o)
+module _ (P : State → Type 0) (b : List ℕ) where
+  gives-need : (t : Bool) (code : ℕ) (o : Outcome) → (t ≡ true → Gives P b o) → Gives P b (need t else code ⨾ o)
   unfolding need_else_⨾_
   gives-need true code o h = h refl
   gives-need false code o h = tt
 
-  gives-holder : (p : Place) (code : ℕ) (f : Adapter → Outcome) → ((x : Adapter) → p ≡ holds x → Gives P (f x)) → Gives P (holder p else code ⨾ f)
+  gives-holder : (p : Place) (code : ℕ) (f : Adapter → Outcome) → ((x : Adapter) → p ≡ holds x → Gives P b (f x)) → Gives P b (holder p else code ⨾ f)
   unfolding holder_else_⨾_
   gives-holder free code f h = tt
   gives-holder (holds x) code f h = h x refl
 
-  gives-choose : (t : Bool) (a b : Outcome) → Gives P a → (t ≡ false → Gives P b) → Gives P (choose t a b)
+  gives-choose : (t : Bool) (x y : Outcome) → Gives P b x → (t ≡ false → Gives P b y) → Gives P b (choose t x y)
   unfolding choose
-  gives-choose true a b h k = h
-  gives-choose false a b h k = k refl
+  gives-choose true x y h k = h
+  gives-choose false x y h k = k refl
+
+-- where nothing is written
+quietly : {A : Type 0} (b : List ℕ) → A → A × (0 ≤ length b)
+quietly b h = (h, omega arith)
 
 module _ (L : Limits) (s : State) (h : Sound L s) where
   as-it-was : Kept L s s
@@ -352,42 +440,52 @@ interrupt-sound (suc (suc (suc (suc (suc (suc zero)))))) h = record { whole = re
 interrupt-sound (suc (suc (suc (suc (suc (suc (suc zero))))))) h = record { whole = refl; is-io = refl; is-subclass = refl }
 interrupt-sound (suc (suc (suc (suc (suc (suc (suc (suc n)))))))) h = let z : ⊥ = omega arith in absurd z
 
-module _ (L : Limits) (s : State) (h : Sound L s) where
+module _ (L : Limits) (s : State) (h : Sound L s) (b : List ℕ) where
   abbrev K : State → Type 0
   K = Kept L s
 
-  kept-enqueues : (rs : List Record) → All (λ (r : Record). length r ≡ recordBytes) rs → Gives K (enqueues L s rs)
+  kept-lists : (claimed : ℕ) → claimed ≤ length b → Gives K b (lists s claimed)
+  unfolding lists
+  kept-lists claimed w =
+      gives-need K b _ _ _ (λ e. (
+        as-it-was L s h,
+        omega (arith, length-records (listing (s .pending)) (listing-sendable (s .pending) (h .pending) .whole), leb-true (recordBytes * length (listing (s .pending))) claimed e, w),
+      ))
+
+  kept-enqueues : (rs : List Record) → All Whole rs → Gives K b (enqueues L s rs)
   unfolding enqueues
   kept-enqueues rs w =
-      gives-need K _ _ _ (λ e. gives-need K _ _ _ (λ f.
-      with-pending L s h (addAll rs (s .pending)) (add-all rs (s .pending) w (h .pending))
-      (rw (queued-all rs (s .pending) w (h .pending)) (leb-true _ _ f))))
+      gives-need K b _ _ _ (λ e. gives-need K b _ _ _ (λ f.
+      quietly b (with-pending L s h (addAll rs (s .pending)) (add-all rs (s .pending) w (h .pending))
+      (rw (queued-all rs (s .pending) w (h .pending)) (leb-true _ _ f)))))
 
-  kept-registers : (id : ℕ) (x : Adapter) → x .masked ≡ false → Gives K (registers L s id x)
+  kept-registers : (id : ℕ) (x : Adapter) → x .masked ≡ false → Gives K b (registers L s id x)
   unfolding registers
   kept-registers id x m =
-      gives-need K _ _ _ (λ e. gives-need K _ _ _ (λ f. gives-need K _ _ _ (λ g.
-      with-adapter L s h id x (record { subclass-small = leb-true _ _ g; masked-maskable = λ k. cc }))))
+      gives-need K b _ _ _ (λ e. gives-need K b _ _ _ (λ f. gives-need K b _ _ _ (λ g.
+      quietly b (with-adapter L s h id x (record { subclass-small = leb-true _ _ g; masked-maskable = λ k. cc })))))
 
-  kept-modifies : (id type : ℕ) (on : Bool) → Gives K (modifies L s id type on)
+  kept-modifies : (id type : ℕ) (on : Bool) → Gives K b (modifies L s id type on)
   unfolding modifies choose
   kept-modifies id type on =
-      gives-need K _ _ _ (λ e. gives-holder K _ _ _ (λ x p. gives-need K _ _ _ (λ f. gives-need K _ _ _ (λ g.
-      go (eqb type 1) x (held L s h id x p) g))))
+      gives-need K b _ _ _ (λ e. gives-holder K b _ _ _ (λ x p. gives-need K b _ _ _ (λ f. gives-need K b _ _ _ (λ g.
+      quietly b (go (eqb type 1) x (held L s h id x p) g)))))
     where
       go : (t : Bool) (x : Adapter) → SoundAdapter x → (not t || x .maskable) ≡ true → K (choose t (withAdapter id (withMask on x) s) s)
       go true x k g = with-adapter L s h id (withMask on x) (record { subclass-small = k .subclass-small; masked-maskable = λ m. g })
       go false x k g = as-it-was L s h
 
-  kept-removes : (o : Option (List (List Record))) → Maybe (QueuesLess (s .pending .io)) o → Gives K (removes s o)
+  kept-removes : (o : Option (List (List Record))) → Maybe (QueuesLess (s .pending .io)) o → Gives K b (removes s o)
   unfolding removes
-  kept-removes none k = as-it-was L s h
+  kept-removes none k = quietly b (as-it-was L s h)
   kept-removes (some qs) k =
-      with-pending L s h _ (less-sound (s .pending) qs k (h .pending)) (omega (arith, less-flatten k, h .within))
+      quietly b
+      (with-pending L s h (record { io = qs; done = s .pending .done; service = s .pending .service; mchk = s .pending .mchk })
+      (less-sound (s .pending) qs k (h .pending)) (omega (arith, less-flatten k, h .within)))
 
-  -- without the capability a mask is not changed
-  kept-masks : (simm nimm : ℕ) → (s .ais ≡ false → (simm ≡ 0) × (nimm ≡ 0)) → K (withMasks simm nimm s)
-  kept-masks simm nimm k = with-device L s h _ k
+  -- without the capability no mask is set
+  kept-masks : (simm nimm : ℕ) → s .ais ≡ true → K (withMasks simm nimm s)
+  kept-masks simm nimm e = with-device L s h (record { simm = simm; nimm = nimm; apf = s .device .apf }) (λ k. ((cc), (cc)))
 
   kept-injected : (x : Adapter) → SoundAdapter x → queued (s .pending) < L .room → K (injected s x)
   unfolding injected choose
@@ -399,11 +497,8 @@ module _ (L : Limits) (s : State) (h : Sound L s) where
               adapters = h .adapters;
               pending = add-io (x .isc) (adapterInterrupt (x .isc)) (s .pending) (interrupt-sound (x .isc) (k .subclass-small)) (h .pending);
               within =
-                  omega (
-                    arith,
-                    queued-io (x .isc) (adapterInterrupt (x .isc)) (s .pending) (rw (h .pending .eight) (omega (arith, k .subclass-small))),
-                    room,
-                  );
+                  omega
+                  (arith, queued-io (x .isc) (adapterInterrupt (x .isc)) (s .pending) (rw (h .pending .eight) (omega (arith, k .subclass-small))), room);
               no-masks = λ e. (h .no-masks e .0, go e (s .ais) e);
             };
         same-ais = refl;
@@ -414,58 +509,57 @@ module _ (L : Limits) (s : State) (h : Sound L s) where
       go e true f = cc
       go e false f = h .no-masks e .1
 
-  pub kept-request : (q : Request) (attr : ℕ) (b : List ℕ) → Gives K (request L s q attr b)
-  unfolding request lists clears flags clearsIo setsMode injects adapterIn
-  kept-request noRequest attr b = tt
-  kept-request getAllIrqs attr b =
-      gives-need K _ _ _ (λ e. gives-need K _ _ _ (λ f. gives-need K _ _ _ (λ g. as-it-was L s h)))
-  kept-request enqueue attr b =
-      gives-need K _ _ _ (λ e. gives-need K _ _ _ (λ f.
+  pub kept-request : (q : Request) (attr : ℕ) → Gives K b (request L s q attr b)
+  unfolding request clears flags clearsIo setsMode injects adapterIn
+  kept-request noRequest attr = tt
+  kept-request getAllIrqs attr = gives-need K b _ _ _ (λ e. gives-need K b _ _ _ (λ f. kept-lists attr (leb-true attr (length b) f)))
+  kept-request enqueue attr =
+      gives-need K b _ _ _ (λ e. gives-need K b _ _ _ (λ f.
       kept-enqueues (recordsIn (attr / recordBytes) b)
       (whole-records (attr / recordBytes) b (omega (arith, div-mul-le-self attr recordBytes, leb-true attr (length b) f)))))
-  kept-request clearIrqs attr b =
-      gives-need K _ _ _ (λ e. with-pending L s h nothing nothing-sound (nothing-within L))
-  kept-request apfEnable attr b = gives-need K _ _ _ (λ e. with-device L s h _ (h .no-masks))
-  kept-request apfDisableWait attr b = gives-need K _ _ _ (λ e. with-device L s h _ (h .no-masks))
-  kept-request adapterRegister attr b =
-      gives-need K _ _ _ (λ e. gives-need K _ _ _ (λ f. kept-registers (field 0 4 b) (adapterIn b) refl))
-  kept-request adapterModify attr b =
-      gives-need K _ _ _ (λ e. gives-need K _ _ _ (λ f. kept-modifies (field 0 4 b) (byte 4 b) (nonZero (byte 5 b))))
-  kept-request clearIoIrq attr b =
-      gives-need K _ _ _ (λ e. gives-need K _ _ _ (λ f. gives-need K _ _ _ (λ g.
+  kept-request clearIrqs attr = gives-need K b _ _ _ (λ e. quietly b (with-pending L s h nothing nothing-sound (nothing-within L)))
+  kept-request apfEnable attr = gives-need K b _ _ _ (λ e. quietly b (with-device L s h _ (h .no-masks)))
+  kept-request apfDisableWait attr = gives-need K b _ _ _ (λ e. quietly b (with-device L s h _ (h .no-masks)))
+  kept-request adapterRegister attr =
+      gives-need K b _ _ _ (λ e. gives-need K b _ _ _ (λ f. kept-registers (field 0 4 b) (adapterIn b) refl))
+  kept-request adapterModify attr =
+      gives-need K b _ _ _ (λ e. gives-need K b _ _ _ (λ f. kept-modifies (field 0 4 b) (byte 4 b) (nonZero (byte 5 b))))
+  kept-request clearIoIrq attr =
+      gives-need K b _ _ _ (λ e. gives-need K b _ _ _ (λ f. gives-need K b _ _ _ (λ g.
       kept-removes _ (without-first-less (isFor (field 0 2 b) (field 2 2 b)) (s .pending .io)))))
-  kept-request aism attr b =
-      gives-need K _ _ _ (λ e. gives-need K _ _ _ (λ f. gives-need K _ _ _ (λ g. gives-need K _ _ _ (λ i. gives-need K _ _ _ (λ j.
-      kept-masks _ _ (λ k. ((cc), (cc))))))))
-  kept-request airqInject attr b =
-      gives-need K _ _ _ (λ e. gives-holder K _ _ _ (λ x p. gives-choose K _ _ _ (as-it-was L s h) (λ f. gives-need K _ _ _ (λ g.
-      kept-injected x (held L s h attr x p) (ltb-true _ _ g)))))
-  kept-request setAismAll attr b =
-      gives-need K _ _ _ (λ e. gives-need K _ _ _ (λ f. gives-need K _ _ _ (λ g. kept-masks _ _ (λ k. ((cc), (cc))))))
-  kept-request getAismAll attr b =
-      gives-need K _ _ _ (λ e. gives-need K _ _ _ (λ f. gives-need K _ _ _ (λ g. as-it-was L s h)))
+  kept-request aism attr =
+      gives-need K b _ _ _ (λ e. gives-need K b _ _ _ (λ f. gives-need K b _ _ _ (λ g. gives-need K b _ _ _ (λ i. gives-need K b _ _ _ (λ j.
+      quietly b (kept-masks _ _ f))))))
+  kept-request airqInject attr =
+      gives-need K b _ _ _ (λ e. gives-holder K b _ _ _ (λ x p.
+      gives-choose K b _ _ _ (quietly b (as-it-was L s h)) (λ f. gives-need K b _ _ _ (λ g.
+      quietly b (kept-injected x (held L s h attr x p) (ltb-true _ _ g))))))
+  kept-request setAismAll attr =
+      gives-need K b _ _ _ (λ e. gives-need K b _ _ _ (λ f. gives-need K b _ _ _ (λ g. quietly b (kept-masks _ _ f))))
+  kept-request getAismAll attr =
+      gives-need K b _ _ _ (λ e. gives-need K b _ _ _ (λ f. gives-need K b _ _ _ (λ g. (as-it-was L s h, leb-true 2 (length b) g))))
 
-  -- the guest take
+  -- the guest take: what is handed out is a whole record, and what is left is sound
   abbrev HandedSound : Handed Pending → Type 0
-  HandedSound o = SoundPending (o .left) × (queued (o .left) ≤ L .room)
+  HandedSound o = SoundPending (o .left) × (queued (o .left) ≤ L .room) × Whole (o .given)
 
   H : Option (Handed Pending) → Type 0
   H = Maybe HandedSound
 
-  or-else : (a b : Option (Handed Pending)) → H a → H b → H (orElse a b)
+  or-else : (x y : Option (Handed Pending)) → H x → H y → H (orElse x y)
   unfolding orElse
-  or-else none b k l = l
-  or-else (some x) b k l = k
+  or-else none y k l = l
+  or-else (some x) y k l = k
 
-  if-allowed : (t : Bool) (a : Option (Handed Pending)) → H a → H (choose t a none)
+  if-allowed : (t : Bool) (x : Option (Handed Pending)) → H x → H (choose t x none)
   unfolding choose H
-  if-allowed true a k = k
-  if-allowed false a k = tt
+  if-allowed true x k = k
+  if-allowed false x k = tt
 
-  mchk-handed : (o : Option Record) → H (handMchk (s .pending) o)
+  mchk-handed : (o : Option Record) → Maybe (IsKind Kind.mchk) o → H (handMchk (s .pending) o)
   unfolding H
-  mchk-handed none = tt
-  mchk-handed (some r) = (
+  mchk-handed none k = tt
+  mchk-handed (some r) k = (
     record {
       eight = h .pending .eight;
       in-io = h .pending .in-io;
@@ -474,12 +568,13 @@ module _ (L : Limits) (s : State) (h : Sound L s) where
       in-mchk = tt;
     },
     h .within,
+    k .whole,
   )
 
-  service-handed : (o : Option Record) → H (handService (s .pending) o)
+  service-handed : (o : Option Record) → Maybe (IsKind Kind.service) o → H (handService (s .pending) o)
   unfolding H
-  service-handed none = tt
-  service-handed (some r) = (
+  service-handed none k = tt
+  service-handed (some r) k = (
     record {
       eight = h .pending .eight;
       in-io = h .pending .in-io;
@@ -488,6 +583,7 @@ module _ (L : Limits) (s : State) (h : Sound L s) where
       in-mchk = h .pending .in-mchk;
     },
     h .within,
+    k .whole,
   )
 
   done-handed : (q : List Record) → All (IsKind Kind.done) q → length (flatten (s .pending .io)) + length q ≤ L .room → H (handDone (s .pending) q)
@@ -502,79 +598,86 @@ module _ (L : Limits) (s : State) (h : Sound L s) where
       in-mchk = h .pending .in-mchk;
     },
     omega (arith, w),
+    k .0 .whole,
   )
 
-  io-handed : (o : Option (Handed (List (List Record)))) → Maybe (LeftLess (s .pending .io)) o → H (handIo (s .pending) o)
+  io-handed : (o : Option (Handed (List (List Record)))) → Maybe (LeftLess (s .pending .io)) o → Maybe GivenWhole o → H (handIo (s .pending) o)
   unfolding H
-  io-handed none k = tt
-  io-handed (some x) k = (less-sound (s .pending) (x .left) k (h .pending), omega (arith, less-flatten k, h .within))
+  io-handed none k g = tt
+  io-handed (some x) k g = (less-sound (s .pending) (x .left) k (h .pending), omega (arith, less-flatten k, h .within), g)
 
-  kept-hands : (o : Option (Handed Pending)) → H o → Gives K (handsOut s o)
+  kept-hands : (o : Option (Handed Pending)) → H o → recordBytes ≤ length b → Gives K b (handsOut s o)
   unfolding handsOut H
-  kept-hands none k = as-it-was L s h
-  kept-hands (some x) k = with-pending L s h (x .left) (k .0) (k .1)
+  kept-hands none k w = quietly b (as-it-was L s h)
+  kept-hands (some x) k w = (with-pending L s h (x .left) (k .0) (k .1), omega (arith, k .2, w))
 
-  kept-takes : (subclasses : ℕ) (external mcheck : Bool) (b : List ℕ) → Gives K (takes s subclasses external mcheck b)
+  kept-takes : (subclasses : ℕ) (external mcheck : Bool) → Gives K b (takes s subclasses external mcheck b)
   unfolding takes handed
-  kept-takes subclasses external mcheck b =
-      gives-need K _ _ _ (λ e.
+  kept-takes subclasses external mcheck =
+      gives-need K b _ _ _ (λ e.
       kept-hands (handed (s .pending) subclasses external mcheck)
-      (or-else _ _ (if-allowed mcheck _ (mchk-handed (s .pending .mchk)))
-      (or-else _ _ (if-allowed external _ (service-handed (s .pending .service)))
+      (or-else _ _ (if-allowed mcheck _ (mchk-handed (s .pending .mchk) (h .pending .in-mchk)))
+      (or-else _ _ (if-allowed external _ (service-handed (s .pending .service) (h .pending .in-service)))
       (or-else _ _ (if-allowed external _ (done-handed (s .pending .done) (h .pending .in-done) (h .within)))
-      (io-handed (firstAllowed 0 subclasses (s .pending .io)) (first-allowed-less 0 subclasses (s .pending .io)))))))
+      (io-handed (firstAllowed 0 subclasses (s .pending .io)) (first-allowed-less 0 subclasses (s .pending .io))
+      (first-allowed-whole 0 subclasses 0 (s .pending .io) (h .pending .in-io))))))
+      (leb-true recordBytes (length b) e))
 
--- a played list: each request in turn, from the fresh state on
-kept-onward : (L : Limits) (s : State) (o : Outcome) (place : ℕ) (rest : State → Outcome)
-    → Gives (Kept L s) o → ((t : State) → Kept L s t → Gives (Kept L s) (rest t)) → Gives (Kept L s) (onward o place rest)
+  kept-writes : Gives K b (writes s b)
+  unfolding writes
+  kept-writes = gives-need K b _ _ _ (λ e. (as-it-was L s h, rw length-moveList (leb-true _ _ e)))
+
+-- a played list: each request in turn, from the fresh state on; it writes nothing
+kept-onward : (P Q : State → Type 0) (b c : List ℕ) (o : Outcome) (place : ℕ) (rest : State → Outcome)
+    → Gives Q c o → ((t : State) → Q t → Gives P b (rest t)) → Gives P b (onward o place rest)
 unfolding onward
-kept-onward L s (refuse code) place rest k f = tt
-kept-onward L s (accept count next written) place rest k f = f next k
-kept-onward L s (undo code at) place rest k f = tt
+kept-onward P Q b c (refuse code) place rest k f = tt
+kept-onward P Q b c (accept count next written) place rest k f = f next (k .0)
+kept-onward P Q b c (undo code at) place rest k f = tt
 
-kept-via : (L : Limits) (s t : State) (o : Outcome) → t .ais ≡ s .ais → Gives (Kept L t) o → Gives (Kept L s) o
-kept-via L s t (refuse code) e k = tt
-kept-via L s t (accept count next written) e k = record { sound = k .sound; same-ais = k .same-ais ∙ e }
-kept-via L s t (undo code at) e k = tt
-
-kept-applies : (L : Limits) (s : State) (place : ℕ) (t : State) (es : List Entry) → Kept L s t → Gives (Kept L s) (applies L place t es)
+kept-applies : (L : Limits) (s : State) (b : List ℕ) (place : ℕ) (t : State) (es : List Entry) → Kept L s t → Gives (Kept L s) b (applies L place t es)
 unfolding applies
-kept-applies L s place t [] k = k
-kept-applies L s place t (e ∷ es) k =
-    kept-onward L s (request L t (setRequest (e .group)) (e .attr) (e .payload)) place (λ u. applies L (suc place) u es)
-    (kept-via L s t (request L t (setRequest (e .group)) (e .attr) (e .payload)) (k .same-ais)
-    (kept-request L t (k .sound) (setRequest (e .group)) (e .attr) (e .payload)))
-    (λ u l. kept-applies L s (suc place) u es l)
+kept-applies L s b place t [] k = quietly b k
+kept-applies L s b place t (e ∷ es) k =
+    kept-onward (Kept L s) (Kept L t) b (e .payload) (request L t (setRequest (e .group)) (e .attr) (e .payload)) place (λ u. applies L (suc place) u es)
+    (kept-request L t (k .sound) (e .payload) (setRequest (e .group)) (e .attr))
+    (λ u l. kept-applies L s b (suc place) u es (record { sound = l .sound; same-ais = l .same-ais ∙ k .same-ais }))
 
-kept-plays : (L : Limits) (s : State) (b : List ℕ) → Gives (Kept L s) (plays L s b)
+kept-plays : (L : Limits) (s : State) (b : List ℕ) → Gives (Kept L s) b (plays L s b)
 unfolding plays
 kept-plays L s b =
-    gives-need K _ _ _ (λ e1. gives-need K _ _ _ (λ e2. gives-need K _ _ _ (λ e3. gives-need K _ _ _ (λ e4.
-    gives-need K _ _ _ (λ e5. gives-need K _ _ _ (λ e6. gives-need K _ _ _ (λ e7.
-    kept-applies L s 0 (fresh L (s .ais)) (entriesIn b (slotsIn (countIn b) (drop headerBytes b)))
+    gives-need K b _ _ _ (λ e1. gives-need K b _ _ _ (λ e2. gives-need K b _ _ _ (λ e3. gives-need K b _ _ _ (λ e4.
+    gives-need K b _ _ _ (λ e5. gives-need K b _ _ _ (λ e6. gives-need K b _ _ _ (λ e7.
+    kept-applies L s b 0 (fresh L (s .ais)) (entriesIn b (slotsIn (countIn b) (drop headerBytes b)))
     (record { sound = fresh-sound L (s .ais); same-ais = fresh-ais L (s .ais) }))))))))
   where
     K : State → Type 0
     K = Kept L s
 
--- every call of every kind keeps the facts
-kept-outcome : (L : Limits) (s : State) → Sound L s → (ask : Ask) (table : ℕ) (b : List ℕ) → Gives (Kept L s) (outcome L s ask table b)
-unfolding outcome writes
-kept-outcome L s h (setAttr group attr) table b = gives-need (Kept L s) _ _ _ (λ e. kept-request L s h (setRequest group) attr b)
-kept-outcome L s h (getAttr group attr) table b = gives-need (Kept L s) _ _ _ (λ e. kept-request L s h (getRequest group) attr b)
-kept-outcome L s h (guestTake subclasses external mcheck) table b = kept-takes L s h subclasses external mcheck b
-kept-outcome L s h writeList table b = gives-need (Kept L s) _ _ _ (λ e. gives-need (Kept L s) _ _ _ (λ f. as-it-was L s h))
-kept-outcome L s h playList table b = gives-need (Kept L s) _ _ _ (λ e. kept-plays L s b)
+-- every call of every kind keeps the facts, and writes within its buffer
+kept-outcome : (L : Limits) (s : State) → Sound L s → (ask : Ask) (table : ℕ) (b : List ℕ) → Gives (Kept L s) b (outcome L s ask table b)
+unfolding outcome
+kept-outcome L s h (setAttr group attr) table b = gives-need (Kept L s) b _ _ _ (λ e. kept-request L s h b (setRequest group) attr)
+kept-outcome L s h (getAttr group attr) table b = gives-need (Kept L s) b _ _ _ (λ e. kept-request L s h b (getRequest group) attr)
+kept-outcome L s h (guestTake subclasses external mcheck) table b = kept-takes L s h b subclasses external mcheck
+kept-outcome L s h writeList table b = gives-need (Kept L s) b _ _ _ (λ e. kept-writes L s h b)
+kept-outcome L s h playList table b = gives-need (Kept L s) b _ _ _ (λ e. kept-plays L s b)
 
-kept-result : (L : Limits) (s : State) → Sound L s → (b : List ℕ) (o : Outcome) → Gives (Kept L s) o → Kept L s (result L s b o .next)
+kept-result : (L : Limits) (s : State) → Sound L s → (b : List ℕ) (o : Outcome) → Gives (Kept L s) b o
+    → Kept L s (result L s b o .next) × (length (result L s b o .buffer) ≡ length b)
 unfolding result
-kept-result L s h b (refuse code) k = as-it-was L s h
-kept-result L s h b (accept count next written) k = k
-kept-result L s h b (undo code place) k = record { sound = fresh-sound L (s .ais); same-ais = fresh-ais L (s .ais) }
+kept-result L s h b (refuse code) k = (as-it-was L s h, refl)
+kept-result L s h b (accept count next written) k = (k .0, simp (length-append, length-drop) (omega (arith, k .1)))
+kept-result L s h b (undo code place) k = (record { sound = fresh-sound L (s .ais); same-ais = fresh-ais L (s .ais) }, refl)
 
 pub kept-step : (L : Limits) (s : State) → Sound L s → (c : Call) → Kept L s (step L s c .next)
 unfolding step
-kept-step L s h c = kept-result L s h (c .buffer) _ (kept-outcome L s h (c .ask) (c .table) (c .buffer))
+kept-step L s h c = kept-result L s h (c .buffer) _ (kept-outcome L s h (c .ask) (c .table) (c .buffer)) .0
+
+-- no byte past the lent buffer is written: what a call leaves is as long as what it was lent
+pub lent-length : (L : Limits) (s : State) → Sound L s → (c : Call) → length (step L s c .buffer) ≡ length (c .buffer)
+unfolding step
+lent-length L s h c = kept-result L s h (c .buffer) _ (kept-outcome L s h (c .ask) (c .table) (c .buffer)) .1
 
 -- and so does every list of calls, from a fresh state too
 pub kept-after : (L : Limits) (s : State) → Sound L s → (cs : List Call) → Kept L s (after L s cs)

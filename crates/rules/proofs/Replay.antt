@@ -1,25 +1,25 @@
 -- The requests of a move list, applied to a fresh state, give back the very state that they were written from.
-use Prim.Native.Nat.{ℕ, zero, suc, _+_, _-_, _*_, _/_, _%_, _^_, _<_, _≤_}
+use Prim.Native.Nat.{ℕ, suc, _+_, _*_, _%_, _<_, _≤_}
 use mathlib.Core.Path.{_≡_, refl, ap, sym, _∙_, subst}
 use mathlib.Core.Bool.{Bool, true, false, not, _&&_, _||_}
 use mathlib.Core.Option.{Option, none, some}
 use mathlib.Core.List.{List, [], _∷_, _++_, map, flatten, append-assoc, append-nil}
 use native.Mathlib.Omega.{arith}
-use native.Mathlib.Nat.{add-zero, add-suc, suc-add, zero-add, add-assoc, mul-zero, mul-div-cancel-left, mul-mod-right}
+use native.Mathlib.Nat.{add-zero, zero-add, add-assoc, mul-div-cancel-left, mul-mod-right}
 use native.Mathlib.Numerals.{add-one}
-use lib.ListN.{length, getD, set, take, drop, replicate, length-append, length-replicate}
+use lib.ListN.{length, replicate, length-append}
 use lib.Seq.{take-at, drop-at, set-at, getD-at, append-snoc}
-use lib.Dec.{leb, ltb, eqb}
-use borrow.Author.Tests.{le-leb, lt-ltb, eq-eqb, ne-eqb, eqb-true, not-false}
-use Rattle.rules.specs.Bytes.{choose, byte, field, bytes, number}
-use Rattle.rules.specs.State.{Limits, Adapter, Place, free, holds, Record, recordBytes, Pending, Device, State, nothing, fresh, withPending, withDevice, withAdapter, Kind, kind, subclass, addIo, firstOr, mergedOr, addAs, add, addAll, queued, single, listing}
-use Rattle.rules.specs.Outcome.{Outcome, refuse, accept, undo, need_else_⨾_, holder_else_⨾_}
-use Rattle.rules.specs.Requests.{Request, enqueue, apfEnable, adapterRegister, adapterModify, setAismAll, setRequest, enqueueBytes, isZero, nonZero, recordsIn, taken, allTaken, wants, allWant, enqueues, flags, placeOf, isFree, registers, adapterIn, withMask, modifies, withMasks, request}
+use lib.Dec.{eqb}
+use borrow.Author.Tests.{le-leb, lt-ltb, eq-eqb, ne-eqb, eqb-true}
+use Rattle.rules.specs.Bytes.{choose, bytes}
+use Rattle.rules.specs.State.{Limits, Adapter, Place, free, holds, Record, recordBytes, Pending, Device, State, nothing, fresh, withPending, withDevice, Kind, addIo, addAs, add, addAll, queued, single, listing}
+use Rattle.rules.specs.Outcome.{accept}
+use Rattle.rules.specs.Requests.{enqueue, setRequest, enqueueBytes, nonZero, recordsIn, allWant, enqueues, flags, isFree, registers, adapterIn, withMask, modifies, withMasks, request}
 use Rattle.rules.specs.MoveList.{Entry, flag, byRisingId, registerEntry, modifyEntry, enqueueEntry, aismAllEntry, apfEntry, entries, onward, applies, mostRequests}
-use Rattle.rules.proofs.Checks.{passes, found, chosen, both, left, right}
-use Rattle.rules.proofs.Lists.{All, Maybe, all-append}
+use Rattle.rules.proofs.Checks.{passes, found, both, left}
+use Rattle.rules.proofs.Lists.{All, Maybe}
 use Rattle.rules.proofs.Codec.{field-here}
-use Rattle.rules.proofs.Reachable.{SoundAdapter, SoundPlace, IsKind, IsIo, IoQueues, SoundPending, Sound}
+use Rattle.rules.proofs.Reachable.{Whole, SoundAdapter, SoundPlace, IsKind, IsIo, IoQueues, SoundPending, Sound, Sendable, listing-sendable, listing-length, length-records}
 
 -- ---- requests in turn
 
@@ -211,66 +211,7 @@ nothing-added L place s = leads-none L place s
 
 -- ---- the listing is accepted by ENQUEUE
 
--- whole records of the types taken, that want so many places of the nine queues
-pub record Sendable (n : ℕ) (rs : List Record) : Type 0 where
-  pub whole : All (λ (r : Record). length r ≡ recordBytes) rs
-  pub good : allTaken rs ≡ true
-  pub wanted : allWant rs ≡ n
-
-sendable-none : Sendable 0 []
-unfolding allTaken allWant
-sendable-none = record { whole = tt; good = refl; wanted = refl }
-
-sendable-more : (k : Kind) (n : ℕ) (r : Record) (rs : List Record) → IsKind k r → taken k ≡ true → Sendable n rs → Sendable (wants k + n) (r ∷ rs)
-unfolding allTaken allWant
-sendable-more k n r rs h ok u =
-    record { whole = (h .whole, u .whole); good = rw (h .is-kind, ok) (u .good); wanted = rw (h .is-kind, u .wanted) }
-
--- records of one kind, before others
-sendable-kind : (k : Kind) (n : ℕ) (q rs : List Record) → taken k ≡ true → All (IsKind k) q → Sendable n rs → Sendable (wants k * length q + n) (q ++ rs)
-sendable-kind k n [] rs ok h u = rw (mul-zero, zero-add) u
-sendable-kind k n (r ∷ q) rs ok h u =
-    subst (λ (m : ℕ). Sendable m (r ∷ q ++ rs)) (omega arith)
-    (sendable-more k (wants k * length q + n) r (q ++ rs) (h .0) ok (sendable-kind k n q rs ok (h .1) u))
-
-all-single : (k : Kind) (o : Option Record) → Maybe (IsKind k) o → All (IsKind k) (single o)
-all-single k none h = tt
-all-single k (some r) h = (h, tt)
-
-all-io : (n : ℕ) (q : List Record) → All (IsIo n) q → All (IsKind Kind.io) q
-all-io n [] h = tt
-all-io n (r ∷ q) h = (record { whole = h .0 .whole; is-kind = h .0 .is-io }, all-io n q (h .1))
-
-all-queues : (n : ℕ) (qs : List (List Record)) → IoQueues n qs → All (IsKind Kind.io) (flatten qs)
-unfolding flatten
-all-queues n [] h = tt
-all-queues n (q ∷ qs) h = all-append (IsKind Kind.io) q (flatten qs) (all-io n q (h .0)) (all-queues (suc n) qs (h .1))
-
-pub listing-sendable : (p : Pending) → SoundPending p → Sendable (queued p) (listing p)
-unfolding listing wants taken
-listing-sendable p h =
-    subst (λ (m : ℕ). Sendable m (listing p)) (omega arith)
-    (sendable-kind Kind.io _ (flatten (p .io)) _ refl (all-queues 0 (p .io) (h .in-io))
-    (sendable-kind Kind.done _ (p .done) _ refl (h .in-done)
-    (sendable-kind Kind.service _ (single (p .service)) _ refl (all-single Kind.service (p .service) (h .in-service))
-    (subst (λ (rs : List Record). Sendable (0 * length (single (p .mchk)) + 0) rs) (append-nil (single (p .mchk)))
-    (sendable-kind Kind.mchk 0 (single (p .mchk)) [] refl (all-single Kind.mchk (p .mchk) (h .in-mchk)) sendable-none)))))
-
--- at most two more than the nine queues hold
-single-le : (o : Option Record) → length (single o) ≤ 1
-single-le none = omega arith
-single-le (some r) = omega arith
-
-pub listing-length : (p : Pending) → length (listing p) ≤ queued p + 2
-unfolding listing
-listing-length p = simp length-append (omega (arith, single-le (p .service), single-le (p .mchk)))
-
-pub length-records : (rs : List Record) → All (λ (r : Record). length r ≡ recordBytes) rs → length (flatten rs) ≡ recordBytes * length rs
-unfolding flatten
-length-records [] h = refl
-length-records (r ∷ rs) h = simp length-append (omega (arith, h .0, length-records rs (h .1)))
-
-records-back : (rs : List Record) → All (λ (r : Record). length r ≡ recordBytes) rs → recordsIn (length rs) (flatten rs) ≡ rs
+records-back : (rs : List Record) → All Whole rs → recordsIn (length rs) (flatten rs) ≡ rs
 unfolding flatten recordsIn
 records-back [] h = refl
 records-back (r ∷ rs) h = rw (take-at r (flatten rs) recordBytes (h .0), drop-at r (flatten rs) recordBytes (h .0), records-back rs (h .1))

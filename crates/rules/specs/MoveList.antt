@@ -4,7 +4,7 @@ use mathlib.Core.Bool.{Bool, true, false, _&&_, _||_}
 use mathlib.Core.List.{List, [], _∷_, _++_, flatten}
 use lib.ListN.{length, drop, replicate}
 use lib.Dec.{leb, eqb}
-use Rattle.rules.specs.Bytes.{choose, number, bytes, part, field}
+use Rattle.rules.specs.Bytes.{choose, bytes, part, field}
 use Rattle.rules.specs.State.{Limits, Adapter, Place, free, holds, Record, recordBytes, State, fresh, listing}
 use Rattle.rules.specs.Outcome.{EINVAL, EOPNOTSUPP, EFAULT, ENOMEM, E2BIG, Outcome, refuse, accept, undo, need_else_⨾_}
 use Rattle.rules.specs.Requests.{isZero, nonZero, setRequest, request}

@@ -5,8 +5,8 @@ use mathlib.Core.Option.{Option, none, some}
 use mathlib.Core.List.{List, [], _∷_, _++_, flatten}
 use lib.ListN.{length, getD, take, drop, replicate}
 use lib.Dec.{leb, ltb, eqb}
-use Rattle.rules.specs.Bytes.{choose, number, bytes, byte, part, field}
-use Rattle.rules.specs.State.{Limits, Adapter, Place, free, holds, Record, recordBytes, Pending, Device, State, nothing, withPending, withDevice, withAdapter, hasBit, withBit, withoutBit, Kind, kind, subchannelId, subchannelNumber, subclass, addIo, addAll, queued, listing}
+use Rattle.rules.specs.Bytes.{choose, bytes, byte, field}
+use Rattle.rules.specs.State.{Limits, Adapter, Place, free, holds, Record, recordBytes, State, nothing, withPending, withDevice, withAdapter, hasBit, withBit, withoutBit, Kind, kind, subchannelId, subchannelNumber, addIo, addAll, queued, listing}
 use Rattle.rules.specs.Outcome.{EINVAL, EOPNOTSUPP, EFAULT, ENOMEM, EBUSY, Outcome, refuse, accept, need_else_⨾_, holder_else_⨾_}
 
 -- The requests, by group number; a group that is unknown, or not to be set or read, is no request.

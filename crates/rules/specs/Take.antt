@@ -1,6 +1,6 @@
--- 01, 'Guest take' ('guest take' is a term of paper 01).
-use Prim.Native.Nat.{ℕ, zero, suc}
-use mathlib.Core.Bool.{Bool, true, false, _&&_}
+-- 01, 'Request numbers and effects', its last paragraph: the guest take ('guest take' is a term of paper 01).
+use Prim.Native.Nat.{ℕ, suc}
+use mathlib.Core.Bool.{Bool}
 use mathlib.Core.Option.{Option, none, some}
 use mathlib.Core.List.{List, [], _∷_}
 use lib.ListN.{length}

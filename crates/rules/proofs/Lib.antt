@@ -1,5 +1,3 @@
-pub mod Computes
-pub mod Examples
 pub mod Checks
 pub mod Lists
 pub mod Codec
@@ -8,3 +6,5 @@ pub mod Reachable
 pub mod Replay
 pub mod Move
 pub mod Unread
+pub mod Computes
+pub mod Examples

@@ -523,10 +523,10 @@ module _ (L : Limits) (s : State) (h : Sound L s) (b : List ℕ) where
   kept-request adapterRegister attr =
       gives-need K b _ _ _ (λ e. gives-need K b _ _ _ (λ f. kept-registers (field 0 4 b) (adapterIn b) refl))
   kept-request adapterModify attr =
-      gives-need K b _ _ _ (λ e. gives-need K b _ _ _ (λ f. kept-modifies (field 0 4 b) (byte 4 b) (nonZero (byte 5 b))))
+      gives-need K b _ _ _ (λ e. gives-need K b _ _ _ (λ f. kept-modifies _ _ _))
   kept-request clearIoIrq attr =
       gives-need K b _ _ _ (λ e. gives-need K b _ _ _ (λ f. gives-need K b _ _ _ (λ g.
-      kept-removes _ (without-first-less (isFor (field 0 2 b) (field 2 2 b)) (s .pending .io)))))
+      kept-removes _ (without-first-less _ (s .pending .io)))))
   kept-request aism attr =
       gives-need K b _ _ _ (λ e. gives-need K b _ _ _ (λ f. gives-need K b _ _ _ (λ g. gives-need K b _ _ _ (λ i. gives-need K b _ _ _ (λ j.
       quietly b (kept-masks _ _ f))))))

@@ -1,5 +1,5 @@
 -- 01, 'Checked examples': P1 to P12 as one list under one claim, and further examples of single rules. Each line is a call and what its
--- caller must see: code, count, and the bytes written from the buffer's start; the bytes after those must stay.
+-- caller must see: code, count, and the bytes written from the buffer's start; the bytes after those must stay. More are in Boundaries.
 use Prim.Native.Nat.{ℕ, _+_, _*_}
 use mathlib.Core.Path.{_≡_, refl}
 use mathlib.Core.Bool.{Bool, true, false}
@@ -10,73 +10,80 @@ use Rattle.rules.specs.State.{paperLimits, fresh}
 use Rattle.rules.specs.Machine.{Ask, setAttr, getAttr, guestTake, writeList, playList, Call, Seen, answers}
 use Rattle.rules.proofs.Computes.{computes}
 
+-- P1 to P12 and moveAfterP9 are the paper's own
 data Label : Type 0 where
   P1 P2 P3 P4 P5 P6 P7 P8 P9 P10 P11 P12 : Label
   moveAfterP9 maskedThenMoved nimmAlone nimmOnFullQueue takeOrder clearIoOrder serviceDropped mchkMerged refusedPartWay wrongTable : Label
 
-record Line : Type 0 where
-  ask : Ask
-  buffer : List ℕ
-  code : ℕ
-  count : ℕ
-  written : List ℕ
-  table : ℕ
+pub record Line : Type 0 where
+  pub ask : Ask
+  pub buffer : List ℕ
+  pub code : ℕ
+  pub count : ℕ
+  pub written : List ℕ
+  pub table : ℕ
 
-line : Ask → List ℕ → ℕ → ℕ → List ℕ → Line
+unfoldable pub line : Ask → List ℕ → ℕ → ℕ → List ℕ → Line
 line ask buffer code count written = record { ask = ask; buffer = buffer; code = code; count = count; written = written; table = 64 }
 
 -- a call that leaves its buffer as it was
-quiet : Ask → List ℕ → ℕ → ℕ → Line
+unfoldable pub quiet : Ask → List ℕ → ℕ → ℕ → Line
 quiet ask buffer code count = line ask buffer code count []
 
 -- the same, lent a table of so many places
-lent : ℕ → Ask → List ℕ → ℕ → ℕ → Line
+unfoldable pub lent : ℕ → Ask → List ℕ → ℕ → ℕ → Line
 lent table ask buffer code count = record { ask = ask; buffer = buffer; code = code; count = count; written = []; table = table }
 
-record Example : Type 0 where
-  label : Label
-  ais : Bool
-  lines : List Line
+-- a list of calls to a fresh controller, and the rule that it is about
+pub record Example (A : Type 0) : Type 0 where
+  pub label : A
+  pub ais : Bool
+  pub lines : List Line
 
-record Outlook : Type 0 where
-  label : Label
-  seen : List Seen
+pub record Outlook (A : Type 0) : Type 0 where
+  pub label : A
+  pub seen : List Seen
 
-callOf : Line → Call
+unfoldable pub callOf : Line → Call
 callOf l = record { ask = l .ask; buffer = l .buffer; table = l .table }
 
-expectedOf : Line → Seen
+unfoldable pub expectedOf : Line → Seen
 expectedOf l = record { code = l .code; count = l .count; buffer = l .written ++ drop (length (l .written)) (l .buffer) }
 
-given : Example → Outlook
+unfoldable pub given : {A : Type 0} → Example A → Outlook A
 given e = record { label = e .label; seen = answers paperLimits (fresh paperLimits (e .ais)) (map callOf (e .lines)) }
 
-expected : Example → Outlook
+unfoldable pub expected : {A : Type 0} → Example A → Outlook A
 expected e = record { label = e .label; seen = map expectedOf (e .lines) }
 
 -- payloads of the examples
-zeros : ℕ → List ℕ
+unfoldable pub zeros : ℕ → List ℕ
 zeros n = replicate n 0
 
-recordOf : ℕ → List ℕ
+unfoldable pub recordOf : ℕ → List ℕ
 recordOf type = bytes 8 type ++ replicate 64 0
 
-ioRecord : ℕ → List ℕ
+unfoldable pub ioRecord : ℕ → List ℕ
 ioRecord word = replicate 16 0 ++ (bytes 4 word ++ replicate 52 0)
 
-airqRecord : ℕ → List ℕ
+unfoldable pub airqRecord : ℕ → List ℕ
 airqRecord word = bytes 8 0x04000000 ++ (replicate 8 0 ++ (bytes 4 word ++ replicate 52 0))
 
-adapterOf : ℕ → ℕ → List ℕ
+unfoldable pub adapterOf : ℕ → ℕ → List ℕ
 adapterOf id isc = bytes 4 id ++ (isc ∷ 1 ∷ 0 ∷ 1 ∷ [])
 
-maskOf : ℕ → ℕ → List ℕ
+unfoldable pub maskOf : ℕ → ℕ → List ℕ
 maskOf id mask = bytes 4 id ++ (1 ∷ mask ∷ replicate 10 0)
 
-emptyList : ℕ → List ℕ
+unfoldable pub emptyList : ℕ → List ℕ
 emptyList flag = bytes 4 20 ++ (bytes 4 0 ++ (bytes 4 20 ++ (bytes 4 20 ++ bytes 4 flag)))
 
-paperExamples : List Example
+-- `unfolding shows` lets the machine and the lines compute.
+unfoldable pub shows : Unit {0}
+unfolding line quiet lent callOf expectedOf given expected zeros recordOf ioRecord airqRecord adapterOf maskOf emptyList computes
+shows = tt
+
+paperExamples : List (Example Label)
 paperExamples =
     record { label = P1; ais = false; lines = quiet (setAttr 2 0) [] 22 0 ∷ [] }
     ∷ record {
@@ -169,23 +176,23 @@ paperExamples =
 
 -- P1 to P12, proved together
 paper-examples : map given paperExamples ≡ map expected paperExamples
-unfolding line quiet callOf expectedOf given expected zeros recordOf ioRecord airqRecord adapterOf maskOf emptyList paperExamples computes
+unfolding shows paperExamples
 paper-examples = refl
 
 -- further payloads
-headerOf : ℕ → ℕ → ℕ → List ℕ
+unfoldable pub headerOf : ℕ → ℕ → ℕ → List ℕ
 headerOf total count flag = bytes 4 total ++ (bytes 4 count ++ (bytes 4 20 ++ (bytes 4 (20 + 24 * count) ++ bytes 4 flag)))
 
-slotOf : ℕ → ℕ → ℕ → ℕ → List ℕ
+unfoldable pub slotOf : ℕ → ℕ → ℕ → ℕ → List ℕ
 slotOf at group size attr = bytes 4 at ++ (bytes 4 group ++ (bytes 4 size ++ (bytes 4 0 ++ bytes 8 attr)))
 
-mchkOf : ℕ → ℕ → ℕ → List ℕ
+unfoldable pub mchkOf : ℕ → ℕ → ℕ → List ℕ
 mchkOf cr14 mcic rest = bytes 8 0xfffe1000 ++ (bytes 8 cr14 ++ (bytes 8 mcic ++ replicate 48 rest))
 
-serviceOf : ℕ → List ℕ
+unfoldable pub serviceOf : ℕ → List ℕ
 serviceOf parameter = bytes 8 0xffff2401 ++ (bytes 4 parameter ++ replicate 60 0)
 
-ioFor : ℕ → ℕ → ℕ → List ℕ
+unfoldable pub ioFor : ℕ → ℕ → ℕ → List ℕ
 ioFor id nr word = bytes 8 0 ++ (bytes 2 id ++ (bytes 2 nr ++ (bytes 4 9 ++ (bytes 4 word ++ replicate 52 0))))
 
 afterP9 : List ℕ
@@ -202,8 +209,9 @@ maskedList =
 nimmList : List ℕ
 nimmList = headerOf 46 1 1 ++ (slotOf 44 11 2 0 ++ (0 ∷ 0x80 ∷ []))
 
-furtherExamples : List Example
+furtherExamples : List (Example Label)
 furtherExamples =
+    -- the paper's own: after P9 the move list is 174 bytes, payloads at 92, 100 and 172
     record {
       label = moveAfterP9;
       ais = true;
@@ -325,5 +333,5 @@ furtherExamples =
     ∷ []
 
 further-examples : map given furtherExamples ≡ map expected furtherExamples
-unfolding line quiet lent callOf expectedOf given expected zeros recordOf ioRecord airqRecord adapterOf maskOf emptyList headerOf slotOf mchkOf serviceOf ioFor afterP9 maskedList nimmList furtherExamples computes
+unfolding shows headerOf slotOf mchkOf serviceOf ioFor afterP9 maskedList nimmList furtherExamples
 further-examples = refl

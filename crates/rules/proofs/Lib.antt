@@ -8,3 +8,4 @@ pub mod Move
 pub mod Unread
 pub mod Computes
 pub mod Examples
+pub mod Boundaries

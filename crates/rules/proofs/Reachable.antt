@@ -13,7 +13,7 @@ use lib.Bits.{bitOr}
 use borrow.Author.Tests.{leb-true, ltb-true}
 use Rattle.rules.specs.Bytes.{choose, byte, field, bytes, number}
 use Rattle.rules.specs.State.{Limits, Adapter, Place, free, holds, Record, recordBytes, Pending, Device, State, nothing, fresh, withPending, withDevice, withAdapter, hasBit, withBit, Kind, kindOf, kind, subclass, merged, addIo, firstOr, mergedOr, addAs, add, addAll, queued, single, listing}
-use Rattle.rules.specs.Outcome.{Outcome, refuse, accept, undo, need_else_⨾_, holder_else_⨾_, result}
+use Rattle.rules.specs.Outcome.{Outcome, refuse, accept, reset, need_else_⨾_, holder_else_⨾_, result}
 use Rattle.rules.specs.Requests.{Request, noRequest, getAllIrqs, enqueue, clearIrqs, apfEnable, apfDisableWait, adapterRegister, adapterModify, clearIoIrq, aism, airqInject, setAismAll, getAismAll, setRequest, getRequest, nonZero, lists, recordsIn, taken, allTaken, wants, allWant, enqueues, clears, flags, placeOf, registers, adapterIn, withMask, modifies, isFor, consTo, without, orIn, withoutFirst, removes, clearsIo, withMasks, setsMode, adapterInterrupt, injected, injects, request}
 use Rattle.rules.specs.Take.{Handed, orElse, handMchk, handService, handDone, keep, firstAllowed, handIo, handed, handsOut, takes}
 use Rattle.rules.specs.MoveList.{Entry, writes, entriesIn, slotsIn, countIn, headerBytes, onward, applies, plays}
@@ -341,7 +341,7 @@ pub record Kept (L : Limits) (s t : State) : Type 0 where
 abbrev pub Gives : (State → Type 0) → List ℕ → Outcome → Type 0
 Gives P b (refuse code) = Unit {0}
 Gives P b (accept count next written) = P next × (length written ≤ length b)
-Gives P b (undo code place) = Unit {0}
+Gives P b (reset code place) = Unit {0}
 
 module _ (P : State → Type 0) (b : List ℕ) where
   gives-need : (t : Bool) (code : ℕ) (o : Outcome) → (t ≡ true → Gives P b o) → Gives P b (need t else code ⨾ o)
@@ -633,7 +633,7 @@ kept-onward : (P Q : State → Type 0) (b c : List ℕ) (o : Outcome) (place : �
 unfolding onward
 kept-onward P Q b c (refuse code) place rest k f = tt
 kept-onward P Q b c (accept count next written) place rest k f = f next (k .0)
-kept-onward P Q b c (undo code at) place rest k f = tt
+kept-onward P Q b c (reset code at) place rest k f = tt
 
 kept-applies : (L : Limits) (s : State) (b : List ℕ) (place : ℕ) (t : State) (es : List Entry) → Kept L s t → Gives (Kept L s) b (applies L place t es)
 unfolding applies
@@ -668,7 +668,7 @@ kept-result : (L : Limits) (s : State) → Sound L s → (b : List ℕ) (o : Out
 unfolding result
 kept-result L s h b (refuse code) k = (as-it-was L s h, refl)
 kept-result L s h b (accept count next written) k = (k .0, simp (length-append, length-drop) (omega (arith, k .1)))
-kept-result L s h b (undo code place) k = (record { sound = fresh-sound L (s .ais); same-ais = fresh-ais L (s .ais) }, refl)
+kept-result L s h b (reset code place) k = (record { sound = fresh-sound L (s .ais); same-ais = fresh-ais L (s .ais) }, refl)
 
 pub kept-step : (L : Limits) (s : State) → Sound L s → (c : Call) → Kept L s (step L s c .next)
 unfolding step

@@ -283,7 +283,7 @@ module _ (L : Limits) (place : ℕ) (s : State) where
 
 -- ---- all of them
 
--- 01: the longest list has 131 requests, the longest ENQUEUE 18,576 bytes. Limits for which what is written can be played.
+-- Limits for which what is written can be played: 01 refuses more than 131 requests and ENQUEUE above 18,576 bytes.
 pub record Movable (L : Limits) : Type 0 where
   pub few-places : 2 * L .places + 3 ≤ mostRequests
   pub little-room : recordBytes * (L .room + 2) ≤ enqueueBytes

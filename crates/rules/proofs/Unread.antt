@@ -12,7 +12,7 @@ use lib.Dec.{leb, ltb, eqb}
 use borrow.Author.Tests.{leb-true, le-leb, lt-ltb, ne-eqb}
 use Rattle.rules.specs.Bytes.{byte, part}
 use Rattle.rules.specs.State.{Limits, State, recordBytes, fresh}
-use Rattle.rules.specs.Outcome.{Outcome, refuse, accept, undo, need_else_⨾_, Answer, result}
+use Rattle.rules.specs.Outcome.{Outcome, refuse, accept, reset, need_else_⨾_, Answer, result}
 use Rattle.rules.specs.Requests.{Request, noRequest, getAllIrqs, enqueue, clearIrqs, apfEnable, apfDisableWait, adapterRegister, adapterModify, clearIoIrq, aism, airqInject, setAismAll, getAismAll, setRequest, getRequest, recordsIn, adapterIn, request}
 use Rattle.rules.specs.Take.{takes}
 use Rattle.rules.specs.MoveList.{entries, headerBytes, slotBytes, payloadsAt, total, writes, countIn, Slot, slotsIn, entriesIn, onward, applies, plays}
@@ -236,7 +236,7 @@ result-same : (L : Limits) (s : State) (b c : List ℕ) (o : Outcome) → SameAn
 unfolding result
 result-same L s b c (refuse code) = record { code = refl; count = refl; next = refl; written = []; firstLeft = refl; secondLeft = refl }
 result-same L s b c (accept count next w) = record { code = refl; count = refl; next = refl; written = w; firstLeft = refl; secondLeft = refl }
-result-same L s b c (undo code place) = record { code = refl; count = refl; next = refl; written = []; firstLeft = refl; secondLeft = refl }
+result-same L s b c (reset code place) = record { code = refl; count = refl; next = refl; written = []; firstLeft = refl; secondLeft = refl }
 
 pub unread : (L : Limits) (s : State) (c d : Call) → Alike s c d → SameAnswer (c .buffer) (d .buffer) (step L s c) (step L s d)
 unfolding step

@@ -23,11 +23,12 @@ EBUSY = 16
 abbrev pub E2BIG : ℕ
 E2BIG = 7
 
--- What a call comes to: refused; accepted, with the bytes written from the buffer's start; a move list refused part-way, at a place.
+-- What a call comes to: refused; accepted, with the bytes written from the buffer's start; or, of 'Move list', a list refused part-way, with
+-- the refused request's code and its place from 0, which leaves the controller fresh.
 pub data Outcome : Type 0 where
   refuse : (code : ℕ) → Outcome
   accept : (count : ℕ) (next : State) (written : List ℕ) → Outcome
-  undo : (code place : ℕ) → Outcome
+  reset : (code place : ℕ) → Outcome
 
 -- Checks in order: where the test fails the rest is not looked at.
 infixr 10 need_else_⨾_
@@ -35,19 +36,22 @@ unfoldable pub need_else_⨾_ : Bool → ℕ → Outcome → Outcome
 need true else code ⨾ rest = rest
 need false else code ⨾ rest = refuse code
 
+-- The same for an adapter place: a free one is refused, an adapter is handed on to the rest.
 infixr 10 holder_else_⨾_
 unfoldable pub holder_else_⨾_ : Place → ℕ → (Adapter → Outcome) → Outcome
 holder free else code ⨾ rest = refuse code
 holder (holds x) else code ⨾ rest = rest x
 
--- What the caller sees and what the machine is then: a refusal has count 0; refused part-way leaves a fresh controller.
+-- 'Request numbers and effects': the answer is a code and a count; beside them the state and the buffer as they are then.
 pub record Answer : Type 0 where
   pub code : ℕ
   pub count : ℕ
   pub next : State
   pub buffer : List ℕ
 
+-- A refusal has count 0 and changes nothing. Accepted: the bytes past those written stay. A list refused part-way ('Move list'): its place
+-- from 0 as count, controller fresh.
 unfoldable pub result : Limits → State → List ℕ → Outcome → Answer
 result L s b (refuse code) = record { code = code; count = 0; next = s; buffer = b }
 result L s b (accept count next written) = record { code = 0; count = count; next = next; buffer = written ++ drop (length written) b }
-result L s b (undo code place) = record { code = code; count = place; next = fresh L (s .ais); buffer = b }
+result L s b (reset code place) = record { code = code; count = place; next = fresh L (s .ais); buffer = b }

@@ -1,4 +1,5 @@
--- 01, 'Request numbers and effects', with the checks of 'Codes and the order of checks' after the adapter table's.
+-- 01, 'Request numbers and effects', with the checks of 'Codes and the order of checks' that come after the adapter table's.
+-- As in the paper's table, what a group does is followed by its count.
 use Prim.Native.Nat.{ℕ, zero, suc, _+_, _*_, _/_, _%_, _^_}
 use mathlib.Core.Bool.{Bool, true, false, not, _&&_, _||_}
 use mathlib.Core.Option.{Option, none, some}
@@ -9,7 +10,7 @@ use Rattle.rules.specs.Bytes.{choose, bytes, byte, field}
 use Rattle.rules.specs.State.{Limits, Adapter, Place, free, holds, Record, recordBytes, State, nothing, withPending, withDevice, withAdapter, hasBit, withBit, withoutBit, Kind, kind, subchannelId, subchannelNumber, addIo, addAll, queued, listing}
 use Rattle.rules.specs.Outcome.{EINVAL, EOPNOTSUPP, EFAULT, ENOMEM, EBUSY, Outcome, refuse, accept, need_else_⨾_, holder_else_⨾_}
 
--- The requests, by group number; a group that is unknown, or not to be set or read, is no request.
+-- The requests, by group number and direction. A group that is unknown, or whose direction (set or get) is wrong for it, is no request.
 pub data Request : Type 0 where
   noRequest getAllIrqs enqueue clearIrqs apfEnable apfDisableWait adapterRegister adapterModify clearIoIrq aism airqInject setAismAll getAismAll : Request
 
@@ -27,7 +28,7 @@ setRequest group = getD setGroups group noRequest
 abbrev pub getRequest : ℕ → Request
 getRequest group = getD getGroups group noRequest
 
--- The longest ENQUEUE. It is no function of the limits.
+-- The longest ENQUEUE that is not refused with 22. It is no function of the limits.
 abbrev pub enqueueBytes : ℕ
 enqueueBytes = 18576
 
@@ -37,17 +38,19 @@ isZero n = eqb n 0
 abbrev pub nonZero : ℕ → Bool
 nonZero n = not (eqb n 0)
 
--- 1 GET_ALL_IRQS: the listing; records written. The bytes after them stay.
+-- 1 GET_ALL_IRQS: the listing; records written. 12 where it is longer than the claimed length. The attribute of groups 1, 2 and 8 is the
+-- claimed length ('claimed length' is a term of paper 01).
 unfoldable pub lists : State → ℕ → Outcome
 lists s claimed =
     need leb (recordBytes * length (listing (s .pending))) claimed else ENOMEM ⨾
     accept (length (listing (s .pending))) s (flatten (listing (s .pending)))
 
--- 2 ENQUEUE: every record is checked before room, and all are added in order or none; records given.
+-- 2 ENQUEUE: all added in order; records given. Every record is checked before room, and all are added or none.
 unfoldable pub recordsIn : ℕ → List ℕ → List Record
 recordsIn zero b = []
 recordsIn (suc n) b = take recordBytes b ∷ recordsIn n (drop recordBytes b)
 
+-- a record of another type is refused
 unfoldable pub taken : Kind → Bool
 taken Kind.io = true
 taken Kind.done = true
@@ -59,7 +62,7 @@ unfoldable pub allTaken : List Record → Bool
 allTaken [] = true
 allTaken (r ∷ rs) = taken (kind r) && allTaken rs
 
--- how many of the nine queues' places a record wants
+-- how many of the nine queues' places a record wants; service and machine check are outside
 unfoldable pub wants : Kind → ℕ
 wants Kind.io = 1
 wants Kind.done = 1
@@ -71,21 +74,22 @@ unfoldable pub allWant : List Record → ℕ
 allWant [] = 0
 allWant (r ∷ rs) = wants (kind r) + allWant rs
 
+-- `queued` is what the queues hold now: room freed by a take or a clear is usable at once.
 unfoldable pub enqueues : Limits → State → List Record → Outcome
 enqueues L s rs =
     need allTaken rs else EINVAL ⨾
     need leb (queued (s .pending) + allWant rs) (L .room) else EBUSY ⨾
     accept (length rs) (withPending (addAll rs (s .pending)) s) []
 
--- 3 CLEAR_IRQS: nothing pending; records removed.
+-- 3 CLEAR_IRQS: nothing pending; records removed. Adapters, masks and flag stay.
 unfoldable pub clears : State → Outcome
 clears s = accept (length (listing (s .pending))) (withPending nothing s) []
 
--- 4, 5 APF_ENABLE, APF_DISABLE_WAIT: the flag; 0.
+-- 4 / 5 APF_ENABLE / APF_DISABLE_WAIT: flag on / off; 0.
 unfoldable pub flags : State → Bool → Outcome
 flags s on = accept 0 (withDevice (record { simm = s .device .simm; nimm = s .device .nimm; apf = on }) s) []
 
--- 6 ADAPTER_REGISTER: an unmasked adapter; 0.
+-- 6 ADAPTER_REGISTER: unmasked adapter; 0. Refused: id above 63, id in use, isc above 7.
 abbrev pub placeOf : State → ℕ → Place
 placeOf s id = getD (s .adapters) id free
 
@@ -100,7 +104,8 @@ registers L s id x =
     need leb (x .isc) 7 else EINVAL ⨾
     accept 0 (withAdapter id x s) []
 
--- id (4), isc, maskable, swap, flags: any non-zero maskable or swap means yes, the flags bit of value 1 means suppressible.
+-- id (4), isc, maskable, swap, flags. Any non-zero maskable or swap means yes. The flags bit of value 1 means suppressible; others are ignored
+-- and not kept.
 unfoldable pub adapterIn : List ℕ → Adapter
 adapterIn b =
     record {
@@ -111,7 +116,8 @@ adapterIn b =
       masked = false;
     }
 
--- 7 ADAPTER_MODIFY: type 1 sets masked or unmasked, types 2 and 3 do nothing; 0.
+-- 7 ADAPTER_MODIFY: type 1 sets masked (mask not 0) or unmasked, types 2 and 3 do nothing; 0. Refused: id above 63, free id, type not 1 to 3,
+-- type 1 on an unmaskable adapter.
 abbrev pub withMask : Bool → Adapter → Adapter
 withMask on x = record { isc = x .isc; maskable = x .maskable; swap = x .swap; suppressible = x .suppressible; masked = on }
 
@@ -123,22 +129,27 @@ modifies L s id type on =
     need not (eqb type 1) || x .maskable else EINVAL ⨾
     accept 0 (choose (eqb type 1) (withAdapter id (withMask on x) s) s) []
 
--- 8 CLEAR_IO_IRQ: the first I/O record in listing order that has both subchannel id and number is removed; 0 or 1.
+-- 8 CLEAR_IO_IRQ: the first I/O record in listing order that has both subchannel id and number is removed; 0 or 1. None: code 0, count 0.
+-- Word 0 is refused.
 abbrev pub isFor : ℕ → ℕ → Record → Bool
 isFor id nr r = eqb (subchannelId r) id && eqb (subchannelNumber r) nr
 
+-- one more in front of a list, where there is a list
 abbrev pub consTo {ℓ} : {A : Type ℓ} → A → Option (List A) → Option (List A)
 consTo a none = none
 consTo a (some l) = some (a ∷ l)
 
+-- a queue without its first record of which f holds; none where it has none
 unfoldable pub without : (Record → Bool) → List Record → Option (List Record)
 without f [] = none
 without f (r ∷ q) = choose (f r) (some q) (consTo r (without f q))
 
+-- the queue q without a record, where it had one, before the other queues qs as they are; else q as it is, before what came of qs (later)
 abbrev pub orIn : Option (List Record) → List Record → List (List Record) → Option (List (List Record)) → Option (List (List Record))
 orIn none q qs later = consTo q later
 orIn (some q′) q qs later = some (q′ ∷ qs)
 
+-- the queues without the first record of which f holds, in listing order; none where they have none
 unfoldable pub withoutFirst : (Record → Bool) → List (List Record) → Option (List (List Record))
 withoutFirst f [] = none
 withoutFirst f (q ∷ qs) = orIn (without f q) q qs (withoutFirst f qs)
@@ -153,7 +164,8 @@ clearsIo s id nr =
     need not (isZero id && isZero nr) else EINVAL ⨾
     removes s (withoutFirst (isFor id nr) (s .pending .io))
 
--- 9 AISM: mode 0 (ALL) clears both bits, mode 1 (SINGLE) sets simm and clears nimm; 0.
+-- 9 AISM: mode of one subclass; 0. Mode 0 (ALL) clears both bits; mode 1 (SINGLE) sets simm and clears nimm. Refused: isc above 7, mode not 0
+-- or 1.
 abbrev pub withMasks : ℕ → ℕ → State → State
 withMasks simm nimm s = withDevice (record { simm = simm; nimm = nimm; apf = s .device .apf }) s
 
@@ -163,10 +175,12 @@ setsMode s isc mode =
     need leb mode 1 else EINVAL ⨾
     accept 0 (withMasks (choose (eqb mode 0) (withoutBit isc (s .device .simm)) (withBit isc (s .device .simm))) (withoutBit isc (s .device .nimm)) s) []
 
--- 10 AIRQ_INJECT: masked, or suppressed: code 0, count 0, no change; else the record is appended, and nimm set in SINGLE mode.
+-- 10 AIRQ_INJECT: masked, or with AIS capability and suppressible with its nimm bit set: code 0, count 0, no change. Else the record is
+-- appended; 1. Then, with AIS capability, suppressible, and simm bit set: the nimm bit is set. Refused: id above 63, free id; 16 without room.
 abbrev pub underAis : State → Adapter → ℕ → Bool
 underAis s x mask = s .ais && (x .suppressible && hasBit (x .isc) mask)
 
+-- type 0x04000000, subchannel id, number and parameter 0, word 0x80000000 + subclass x 2^27, rest 0
 abbrev pub adapterInterrupt : ℕ → Record
 adapterInterrupt isc =
     bytes 8 0x04000000 ++ (bytes 2 0 ++ (bytes 2 0 ++ (bytes 4 0 ++ (bytes 4 (0x80000000 + isc * 2 ^ 27) ++ replicate 52 0))))
@@ -183,7 +197,8 @@ injects L s id =
     choose (x .masked || underAis s x (s .device .nimm)) (accept 0 s [])
     (need ltb (queued (s .pending)) (L .room) else EBUSY ⨾ accept 1 (injected s x) [])
 
--- A request that is set or read: attribute, 95, claimed length, lent length, then the contents.
+-- A request, set or get. The whole order of checks: (adapter table, then group and direction, before); attribute zero; 95; claimed length; 14;
+-- payload contents in the table's order (22); then 12 or 16.
 unfoldable pub request : Limits → State → Request → ℕ → List ℕ → Outcome
 request L s noRequest attr b = refuse EINVAL
 request L s getAllIrqs attr b =
@@ -203,18 +218,22 @@ request L s apfEnable attr b =
 request L s apfDisableWait attr b =
     need isZero attr else EINVAL ⨾
     flags s false
+-- REGISTER: id (4), then what `adapterIn` reads.
 request L s adapterRegister attr b =
     need isZero attr else EINVAL ⨾
     need leb 8 (length b) else EFAULT ⨾
     registers L s (field 0 4 b) (adapterIn b)
+-- MODIFY: id (4), type, mask, 2 and 8 unread bytes.
 request L s adapterModify attr b =
     need isZero attr else EINVAL ⨾
     need leb 16 (length b) else EFAULT ⨾
     modifies L s (field 0 4 b) (byte 4 b) (nonZero (byte 5 b))
+-- CLEAR_IO_IRQ: the word is subchannel id then number.
 request L s clearIoIrq attr b =
     need leb 4 attr else EINVAL ⨾
     need leb 4 (length b) else EFAULT ⨾
     clearsIo s (field 0 2 b) (field 2 2 b)
+-- AISM: isc, one unread byte, mode (2).
 request L s aism attr b =
     need isZero attr else EINVAL ⨾
     need s .ais else EOPNOTSUPP ⨾
@@ -222,6 +241,7 @@ request L s aism attr b =
     setsMode s (byte 0 b) (field 2 2 b)
 request L s airqInject attr b =
     injects L s attr
+-- 11 AISM_ALL (set, get), 2 bytes, simm and nimm: both stored or written; 0.
 request L s setAismAll attr b =
     need isZero attr else EINVAL ⨾
     need s .ais else EOPNOTSUPP ⨾

@@ -1,4 +1,4 @@
--- 01, 'Request numbers and effects', its last paragraph: the guest take ('guest take' is a term of paper 01).
+-- 01, 'Request numbers and effects', its last paragraph: the guest take; its 14 is of 'Codes and the order of checks'.
 use Prim.Native.Nat.{ℕ, suc}
 use mathlib.Core.Bool.{Bool}
 use mathlib.Core.Option.{Option, none, some}
@@ -14,6 +14,7 @@ pub record Handed (A : Type 0) : Type 0 where
   pub given : Record
   pub left : A
 
+-- the first, else the later
 unfoldable pub orElse {ℓ} : {A : Type ℓ} → Option A → Option A → Option A
 orElse none later = later
 orElse (some a) later = some a
@@ -33,11 +34,12 @@ abbrev pub handDone : Pending → List Record → Option (Handed Pending)
 handDone p [] = none
 handDone p (r ∷ q) = some (record { given = r; left = record { io = p .io; done = q; service = p .service; mchk = p .mchk } })
 
--- I/O by subclass 0 to 7, oldest first: of queues whose first is that of subclass n
+-- a queue that nothing is taken from stays in front of what is left
 abbrev pub keep : List Record → Option (Handed (List (List Record))) → Option (Handed (List (List Record)))
 keep q none = none
 keep q (some h) = some (record { given = h .given; left = q ∷ h .left })
 
+-- I/O by subclass 0 to 7, oldest first: of queues whose first is that of subclass n
 unfoldable pub firstAllowed : ℕ → ℕ → List (List Record) → Option (Handed (List (List Record)))
 firstAllowed n allowed [] = none
 firstAllowed n allowed ([] ∷ qs) = keep [] (firstAllowed (suc n) allowed qs)
@@ -57,10 +59,12 @@ handed p subclasses external mcheck =
     (orElse (choose external (handDone p (p .done)) none)
     (handIo p (firstAllowed 0 subclasses (p .io)))))
 
+-- Count 1; or code 0, count 0, buffer untouched.
 unfoldable pub handsOut : State → Option (Handed Pending) → Outcome
 handsOut s none = accept 0 s []
 handsOut s (some h) = accept 1 (withPending (h .left) s) (h .given)
 
+-- A subclass byte (bits as simm), external allowed, machine check allowed, an output buffer ('guest take' is a term of paper 01).
 unfoldable pub takes : State → ℕ → Bool → Bool → List ℕ → Outcome
 takes s subclasses external mcheck b =
     need leb recordBytes (length b) else EFAULT ⨾

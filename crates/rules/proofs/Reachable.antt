@@ -11,10 +11,10 @@ use lib.Seq.{take-at, length-take-le}
 use lib.Dec.{eqb}
 use lib.Bits.{bitOr}
 use borrow.Author.Tests.{leb-true, ltb-true}
-use Rattle.rules.specs.Bytes.{choose, byte, field, bytes, number}
+use Rattle.rules.specs.Bytes.{choose, field, bytes, number}
 use Rattle.rules.specs.State.{Limits, Adapter, Place, free, holds, Record, recordBytes, Pending, Device, State, nothing, fresh, withPending, withDevice, withAdapter, hasBit, withBit, Kind, kindOf, kind, subclass, merged, addIo, firstOr, mergedOr, addAs, add, addAll, queued, single, listing}
 use Rattle.rules.specs.Outcome.{Outcome, refuse, accept, reset, need_else_⨾_, holder_else_⨾_, result}
-use Rattle.rules.specs.Requests.{Request, noRequest, getAllIrqs, enqueue, clearIrqs, apfEnable, apfDisableWait, adapterRegister, adapterModify, clearIoIrq, aism, airqInject, setAismAll, getAismAll, setRequest, getRequest, nonZero, lists, recordsIn, taken, allTaken, wants, allWant, enqueues, clears, flags, placeOf, registers, adapterIn, withMask, modifies, isFor, consTo, without, orIn, withoutFirst, removes, clearsIo, withMasks, setsMode, adapterInterrupt, injected, injects, request}
+use Rattle.rules.specs.Requests.{Request, noRequest, getAllIrqs, enqueue, clearIrqs, apfEnable, apfDisableWait, adapterRegister, adapterModify, clearIoIrq, aism, airqInject, setAismAll, getAismAll, setRequest, getRequest, lists, recordsIn, taken, allTaken, wants, allWant, enqueues, clears, flags, placeOf, registers, adapterIn, withMask, modifies, consTo, without, orIn, withoutFirst, removes, clearsIo, withMasks, setsMode, adapterInterrupt, injected, injects, request}
 use Rattle.rules.specs.Take.{Handed, orElse, handMchk, handService, handDone, keep, firstAllowed, handIo, handed, handsOut, takes}
 use Rattle.rules.specs.MoveList.{Entry, writes, entriesIn, slotsIn, countIn, headerBytes, onward, applies, plays}
 use Rattle.rules.specs.Machine.{Ask, setAttr, getAttr, guestTake, writeList, playList, Call, outcome, step, after}

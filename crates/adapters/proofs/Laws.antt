@@ -1,0 +1,45 @@
+-- Laws on the bits of a mask and on places.
+use Prim.Native.Nat.{ℕ, zero, suc, _+_, _≤_, _<_}
+use mathlib.Core.Path.{_≡_, refl}
+use mathlib.Core.Bool.{Bool, true, false}
+use native.Mathlib.Omega.{arith}
+use borrow.Author.Tests.{eqb-true, eqb-false}
+use Rattle.rules.specs.Bytes.{choose}
+use Rattle.rules.specs.State.{Adapter, free, holds, bit, hasBit}
+use Rattle.adapters.specs.declared.Place.{Place}
+use Rattle.adapters.specs.Values.{adapterOf, placeOf}
+
+-- a bit that is not set has room in a byte, and one that is set is at most the mask: by the eight subclasses
+pub bit-room : (n m : ℕ) → n ≤ 7 → m < 256 → (hasBit n m ≡ false → m + bit n < 256) × (hasBit n m ≡ true → bit n ≤ m)
+unfolding hasBit
+bit-room zero m h l = (λ e. omega (arith, eqb-false), λ e. omega (arith, eqb-true))
+bit-room (suc zero) m h l = (λ e. omega (arith, eqb-false), λ e. omega (arith, eqb-true))
+bit-room (suc (suc zero)) m h l = (λ e. omega (arith, eqb-false), λ e. omega (arith, eqb-true))
+bit-room (suc (suc (suc zero))) m h l = (λ e. omega (arith, eqb-false), λ e. omega (arith, eqb-true))
+bit-room (suc (suc (suc (suc zero)))) m h l = (λ e. omega (arith, eqb-false), λ e. omega (arith, eqb-true))
+bit-room (suc (suc (suc (suc (suc zero))))) m h l = (λ e. omega (arith, eqb-false), λ e. omega (arith, eqb-true))
+bit-room (suc (suc (suc (suc (suc (suc zero)))))) m h l = (λ e. omega (arith, eqb-false), λ e. omega (arith, eqb-true))
+bit-room (suc (suc (suc (suc (suc (suc (suc zero))))))) m h l = (λ e. omega (arith, eqb-false), λ e. omega (arith, eqb-true))
+bit-room (suc (suc (suc (suc (suc (suc (suc (suc n)))))))) m h l = absurd (omega arith)
+
+pub place-used : (p : Place) → p .used ≡ true → placeOf p ≡ holds (adapterOf p)
+unfolding placeOf choose
+place-used p e = rw e
+
+pub place-free : (p : Place) → p .used ≡ false → placeOf p ≡ free
+unfolding placeOf choose
+place-free p e = rw e
+
+pub place-holds : (p : Place) (x : Adapter) → placeOf p ≡ holds x → (p .used ≡ true) × (adapterOf p ≡ x)
+place-holds p x e = go (p .used) refl
+  where
+    go : (b : Bool) → p .used ≡ b → (p .used ≡ true) × (adapterOf p ≡ x)
+    go true u = (u, cc (place-used p u))
+    go false u = let z : _≡_ {A = ℕ} 0 1 = cc (place-free p u) in absurd (omega arith)
+
+pub place-is-free : (p : Place) → placeOf p ≡ free → p .used ≡ false
+place-is-free p e = go (p .used) refl
+  where
+    go : (b : Bool) → p .used ≡ b → p .used ≡ false
+    go true u = let z : _≡_ {A = ℕ} 0 1 = cc (place-used p u) in absurd (omega arith)
+    go false u = u

@@ -1,0 +1,165 @@
+// Inner crate: nine queues over slots and their order, with a count for each queue. Queues 0 to 7 are those of the
+// subclasses, queue 8 has the finished page faults.
+ghost use mathlib.Core.Path.{_≡_};
+ghost use mathlib.Core.List.{List, [], _∷_, _++_, flatten};
+ghost use Prim.Native.Nat.{ℕ, _+_, _*_, _-_, _≤_, _<_};
+ghost use lib.ListN.{length, getD, set, take, drop, replicate};
+ghost use Rattle.slots.specs.Slots.{removeAt};
+ghost use Rattle.queues.specs.Queues.{sum, queues, Held};
+use words::Subclass;
+
+// How many records the first q queues hold.
+fn start(c: &[usize], q: usize) -> usize
+    requires { ⌜ (q ≤ length (now c)) × (sum (now c) ≤ 256) ⌝ }
+    ensures { λ r. ⌜ r ≡ sum (take q (now (c .entry))) ⌝ }
+{
+    let mut s = 0;
+    let mut i = 0;
+    while i < q {
+        s += c[i];
+        i += 1;
+    }
+    s
+}
+
+// How many records the nine queues hold.
+pub fn queued(c: &[usize; 9]) -> usize
+    requires { ⌜ sum (now c) ≤ 256 ⌝ }
+    ensures { λ r. ⌜ r ≡ sum (now (c .entry)) ⌝ }
+{
+    start(c, 9)
+}
+
+// Appends r to queue q.
+fn append(b: &mut [u8], o: &mut [u8], c: &mut [usize], q: usize, r: [u8; 72])
+    requires { ⌜ (q < length (now c)) × (sum (now c) < 256) × (length (now o) ≡ 256) × (256 * 72 ≤ length (now b)) × Held (now o) (now c) ⌝ }
+    ensures queue { λ _. ⌜ queues (now (o .exit)) (now (c .exit)) (now (b .exit)) ≡ set (queues (now (o .entry)) (now (c .entry)) (now (b .entry))) q (getD (queues (now (o .entry)) (now (c .entry)) (now (b .entry))) q [] ++ (r ∷ [])) ⌝ }
+    ensures held { λ _. ⌜ Held (now (o .exit)) (now (c .exit)) ⌝ }
+    ensures count { λ _. ⌜ sum (now (c .exit)) ≡ sum (now (c .entry)) + 1 ⌝ }
+{
+    let at = start(c, q + 1);
+    let n = start(c, c.len());
+    slots::insert(b, o, n, at, r);
+    c[q] = c[q] + 1;
+}
+
+// Takes record j out of queue q.
+fn remove(o: &mut [u8], c: &mut [usize], q: usize, j: usize)
+    requires { ⌜ (q < length (now c)) × (j < getD (now c) q 0) × (length (now o) ≡ 256) × Held (now o) (now c) ⌝ }
+    ensures queue { λ _. ⌜ ((b : List ℕ) → queues (now (o .exit)) (now (c .exit)) b ≡ set (queues (now (o .entry)) (now (c .entry)) b) q (removeAt j (getD (queues (now (o .entry)) (now (c .entry)) b) q []))) ⌝ }
+    ensures held { λ _. ⌜ Held (now (o .exit)) (now (c .exit)) ⌝ }
+    ensures count { λ _. ⌜ sum (now (c .exit)) ≡ sum (now (c .entry)) - 1 ⌝ }
+{
+    let at = start(c, q) + j;
+    let n = start(c, c.len());
+    slots::remove(o, n, at);
+    c[q] = c[q] - 1;
+}
+
+// Record j of queue q.
+fn read(b: &[u8], o: &[u8], c: &[usize], q: usize, j: usize) -> [u8; 72]
+    requires { ⌜ (q < length (now c)) × (j < getD (now c) q 0) × (length (now o) ≡ 256) × (256 * 72 ≤ length (now b)) × Held (now o) (now c) ⌝ }
+    ensures { λ r. ⌜ r ≡ getD (getD (queues (now (o .entry)) (now (c .entry)) (now (b .entry))) q []) j [] ⌝ }
+{
+    let k = start(c, q) + j;
+    let n = start(c, c.len());
+    slots::read(b, o, n, k)
+}
+
+// An I/O record joins the queue of its subclass.
+pub fn append_io(
+    b: &mut [u8; 18432],
+    o: &mut [u8; 256],
+    c: &mut [usize; 9],
+    isc: Subclass,
+    r: [u8; 72],
+)
+    requires { ⌜ (isc .0 < 8) × (sum (now c) < 256) × Held (now o) (now c) ⌝ }
+    ensures queue { λ _. ⌜ queues (now (o .exit)) (now (c .exit)) (now (b .exit)) ≡ set (queues (now (o .entry)) (now (c .entry)) (now (b .entry))) (isc .0) (getD (queues (now (o .entry)) (now (c .entry)) (now (b .entry))) (isc .0) [] ++ (r ∷ [])) ⌝ }
+    ensures held { λ _. ⌜ Held (now (o .exit)) (now (c .exit)) ⌝ }
+    ensures count { λ _. ⌜ sum (now (c .exit)) ≡ sum (now (c .entry)) + 1 ⌝ }
+{
+    let q = words::index(isc.0);
+    append(b, o, c, q, r);
+}
+
+// A finished page fault joins its queue.
+pub fn append_done(b: &mut [u8; 18432], o: &mut [u8; 256], c: &mut [usize; 9], r: [u8; 72])
+    requires { ⌜ (sum (now c) < 256) × Held (now o) (now c) ⌝ }
+    ensures queue { λ _. ⌜ queues (now (o .exit)) (now (c .exit)) (now (b .exit)) ≡ set (queues (now (o .entry)) (now (c .entry)) (now (b .entry))) 8 (getD (queues (now (o .entry)) (now (c .entry)) (now (b .entry))) 8 [] ++ (r ∷ [])) ⌝ }
+    ensures held { λ _. ⌜ Held (now (o .exit)) (now (c .exit)) ⌝ }
+    ensures count { λ _. ⌜ sum (now (c .exit)) ≡ sum (now (c .entry)) + 1 ⌝ }
+{
+    append(b, o, c, 8, r);
+}
+
+// Record j of the queue of a subclass leaves it.
+pub fn remove_io(o: &mut [u8; 256], c: &mut [usize; 9], isc: Subclass, j: usize)
+    requires { ⌜ (isc .0 < 8) × (j < getD (now c) (isc .0) 0) × Held (now o) (now c) ⌝ }
+    ensures queue { λ _. ⌜ ((b : List ℕ) → queues (now (o .exit)) (now (c .exit)) b ≡ set (queues (now (o .entry)) (now (c .entry)) b) (isc .0) (removeAt j (getD (queues (now (o .entry)) (now (c .entry)) b) (isc .0) []))) ⌝ }
+    ensures held { λ _. ⌜ Held (now (o .exit)) (now (c .exit)) ⌝ }
+    ensures count { λ _. ⌜ sum (now (c .exit)) ≡ sum (now (c .entry)) - 1 ⌝ }
+{
+    let q = words::index(isc.0);
+    remove(o, c, q, j);
+}
+
+// The oldest finished page fault leaves its queue.
+pub fn remove_done(o: &mut [u8; 256], c: &mut [usize; 9])
+    requires { ⌜ (0 < getD (now c) 8 0) × Held (now o) (now c) ⌝ }
+    ensures queue { λ _. ⌜ ((b : List ℕ) → queues (now (o .exit)) (now (c .exit)) b ≡ set (queues (now (o .entry)) (now (c .entry)) b) 8 (removeAt 0 (getD (queues (now (o .entry)) (now (c .entry)) b) 8 []))) ⌝ }
+    ensures held { λ _. ⌜ Held (now (o .exit)) (now (c .exit)) ⌝ }
+    ensures count { λ _. ⌜ sum (now (c .exit)) ≡ sum (now (c .entry)) - 1 ⌝ }
+{
+    remove(o, c, 8, 0);
+}
+
+// Record j of the queue of a subclass.
+pub fn read_io(b: &[u8; 18432], o: &[u8; 256], c: &[usize; 9], isc: Subclass, j: usize) -> [u8; 72]
+    requires { ⌜ (isc .0 < 8) × (j < getD (now c) (isc .0) 0) × Held (now o) (now c) ⌝ }
+    ensures { λ r. ⌜ r ≡ getD (getD (queues (now (o .entry)) (now (c .entry)) (now (b .entry))) (isc .0) []) j [] ⌝ }
+{
+    let q = words::index(isc.0);
+    read(b, o, c, q, j)
+}
+
+// The oldest finished page fault.
+pub fn read_done(b: &[u8; 18432], o: &[u8; 256], c: &[usize; 9]) -> [u8; 72]
+    requires { ⌜ (0 < getD (now c) 8 0) × Held (now o) (now c) ⌝ }
+    ensures { λ r. ⌜ r ≡ getD (getD (queues (now (o .entry)) (now (c .entry)) (now (b .entry))) 8 []) 0 [] ⌝ }
+{
+    read(b, o, c, 8, 0)
+}
+
+// How many finished page faults wait.
+pub fn done_count(c: &[usize; 9]) -> usize
+    ensures { λ r. ⌜ r ≡ getD (now (c .entry)) 8 0 ⌝ }
+{
+    c[8]
+}
+
+// Writes all records to out, one after the other, in listing order.
+pub fn list(b: &[u8; 18432], o: &[u8; 256], c: &[usize; 9], out: &mut [u8])
+    requires { ⌜ Held (now o) (now c) × (sum (now c) * 72 ≤ length (now out)) ⌝ }
+    ensures { λ _. ⌜ now (out .exit) ≡ flatten (flatten (queues (now (o .entry)) (now (c .entry)) (now (b .entry)))) ++ drop (sum (now (c .entry)) * 72) (now (out .entry)) ⌝ }
+{
+    let n = queued(c);
+    let mut k = 0;
+    while k < n {
+        let r = slots::read(b, o, n, k);
+        words::save(out, k * 72, r);
+        k += 1;
+    }
+}
+
+// No record is left.
+pub fn clear(c: &mut [usize; 9])
+    ensures { λ _. ⌜ now (c .exit) ≡ replicate 9 0 ⌝ }
+{
+    let s: &mut [usize] = c;
+    let mut i = 0;
+    while i < 9 {
+        s[i] = 0;
+        i += 1;
+    }
+}

@@ -1,0 +1,63 @@
+// Inner crate: the search over subclasses and records.
+ghost use mathlib.Core.Path.{_≡_};
+ghost use Prim.Native.Nat.{_*_, _≤_, _<_};
+ghost use lib.ListN.{length, getD, take};
+ghost use Rattle.rules.specs.Requests.{isFor};
+ghost use Rattle.slots.specs.Slots.{slot};
+ghost use Rattle.queues.specs.Queues.{queues, Held};
+ghost use Rattle.search.specs.Search.{searchQueues, wanted};
+use words::SubchannelId;
+use words::SubchannelNumber;
+use words::Subclass;
+
+// Where a search ended.
+pub enum Found {
+    At(Subclass, usize),
+    None,
+}
+
+// Whether the record at a place of all records is for this subchannel.
+fn is_for(b: &[u8], o: &[u8], k: usize, id: SubchannelId, nr: SubchannelNumber) -> bool
+    requires { ⌜ (k < length (now o)) × (256 * 72 ≤ length (now b)) ⌝ }
+    ensures { λ r. ⌜ r ≡ isFor (id .0) (nr .0) (slot 72 (now (b .entry)) (getD (now (o .entry)) k 0)) ⌝ }
+{
+    let at = slots::place(o, k);
+    words::read_be(b, at + 8, 2) == id.0 && words::read_be(b, at + 10, 2) == nr.0
+}
+
+// The first record in listing order of a subclass that the mask allows, and for the subchannel unless any will do.
+pub fn find(
+    b: &[u8; 18432],
+    o: &[u8; 256],
+    c: &[usize; 9],
+    mask: u8,
+    any: bool,
+    id: SubchannelId,
+    nr: SubchannelNumber,
+) -> Found
+    requires { ⌜ Held (now o) (now c) ⌝ }
+    ensures { λ r. ⌜ r ≡ searchQueues (wanted any (id .0) (nr .0)) mask 0 (take 8 (queues (now (o .entry)) (now (c .entry)) (now (b .entry)))) ⌝ }
+{
+    // As slices: what makes one of an array says its length.
+    let records: &[u8] = b;
+    let order: &[u8] = o;
+    let counts: &[usize] = c;
+    let mut found = Found::None;
+    let mut k: usize = 0;
+    let mut isc: u8 = 0;
+    'search: while isc < 8 {
+        let n = counts[words::index(isc)];
+        let allowed = adapters::has_bit(Subclass(isc), mask);
+        let mut j: usize = 0;
+        while allowed && j < n {
+            if any || is_for(records, order, k + j, id, nr) {
+                found = Found::At(Subclass(isc), j);
+                break 'search;
+            }
+            j += 1;
+        }
+        k += n;
+        isc += 1;
+    }
+    found
+}

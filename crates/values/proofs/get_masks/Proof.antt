@@ -1,0 +1,71 @@
+-- `values::get_masks` meets its contract. Assumes nothing.
+use mathlib.Core.Path.{refl, ap, _∙_}
+use lib.ListN.{length}
+use borrow.Author.Tests.{eq-eqb, ne-eqb, le-leb, lt-leb, not-true, not-false}
+use mathlib.Core.List.{[], _∷_}
+use Rattle.rules.proofs.Checks.{passes, fails}
+use Rattle.rules.specs.Requests.{request}
+use Rattle.rules.specs.State as rules
+use Rattle.rules.specs.Outcome.{accept}
+use Rattle.answers.specs.declared.Answer.{Answer}
+use Rattle.values.proofs.Laws.{told-refused, told-two}
+use borrow.Author.Needs.{needs}
+use Rattle.values.proofs.get_masks.Statement.{statement}
+use Rattle.values.proofs.get_masks.Tie as tie
+
+refuse-requires : tie.Need-refuse-requires
+refuse-requires c κs = search needs
+
+returns : tie.Need-returns
+unfolding request
+returns c = (λ L s e1 e2. told-refused L s _ 22 (fails _ _ _ (ne-eqb _ 0 (c .before .if1 .taken))) (c .refuse .ensures), λ k. refl)
+
+refuse-requires-2 : tie.Need-refuse-requires-2
+refuse-requires-2 c κs = search needs
+
+returns-2 : tie.Need-returns-2
+unfolding request
+returns-2 c = (λ L s e1 e2. told-refused L s _ 95 (passes _ _ _ (eq-eqb _ 0 (c .before .before .if1 .left)) ∙ fails _ _ _ (e1 ∙ not-true _ (c .before .if2 .taken))) (c .refuse2 .ensures), λ k. refl)
+
+refuse-requires-3 : tie.Need-refuse-requires-3
+refuse-requires-3 c κs = search needs
+
+returns-3 : tie.Need-returns-3
+unfolding request
+returns-3 c = (λ L s e1 e2. told-refused L s _ 14 (passes _ _ _ (eq-eqb _ 0 (c .before .before .before .if1 .left)) ∙ passes _ _ _ (e1 ∙ not-false _ (c .before .before .if2 .left)) ∙ fails _ _ _ (lt-leb 2 (length (c .before .before .before .before .before .args .out .now)) (c .before .if3 .taken))) (c .refuse3 .ensures), λ k. refl)
+
+slice-write-out : tie.Need-slice-write-out
+slice-write-out c = search needs
+
+slice-write-out-2 : tie.Need-slice-write-out-2
+slice-write-out-2 c = search needs
+
+accept-requires : tie.Need-accept-requires
+accept-requires c κs = search needs
+
+same-length : tie.Need-same-length
+same-length c = search needs
+
+returns-4 : tie.Need-returns-4
+unfolding request
+returns-4 c = (
+  λ L s e1 e2. told-two L s _ _ _ (passes _ _ _ (eq-eqb _ 0 (c .before .before .before .if1 .left)) ∙ passes _ _ _ (e1 ∙ not-false _ (c .before .before .if2 .left)) ∙ passes _ _ _ (le-leb 2 (length (c .before .before .before .before .before .args .out .now)) (c .before .if3 .left))
+      ∙ ap (λ (d : rules.Device). accept 0 s (d .simm ∷ d .nimm ∷ [])) e2) (c .accept .ensures) (c .before .if3 .left),
+  λ k. absurd (k (ap (λ (x : Answer). x .code) (c .accept .ensures))),
+)
+
+pub get-masks-spec : {M : Type 1} → statement M
+get-masks-spec =
+    tie.close
+    (tie.spec
+    refuse-requires
+    returns
+    refuse-requires-2
+    returns-2
+    refuse-requires-3
+    returns-3
+    slice-write-out
+    slice-write-out-2
+    accept-requires
+    same-length
+    returns-4)

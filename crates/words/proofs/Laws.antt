@@ -1,0 +1,89 @@
+-- Laws of copies within a list, and of big-endian numbers. Assumes nothing.
+use mathlib.Core.Path.{_≡_, sym, ap, _∙_}
+use mathlib.Core.List.{List, [], _∷_, _++_, append-assoc, append-nil}
+use Prim.Native.Nat.{ℕ, zero, suc, _+_, _-_, _*_, _/_, _%_, _^_, _≤_, _<_}
+use native.Mathlib.Nat.{zero-add, suc-add, mul-assoc, pow-suc, pow-le-pow-right, div-div-eq-div-mul}
+use native.Mathlib.Numerals.{add-one}
+use native.Mathlib.Omega.{arith}
+use lib.ListN.{length, take, drop, getD, set, length-drop, length-append, drop-of-length-le}
+use lib.Seq.{take-nil, take-at, drop-at, take-append-le, take-take, take-all, take-suc, drop-drop, drop-paste, getD-drop, length-take-le, set-at, paste, paste-zero, paste-suc}
+use Rattle.rules.specs.Bytes.{number, bytes}
+
+module _ {ℓ} {A : Type ℓ} where
+  pub drop-take : (n m : ℕ) (l : List A) → drop n (take (n + m) l) ≡ take m (drop n l)
+  drop-take zero m l = rw zero-add
+  drop-take (suc n) m [] = rw suc-add (sym (take-nil m))
+  drop-take (suc n) m (x ∷ l) = rw suc-add (drop-take n m l)
+
+  -- a copy of nothing, and one over all of d
+  pub paste-none : (d : List A) (at : ℕ) (s : List A) (n : ℕ) → n ≡ 0 → d ≡ paste d at s n
+  paste-none d at s n e = rw e (paste-zero d at s)
+
+  pub paste-all : (b d s : List A) (i n : ℕ) → i ≡ n → length d ≡ n → b ≡ paste d 0 s i → b ≡ take n s
+  paste-all b d s i n k h e =
+      let h′ : length d ≤ 0 + n = omega arith in
+      rw (e, k, drop-of-length-le d h′, append-nil)
+
+  -- a turn of a loop that copies upwards, b so far
+  pub paste-more : (b d : List A) (at : ℕ) (s : List A) (j i : ℕ) (z : A) → i ≡ at + j → i < length d → j < length s → b ≡ paste d at s j
+      → set b i (getD s j z) ≡ paste d at s (j + 1)
+  paste-more b d at s j i z p h k e = rw (e, p, add-one j) (paste-suc d at s j z (omega arith) k)
+
+  -- a turn of a loop that copies downwards: one more element in front
+  pub paste-front : (d : List A) (at : ℕ) (s : List A) (n : ℕ) (x z : A) → at < length d
+      → set (paste d (at + 1) s n) at x ≡ paste d at (x ∷ s) (suc n)
+  paste-front d at s n x z h =
+      let e : length (take at d) ≡ at = length-take-le at d (omega arith) in
+      let m : at + 1 + n ≡ at + suc n = omega arith in
+      rw (m, add-one at, take-suc d at z h)
+      (simp append-assoc (set-at (take at d) (getD d at z) (take n s ++ drop (at + suc n) d) x at e))
+
+  -- what ends before the copy, what starts past it, and the copy itself
+  pub take-before : (d : List A) (at : ℕ) (s : List A) (n m : ℕ) → m ≤ at → at ≤ length d → take m (paste d at s n) ≡ take m d
+  take-before d at s n m h k =
+      let e : length (take at d) ≡ at = length-take-le at d k in
+      rw append-assoc (take-append-le m (take at d) _ (omega arith) ∙ take-take m at d h)
+
+  pub drop-past : (d : List A) (at : ℕ) (s : List A) (n i : ℕ) → at + n ≤ i → at ≤ length d → n ≤ length s → drop i (paste d at s n) ≡ drop i d
+  drop-past d at s n i h k f =
+      let m : ℕ = i - (at + n) in
+      let e : at + n + m ≡ i = omega arith in
+      rw (← e) (sym (drop-drop m (at + n) (paste d at s n)) ∙ ap (λ (l : List A). drop m l) (drop-paste d at s n k f) ∙ drop-drop m (at + n) d)
+
+  pub part-same : (d : List A) (at : ℕ) (s : List A) (n : ℕ) → at ≤ length d → length s ≡ n → take n (drop at (paste d at s n)) ≡ s
+  part-same d at s n k f =
+      rw (append-assoc, drop-at (take at d) (take n s ++ drop (at + n) d) at (length-take-le at d k), take-all n s (omega arith))
+      (take-at s (drop (at + n) d) n f)
+
+  pub part-before : (d : List A) (at : ℕ) (s : List A) (n i w : ℕ) → i + w ≤ at → at ≤ length d → take w (drop i (paste d at s n)) ≡ take w (drop i d)
+  part-before d at s n i w h k = sym (drop-take i w (paste d at s n)) ∙ ap (λ (x : List A). drop i x) (take-before d at s n (i + w) h k) ∙ drop-take i w d
+
+-- one byte more at the end
+number-more : (xs : List ℕ) (x : ℕ) → number (xs ++ (x ∷ [])) ≡ number xs * 256 + x
+unfolding number
+number-more [] x = omega arith
+number-more (b ∷ xs) x =
+    let e : b * 256 ^ length (xs ++ (x ∷ [])) ≡ b * 256 ^ length xs * 256 = rw (length-append, add-one, pow-suc, mul-assoc) in
+    omega (arith, number-more xs x)
+
+-- a turn of read_be
+pub read-turn : (l : List ℕ) (at i v x : ℕ) → at + i < length l → v ≡ number (take i (drop at l)) → v < 256 ^ i → x ≡ getD l (at + i) 0 → x < 256
+    → (v * 256 + x ≡ number (take (i + 1) (drop at l))) × (v * 256 + x < 256 ^ (i + 1))
+read-turn l at i v x h e b ex bx =
+    let k : i < length (drop at l) = simp length-drop (omega arith) in
+    (rw (add-one i, take-suc (drop at l) i 0 k, getD-drop, number-more, e, ex), rw (add-one i, pow-suc) (omega arith))
+
+-- eight bytes fit
+pub read-fits : (v i n : ℕ) → v < 256 ^ i → i < n → n ≤ 8 → v * 256 + 256 ≤ 2 ^ 64
+read-fits v i n h k f = omega (arith, pow-suc 256 i, pow-le-pow-right {n = 256} (omega arith) {i = suc i} {j = 8} (omega arith))
+
+-- a turn of write_be
+pub write-turn : (b d : List ℕ) (at n i v w : ℕ) → 0 < i → i ≤ n → at + n ≤ length d → w ≡ v / 256 ^ (n - i) → b ≡ paste d (at + i) (bytes (n - i) v) (n - i)
+    → (w / 256 ≡ v / 256 ^ (n - (i - 1))) × (set b (at + (i - 1)) (w % 256) ≡ paste d (at + (i - 1)) (bytes (n - (i - 1)) v) (n - (i - 1)))
+unfolding bytes
+write-turn b d at n i v w h k f ew eb =
+    let p : at + i ≡ at + (i - 1) + 1 = omega arith in
+    let q : n - (i - 1) ≡ suc (n - i) = omega arith in (
+      rw (ew, q, pow-suc) (div-div-eq-div-mul v (256 ^ (n - i)) 256),
+      rw (eb, ew, p, q) (paste-front d (at + (i - 1)) (bytes (n - i) v) (n - i) _ 0 (omega arith)),
+    )

@@ -1,0 +1,82 @@
+// Inner crate: kinds of small numbers that must not be confused, big-endian numbers, and records of 72 bytes.
+ghost use mathlib.Core.Path.{_≡_};
+ghost use Prim.Native.Nat.{_+_, _^_, _≤_, _<_};
+ghost use lib.ListN.{length};
+ghost use lib.Seq.{paste};
+ghost use Rattle.rules.specs.Bytes.{bytes, part, field};
+
+// An adapter's id: a place in the adapter table, and nothing else.
+pub struct AdapterId(pub u64);
+
+// An interruption subclass, 0 to 7: it alone names an I/O queue or a bit of a mask.
+pub struct Subclass(pub u8);
+
+pub struct SubchannelId(pub u64);
+
+pub struct SubchannelNumber(pub u64);
+
+pub fn wide(x: u8) -> u64
+    ensures { λ r. ⌜ (r ≡ x) × (r < 256) ⌝ }
+{
+    x as u64
+}
+
+pub fn index(x: u8) -> usize
+    ensures { λ r. ⌜ (r ≡ x) × (r < 256) ⌝ }
+{
+    x as usize
+}
+
+// The number that the n bytes from index at say, the first byte highest.
+pub fn read_be(b: &[u8], at: usize, n: usize) -> u64
+    requires { ⌜ (n ≤ 8) × (at + n ≤ length (now b)) ⌝ }
+    ensures { λ r. ⌜ (r ≡ field at n (now (b .entry))) × (r < 256 ^ n) ⌝ }
+{
+    let mut v: u64 = 0;
+    let mut i = 0;
+    while i < n {
+        v = v * 256 + wide(b[at + i]);
+        i += 1;
+    }
+    v
+}
+
+// Writes the n lowest bytes of v from index at, the highest of them first.
+pub fn write_be(b: &mut [u8], at: usize, n: usize, v: u64)
+    requires { ⌜ (n ≤ 8) × (at + n ≤ length (now b)) ⌝ }
+    ensures { λ _. ⌜ now (b .exit) ≡ paste (now (b .entry)) at (bytes n v) n ⌝ }
+{
+    let mut w = v;
+    let mut i = n;
+    while 0 < i {
+        i -= 1;
+        b[at + i] = (w % 256) as u8;
+        w = w / 256;
+    }
+}
+
+// The 72 bytes of src from index from.
+pub fn load(src: &[u8], from: usize) -> [u8; 72]
+    requires { ⌜ from + 72 ≤ length (now src) ⌝ }
+    ensures { λ r. ⌜ r ≡ part from 72 (now (src .entry)) ⌝ }
+{
+    let mut r = [0u8; 72];
+    let mut i = 0;
+    while i < 72 {
+        r[i] = src[from + i];
+        i += 1;
+    }
+    r
+}
+
+// Writes r into dst from index at.
+pub fn save(dst: &mut [u8], at: usize, r: [u8; 72])
+    requires { ⌜ at + 72 ≤ length (now dst) ⌝ }
+    ensures { λ _. ⌜ now (dst .exit) ≡ paste (now (dst .entry)) at r 72 ⌝ }
+{
+    let mut i = 0;
+    while i < 72 {
+        dst[at + i] = r[i];
+        i += 1;
+    }
+}

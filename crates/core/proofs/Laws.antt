@@ -1,0 +1,196 @@
+-- From answers about pending records to replies, and the cases of an injection.
+use Prim.Native.Nat.{ℕ, zero, suc, _≤_, _<_}
+use mathlib.Core.Path.{_≡_, refl, ap, sym, _∙_, subst}
+use mathlib.Core.Bool.{Bool, true, false, _&&_, _||_}
+use mathlib.Core.List.{List, []}
+use lib.ListN.{getD, set}
+use lib.Seq.{set-getD}
+use lib.Dec.{ltb}
+use borrow.Author.Tests.{lt-ltb, le-ltb}
+use Rattle.rules.specs.Bytes.{choose}
+use Rattle.rules.specs.State as rules
+use Rattle.rules.specs.State.{Limits, Pending, State, withPending, addIo, queued}
+use Rattle.rules.specs.Outcome.{Outcome, refuse, accept, need_else_⨾_, result}
+use Rattle.rules.specs.Requests.{noRequest, airqInject, setRequest, getRequest, injected, injects, adapterInterrupt, request}
+use Rattle.rules.specs.Requests.{underAis as rules-underAis}
+use Rattle.rules.proofs.Checks.{passes, fails, found, chosen, passed}
+use Rattle.answers.specs.declared.Answer.{Answer}
+use Rattle.answers.specs.Answers.{Answers}
+use Rattle.adapters.specs.declared.Device.{Device}
+use Rattle.adapters.specs.declared.Place.{Place}
+use Rattle.adapters.specs.declared.Injection.{Injection}
+use Rattle.adapters.specs.declared.Injection.the-variants.{NoAdapter, Dropped, Full, Appended}
+use Rattle.adapters.specs.Values.{placeOf, deviceOf, adapterOf, underAis, Canonical}
+use Rattle.adapters.proofs.Laws.{place-used, place-free}
+use Rattle.values.specs.declared.Reply.{Reply}
+use Rattle.values.specs.States.{aboutOf, stateWith, Replies}
+use Rattle.values.proofs.Laws.{unheld}
+use Rattle.words.specs.declared.Subclass.{Subclass}
+
+-- the state with other pending records, as the values stand for it
+with-values : (s : State) (id : ℕ) (device : Device) (place : Place) (p : Pending) → s .device ≡ deviceOf device
+    → getD (s .adapters) id rules.free ≡ placeOf place → withPending p s ≡ stateWith s id (placeOf place) p (deviceOf device)
+with-values s id device place p d e =
+    λ i. record {
+      ais = s .ais;
+      adapters = (sym (set-getD (s .adapters) id rules.free) ∙ ap (set (s .adapters) id) e) i;
+      pending = p;
+      device = d i;
+    }
+
+-- the same where the pending records are as they were
+pub as-it-was : (s : State) (id : ℕ) (device : Device) (place : Place) (p : Pending) → s .pending ≡ p → s .device ≡ deviceOf device
+    → getD (s .adapters) id rules.free ≡ placeOf place → s ≡ stateWith s id (placeOf place) p (deviceOf device)
+as-it-was s id device place p q d e =
+    (λ i. record { ais = s .ais; adapters = s .adapters; pending = q i; device = s .device }) ∙ with-values s id device place p d e
+
+-- an outcome told
+module _ (L : Limits) (s : State) (b : List ℕ) {o : Outcome} {a : Answer} {t : State} where
+  pub told-refuse : (code : ℕ) → o ≡ refuse code → a ≡ record { code = code; count = 0 } → s ≡ t → Answers L s b o a t b
+  unfolding result
+  told-refuse code e f g = ap (result L s b) e ∙ (λ i. record { code = (sym f) i .code; count = (sym f) i .count; next = g i; buffer = b })
+
+  pub told-accept : (count : ℕ) (u : State) → o ≡ accept count u [] → a ≡ record { code = 0; count = count } → u ≡ t → Answers L s b o a t b
+  unfolding result
+  told-accept count u e f g = ap (result L s b) e ∙ (λ i. record { code = (sym f) i .code; count = (sym f) i .count; next = g i; buffer = b })
+
+module _ (places room : ℕ) (ais : Bool) (device : Device) (place : Place) (id : ℕ) (b : List ℕ) (o : Limits → State → Outcome) (p₀ p₁ : Pending) where
+  -- a reply from its answer and its device record, the place as it was
+  pub replies : {a : Answer} {r : Reply} {device′ : Device} → r ≡ record { answer = a; device = device′; place = place }
+      → ((L : Limits) (s : State) → L .places ≡ places → L .room ≡ room → s .ais ≡ ais → s .pending ≡ p₀ → s .device ≡ deviceOf device
+      → getD (s .adapters) id rules.free ≡ placeOf place → Answers L s b (o L s) a (stateWith s id (placeOf place) p₁ (deviceOf device′)) b)
+      → Replies places room ais device place id b o p₀ p₁ r
+  replies er f = subst (Replies places room ais device place id b o p₀ p₁) (sym er) f
+
+  -- an answer that leaves the values alone
+  pub from-answer : {a : Answer} {r : Reply} → r ≡ record { answer = a; device = device; place = place }
+      → ((L : Limits) (s : State) → L .room ≡ room → s .pending ≡ p₀ → Answers L s b (o L s) a (withPending p₁ s) b)
+      → Replies places room ais device place id b o p₀ p₁ r
+  from-answer {a} er f =
+      replies er (λ L s e1 e2 e3 e4 e5 e6. f L s e2 e4
+      ∙ (λ i. record { code = a .code; count = a .count; next = with-values s id device place p₁ e5 e6 i; buffer = b }))
+
+-- ---- the cases of an injection
+module _ (i : Subclass) (n : Device) where
+  abbrev pub which : Bool → Bool → Bool → Injection
+  which used drop full = choose used (choose drop Dropped (choose full Full (Appended i n))) NoAdapter
+
+  pub none-there : (u m f : Bool) → which u m f ≡ NoAdapter → u ≡ false
+  unfolding choose
+  none-there true true f e = let z : true ≡ false = cc in z
+  none-there true false true e = let z : true ≡ false = cc in z
+  none-there true false false e = let z : true ≡ false = cc in z
+  none-there false m f e = refl
+
+  pub dropped-there : (u m f : Bool) → which u m f ≡ Dropped → (u ≡ true) × (m ≡ true)
+  unfolding choose
+  dropped-there true true f e = (refl, refl)
+  dropped-there true false true e = (refl, (cc))
+  dropped-there true false false e = (refl, (cc))
+  dropped-there false m f e = ((cc), (cc))
+
+  pub full-there : (u m f : Bool) → which u m f ≡ Full → (u ≡ true) × (m ≡ false) × (f ≡ true)
+  unfolding choose
+  full-there true true f e = (refl, (cc), (cc))
+  full-there true false true e = (refl, refl, refl)
+  full-there true false false e = (refl, refl, (cc))
+  full-there false m f e = ((cc), (cc), (cc))
+
+  pub appended-there : (u m f : Bool) (i′ : Subclass) (n′ : Device) → which u m f ≡ Appended i′ n′ → (u ≡ true) × (m ≡ false) × (f ≡ false) × (i′ ≡ i) × (n′ ≡ n)
+  unfolding choose
+  appended-there true true f i′ n′ e = (refl, (cc), (cc), (cc), (cc))
+  appended-there true false true i′ n′ e = (refl, refl, (cc), (cc), (cc))
+  appended-there true false false i′ n′ e = (refl, refl, refl, (cc), (cc))
+  appended-there false m f i′ n′ e = ((cc), (cc), (cc), (cc), (cc))
+
+-- the device record after an accepted injection
+abbrev pub nextDevice : Bool → Device → Place → Device
+nextDevice ais device place =
+    record {
+      simm = device .simm;
+      nimm = choose (underAis ais place (device .simm)) (rules.withBit (place .isc) (device .nimm)) (device .nimm);
+      apf = device .apf;
+    }
+
+-- what an injection by an adapter comes to, in the rules' terms and by the code's values
+module _ (L : Limits) (s : State) (ais : Bool) (device : Device) (place : Place) (id : ℕ) (b : List ℕ) where
+  pub out-of-range : L .places ≤ id → request L s airqInject id b ≡ refuse 22
+  unfolding request injects
+  out-of-range h = fails _ _ _ (le-ltb id (L .places) h)
+
+  module _ (h : id < L .places) (e6 : getD (s .adapters) id rules.free ≡ placeOf place) where
+    pub nobody-there : place .used ≡ false → request L s airqInject id b ≡ refuse 22
+    unfolding request injects
+    nobody-there u = passes _ _ _ (lt-ltb id (L .places) h) ∙ unheld _ _ _ (e6 ∙ place-free place u)
+
+    module _ (u : place .used ≡ true) (e3 : s .ais ≡ ais) (e5 : s .device ≡ deviceOf device) where
+      looked-up : request L s airqInject id b
+          ≡ choose (place .masked || rules-underAis s (adapterOf place) (s .device .nimm)) (accept 0 s [])
+          (need ltb (queued (s .pending)) (L .room) else 16 ⨾ accept 1 (injected s (adapterOf place)) [])
+      unfolding request injects
+      looked-up = passes _ _ _ (lt-ltb id (L .places) h) ∙ found _ (adapterOf place) _ _ (e6 ∙ place-used place u)
+
+      same-test : (place .masked || rules-underAis s (adapterOf place) (s .device .nimm)) ≡ (place .masked || underAis ais place (device .nimm))
+      same-test = λ i. place .masked || (e3 i && (place .suppressible && rules.hasBit (place .isc) (e5 i .nimm)))
+
+      pub is-dropped : (place .masked || underAis ais place (device .nimm)) ≡ true → request L s airqInject id b ≡ accept 0 s []
+      is-dropped m = looked-up ∙ chosen _ _ _ (same-test ∙ m)
+
+      pub is-full : (place .masked || underAis ais place (device .nimm)) ≡ false → L .room ≤ queued (s .pending) → request L s airqInject id b ≡ refuse 16
+      is-full m f = looked-up ∙ passed _ _ _ (same-test ∙ m) ∙ fails _ _ _ (le-ltb (queued (s .pending)) (L .room) f)
+
+      pub is-appended : (place .masked || underAis ais place (device .nimm)) ≡ false → queued (s .pending) < L .room
+          → request L s airqInject id b ≡ accept 1 (injected s (adapterOf place)) []
+      is-appended m f = looked-up ∙ passed _ _ _ (same-test ∙ m) ∙ passes _ _ _ (lt-ltb (queued (s .pending)) (L .room) f)
+
+      pub injected-is : (p₀ : Pending) → s .pending ≡ p₀
+          → injected s (adapterOf place)
+          ≡ stateWith s id (placeOf place) (addIo (place .isc) (adapterInterrupt (place .isc)) p₀) (deviceOf (nextDevice ais device place))
+      unfolding injected
+      injected-is p₀ e4 =
+          λ i. record {
+            ais = s .ais;
+            adapters = (sym (set-getD (s .adapters) id rules.free) ∙ ap (set (s .adapters) id) e6) i;
+            pending = addIo (place .isc) (adapterInterrupt (place .isc)) (e4 i);
+            device =
+                record {
+                  simm = e5 i .simm;
+                  nimm =
+                      choose (e3 i && (place .suppressible && rules.hasBit (place .isc) (e5 i .simm))) (rules.withBit (place .isc) (e5 i .nimm)) (e5 i .nimm);
+                  apf = e5 i .apf;
+                };
+          }
+
+-- ---- which request a group number is
+pub no-get : (g : ℕ) → (g ≡ 1 → ⊥) → (g ≡ 11 → ⊥) → getRequest g ≡ noRequest
+no-get zero h1 h11 = refl
+no-get (suc zero) h1 h11 = absurd (h1 refl)
+no-get (suc (suc zero)) h1 h11 = refl
+no-get (suc (suc (suc zero))) h1 h11 = refl
+no-get (suc (suc (suc (suc zero)))) h1 h11 = refl
+no-get (suc (suc (suc (suc (suc zero))))) h1 h11 = refl
+no-get (suc (suc (suc (suc (suc (suc zero)))))) h1 h11 = refl
+no-get (suc (suc (suc (suc (suc (suc (suc zero))))))) h1 h11 = refl
+no-get (suc (suc (suc (suc (suc (suc (suc (suc zero)))))))) h1 h11 = refl
+no-get (suc (suc (suc (suc (suc (suc (suc (suc (suc zero))))))))) h1 h11 = refl
+no-get (suc (suc (suc (suc (suc (suc (suc (suc (suc (suc zero)))))))))) h1 h11 = refl
+no-get (suc (suc (suc (suc (suc (suc (suc (suc (suc (suc (suc zero))))))))))) h1 h11 = absurd (h11 refl)
+no-get (suc (suc (suc (suc (suc (suc (suc (suc (suc (suc (suc (suc n)))))))))))) h1 h11 = refl
+
+-- a reply to the set request of one group number is one to that of an equal number; an answer to a get likewise
+pub as-set : {places room : ℕ} {ais : Bool} (device : Device) (place : Place) {b : List ℕ} {p₀ p₁ : Pending} (r : Reply) (attr k : ℕ) {g : ℕ} → g ≡ k
+    → Replies places room ais device place (aboutOf k attr b) b (λ L s. request L s (setRequest k) attr b) p₀ p₁ r
+    → Replies places room ais device place (aboutOf g attr b) b (λ L s. request L s (setRequest g) attr b) p₀ p₁ r
+as-set {places} {room} {ais} device place {b} {p₀} {p₁} r attr k e h =
+    subst (λ (x : ℕ). Replies places room ais device place (aboutOf x attr b) b (λ L s. request L s (setRequest x) attr b) p₀ p₁ r) (sym e) h
+
+pub as-get : (L : Limits) (s : State) (attr : ℕ) (b c : List ℕ) {a : Answer} (k : ℕ) {g : ℕ} → g ≡ k
+    → Answers L s b (request L s (getRequest k) attr b) a s c → Answers L s b (request L s (getRequest g) attr b) a s c
+as-get L s attr b c {a} k e h = subst (λ (x : ℕ). Answers L s b (request L s (getRequest x) attr b) a s c) (sym e) h
+
+-- a refused reply's answer is a refusal
+pub code-of : {a : Answer} {d : Device} {p : Place} {r : Reply} → r ≡ record { answer = a; device = d; place = p } → (r .answer .code ≡ 0 → ⊥) → a .code ≡ 0 → ⊥
+code-of er n e = n (ap (λ (x : Reply). x .answer .code) er ∙ e)
+
+pub place-of : {a : Answer} {d : Device} {p : Place} {r : Reply} → r ≡ record { answer = a; device = d; place = p } → Canonical p → Canonical (r .place)
+place-of er h = subst (λ (x : Reply). Canonical (x .place)) (sym er) h

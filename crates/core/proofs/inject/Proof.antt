@@ -1,0 +1,137 @@
+-- `core::inject` meets its contract. Assumes nothing.
+use mathlib.Core.Path.{refl, ap, sym, _∙_}
+use native.Mathlib.Omega.{arith}
+use borrow.Author.Tests.{leb-true, leb-false}
+use Rattle.rules.specs.Requests.{adapterInterrupt}
+use Rattle.rules.specs.State.{queued, addIo}
+use Rattle.records.specs.Memory.{pendingOf}
+use Rattle.records.proofs.Laws.{queued-sum}
+use Rattle.adapters.specs.Values.{injectionOf, placeOf, deviceOf}
+use Rattle.words.specs.declared.Subclass.{Subclass}
+use Rattle.answers.specs.declared.Answer.{Answer}
+use Rattle.values.specs.declared.Reply.{Reply}
+use Rattle.values.specs.States.{stateWith}
+use Rattle.core.proofs.Laws.{as-it-was, told-refuse, told-accept, replies, none-there, dropped-there, full-there, appended-there, out-of-range, nobody-there, is-dropped, is-full, is-appended, injected-is, code-of, place-of}
+use borrow.Author.Needs.{needs}
+use Rattle.core.proofs.inject.Statement.{statement}
+use Rattle.core.proofs.inject.Tie as tie
+
+refuse-requires : tie.Need-refuse-requires
+refuse-requires c κs = search needs
+
+with-answer-requires : tie.Need-with-answer-requires
+with-answer-requires c κs = search needs
+
+returns : tie.Need-returns
+unfolding injectionOf
+returns c = (
+  λ g b. replies _ _ _ _ _ _ _ _ _ _ (c .with-answer .ensures) (λ L s e1 e2 e3 e4 e5 e6. told-refuse L s _ 22 (out-of-range L s (c .before .before .before .before .args .ais) (c .before .before .before .before .args .device) (c .before .before .before .before .args .place) (c .before .before .before .before .args .id .0) b (omega (arith, e1, c .before .before .if1 .taken))) (c .before .refuse .ensures) (as-it-was s _ _ _ _ e4 e5 e6)),
+  ((c .before .before .before .before .pre .1, place-of (c .with-answer .ensures) (c .before .before .before .before .pre .2)), λ n. (ap (λ (x : Reply). x .device) (c .with-answer .ensures), ap (λ (x : Reply). x .place) (c .with-answer .ensures), refl, refl, refl)),
+)
+
+queued-requires : tie.Need-queued-requires
+queued-requires c κs = search needs
+
+inject-requires : tie.Need-inject-requires
+inject-requires c κs = search needs
+
+enum-told : tie.Need-enum-told
+enum-told c = search needs
+
+refuse-requires-2 : tie.Need-refuse-requires-2
+refuse-requires-2 c κs = search needs
+
+with-answer-requires-2 : tie.Need-with-answer-requires-2
+with-answer-requires-2 c κs = search needs
+
+enum-told-2 : tie.Need-enum-told-2
+enum-told-2 c = search needs
+
+accept-requires : tie.Need-accept-requires
+accept-requires c κs = search needs
+
+with-answer-requires-3 : tie.Need-with-answer-requires-3
+with-answer-requires-3 c κs = search needs
+
+enum-told-3 : tie.Need-enum-told-3
+enum-told-3 c = search needs
+
+refuse-requires-3 : tie.Need-refuse-requires-3
+refuse-requires-3 c κs = search needs
+
+with-answer-requires-4 : tie.Need-with-answer-requires-4
+with-answer-requires-4 c κs = search needs
+
+enum-known-what : tie.Need-enum-known-what
+enum-known-what c = search needs
+
+append-interrupt-requires : tie.Need-append-interrupt-requires
+unfolding injectionOf
+append-interrupt-requires c κs = let d = appended-there _ _ _ _ _ _ _ (sym (c .before .before .before .before .before .before .inject .ensures) ∙ c .before .before .before .before .what .given .1) in (
+  omega (arith, ap (λ (x : Subclass). x .0) (d .3), c .before .before .before .before .before .before .before .before .before .before .before .before .before .before .before .pre .2 .iscSmall),
+  omega (arith, leb-false (c .before .before .before .before .before .before .before .before .before .before .before .before .before .before .before .args .room) (c .before .before .before .before .before .before .before .queued .result) (d .2), c .before .before .before .before .before .before .before .queued .ensures, c .before .before .before .before .before .before .before .before .before .before .before .before .before .before .before .pre .0),
+  c .before .before .before .before .before .before .before .before .before .before .before .before .before .before .before .pre .1,
+)
+
+accept-requires-2 : tie.Need-accept-requires-2
+accept-requires-2 c κs = search needs
+
+with-answer-requires-5 : tie.Need-with-answer-requires-5
+with-answer-requires-5 c κs = search needs
+
+returns-2 : tie.Need-returns-2
+unfolding injectionOf
+returns-2 c = (
+  λ g b. replies _ _ _ _ _ _ _ _ _ _ (c .with-answer2 .ensures) (λ L s e1 e2 e3 e4 e5 e6. told-refuse L s _ 22 (nobody-there L s (c .before .before .before .before .before .before .before .before .before .before .before .before .before .args .ais) (c .before .before .before .before .before .before .before .before .before .before .before .before .before .args .device) (c .before .before .before .before .before .before .before .before .before .before .before .before .before .args .place) (c .before .before .before .before .before .before .before .before .before .before .before .before .before .args .id .0) b (omega (arith, e1, c .before .before .before .before .before .before .before .before .before .before .before .if1 .left)) e6 (none-there _ _ _ _ _ (sym (c .before .before .before .before .inject .ensures) ∙ c .before .before .enum-told .given .1))) (c .before .refuse2 .ensures) (as-it-was s _ _ _ _ e4 e5 e6)),
+  ((c .before .before .before .before .before .before .before .before .before .before .before .before .before .pre .1, place-of (c .with-answer2 .ensures) (c .before .before .before .before .before .before .before .before .before .before .before .before .before .pre .2)), λ n. (ap (λ (x : Reply). x .device) (c .with-answer2 .ensures), ap (λ (x : Reply). x .place) (c .with-answer2 .ensures), refl, refl, refl)),
+)
+
+returns-3 : tie.Need-returns-3
+unfolding injectionOf
+returns-3 c = (
+  λ g b. replies _ _ _ _ _ _ _ _ _ _ (c .with-answer3 .ensures) (λ L s e1 e2 e3 e4 e5 e6. let d = dropped-there _ _ _ _ _ (sym (c .before .before .before .before .inject .ensures) ∙ c .before .before .enum-told2 .given .1) in told-accept L s _ 0 s (is-dropped L s (c .before .before .before .before .before .before .before .before .before .before .before .before .before .args .ais) (c .before .before .before .before .before .before .before .before .before .before .before .before .before .args .device) (c .before .before .before .before .before .before .before .before .before .before .before .before .before .args .place) (c .before .before .before .before .before .before .before .before .before .before .before .before .before .args .id .0) b (omega (arith, e1, c .before .before .before .before .before .before .before .before .before .before .before .if1 .left)) e6 (d .0) e3 e5 (d .1)) (c .before .accept .ensures) (as-it-was s _ _ _ _ e4 e5 e6)),
+  ((c .before .before .before .before .before .before .before .before .before .before .before .before .before .pre .1, place-of (c .with-answer3 .ensures) (c .before .before .before .before .before .before .before .before .before .before .before .before .before .pre .2)), λ n. (ap (λ (x : Reply). x .device) (c .with-answer3 .ensures), ap (λ (x : Reply). x .place) (c .with-answer3 .ensures), refl, refl, refl)),
+)
+
+returns-4 : tie.Need-returns-4
+unfolding injectionOf
+returns-4 c = (
+  λ g b. replies _ _ _ _ _ _ _ _ _ _ (c .with-answer4 .ensures) (λ L s e1 e2 e3 e4 e5 e6. let d = full-there _ _ _ _ _ (sym (c .before .before .before .before .inject .ensures) ∙ c .before .before .enum-told3 .given .1) in told-refuse L s _ 16 (is-full L s (c .before .before .before .before .before .before .before .before .before .before .before .before .before .args .ais) (c .before .before .before .before .before .before .before .before .before .before .before .before .before .args .device) (c .before .before .before .before .before .before .before .before .before .before .before .before .before .args .place) (c .before .before .before .before .before .before .before .before .before .before .before .before .before .args .id .0) b (omega (arith, e1, c .before .before .before .before .before .before .before .before .before .before .before .if1 .left)) e6 (d .0) e3 e5 (d .1) (omega (arith, e2, leb-true (c .before .before .before .before .before .before .before .before .before .before .before .before .before .args .room) (c .before .before .before .before .before .queued .result) (d .2), c .before .before .before .before .before .queued .ensures, (ap queued e4 ∙ queued-sum (c .before .before .before .before .before .before .before .before .before .before .before .before .before .args .order .now) (c .before .before .before .before .before .before .before .before .before .before .before .before .before .args .counts .now) (c .before .before .before .before .before .before .before .before .before .before .before .before .before .args .slots .now) g (omega (arith, c .before .before .before .before .before .before .before .before .before .before .before .before .before .pre .1 .few, c .before .before .before .before .before .before .before .before .before .listed2 .given .0)) (c .before .before .before .before .before .before .before .counted2 .given .0))))) (c .before .refuse3 .ensures) (as-it-was s _ _ _ _ e4 e5 e6)),
+  ((c .before .before .before .before .before .before .before .before .before .before .before .before .before .pre .1, place-of (c .with-answer4 .ensures) (c .before .before .before .before .before .before .before .before .before .before .before .before .before .pre .2)), λ n. (ap (λ (x : Reply). x .device) (c .with-answer4 .ensures), ap (λ (x : Reply). x .place) (c .with-answer4 .ensures), refl, refl, refl)),
+)
+
+returns-5 : tie.Need-returns-5
+unfolding injectionOf
+returns-5 c = let d = appended-there _ _ _ _ _ _ _ (sym (c .before .before .before .before .before .before .before .before .before .inject .ensures) ∙ c .before .before .before .before .before .before .before .what .given .1) in (
+  λ g b. replies _ _ _ _ _ _ _ _ _ _ (c .with-answer5 .ensures) (λ L s e1 e2 e3 e4 e5 e6.
+      told-accept L s _ 1 _ (is-appended L s (c .before .before .before .before .before .before .before .before .before .before .before .before .before .before .before .before .before .before .args .ais) (c .before .before .before .before .before .before .before .before .before .before .before .before .before .before .before .before .before .before .args .device) (c .before .before .before .before .before .before .before .before .before .before .before .before .before .before .before .before .before .before .args .place) (c .before .before .before .before .before .before .before .before .before .before .before .before .before .before .before .before .before .before .args .id .0) b (omega (arith, e1, c .before .before .before .before .before .before .before .before .before .before .before .before .before .before .before .before .if1 .left)) e6 (d .0) e3 e5 (d .1) (omega (arith, e2, leb-false (c .before .before .before .before .before .before .before .before .before .before .before .before .before .before .before .before .before .before .args .room) (c .before .before .before .before .before .before .before .before .before .before .queued .result) (d .2), c .before .before .before .before .before .before .before .before .before .before .queued .ensures, (ap queued e4 ∙ queued-sum (c .before .before .before .before .before .before .before .before .before .before .before .before .before .before .before .before .before .before .args .order .now) (c .before .before .before .before .before .before .before .before .before .before .before .before .before .before .before .before .before .before .args .counts .now) (c .before .before .before .before .before .before .before .before .before .before .before .before .before .before .before .before .before .before .args .slots .now) g (omega (arith, c .before .before .before .before .before .before .before .before .before .before .before .before .before .before .before .before .before .before .pre .1 .few, c .before .before .before .before .before .before .before .before .before .before .before .before .before .before .listed2 .given .0)) (c .before .before .before .before .before .before .before .before .before .before .before .before .counted2 .given .0))))) (c .before .accept2 .ensures)
+      (injected-is L s (c .before .before .before .before .before .before .before .before .before .before .before .before .before .before .before .before .before .before .args .ais) (c .before .before .before .before .before .before .before .before .before .before .before .before .before .before .before .before .before .before .args .device) (c .before .before .before .before .before .before .before .before .before .before .before .before .before .before .before .before .before .before .args .place) (c .before .before .before .before .before .before .before .before .before .before .before .before .before .before .before .before .before .before .args .id .0) b (omega (arith, e1, c .before .before .before .before .before .before .before .before .before .before .before .before .before .before .before .before .if1 .left)) e6 (d .0) e3 e5 _ e4 ∙ (λ i. stateWith s (c .before .before .before .before .before .before .before .before .before .before .before .before .before .before .before .before .before .before .args .id .0) (placeOf (c .before .before .before .before .before .before .before .before .before .before .before .before .before .before .before .before .before .before .args .place)) (sym (c .before .before .append-interrupt .ensures .0 g ∙ ap (λ (x : Subclass). addIo (x .0) (adapterInterrupt (x .0)) (pendingOf (c .before .before .before .before .before .before .before .before .before .before .before .before .before .before .before .before .before .before .args .order .now) (c .before .before .before .before .before .before .before .before .before .before .before .before .before .before .before .before .before .before .args .counts .now) (c .before .before .before .before .before .before .before .before .before .before .before .before .before .before .before .before .before .before .args .slots .now) g)) (d .3)) i) (deviceOf (sym (d .4) i))))),
+  ((c .before .before .append-interrupt .ensures .1, place-of (c .with-answer5 .ensures) (c .before .before .before .before .before .before .before .before .before .before .before .before .before .before .before .before .before .before .pre .2)), λ n. absurd (code-of (c .with-answer5 .ensures) n (ap (λ (x : Answer). x .code) (c .before .accept2 .ensures)))),
+)
+
+pub inject-spec : {M : Type 1} → statement M
+inject-spec =
+    tie.close
+    (tie.spec
+    refuse-requires
+    with-answer-requires
+    returns
+    queued-requires
+    inject-requires
+    enum-told
+    refuse-requires-2
+    with-answer-requires-2
+    enum-told-2
+    accept-requires
+    with-answer-requires-3
+    enum-told-3
+    refuse-requires-3
+    with-answer-requires-4
+    enum-known-what
+    append-interrupt-requires
+    accept-requires-2
+    with-answer-requires-5
+    returns-2
+    returns-3
+    returns-4
+    returns-5)

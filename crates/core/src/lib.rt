@@ -1,0 +1,128 @@
+// Inner crate: every request of groups 1 to 11, on lent records, with a device record and one adapter place by value.
+ghost use mathlib.Core.Path.{_≡_};
+ghost use mathlib.Core.List.{List};
+ghost use Prim.Native.Nat.{ℕ, _≤_};
+ghost use Rattle.rules.specs.State.{Limits, State};
+ghost use Rattle.rules.specs.Requests.{airqInject, setRequest, getRequest, request};
+ghost use Rattle.queues.specs.Queues.{Held};
+ghost use Rattle.answers.specs.Answers.{Answers};
+ghost use Rattle.records.specs.Memory.{pendingOf};
+ghost use Rattle.adapters.specs.Values.{deviceOf, Canonical};
+ghost use Rattle.values.specs.States.{aboutOf, Replies};
+use adapters::Device;
+use adapters::Injection;
+use adapters::Place;
+use answers::Answer;
+use values::Reply;
+use words::AdapterId;
+
+// Group 10: an adapter interrupt.
+fn inject(
+    slots: &mut [u8; 18432],
+    order: &mut [u8; 256],
+    counts: &mut [usize; 9],
+    places: u64,
+    room: usize,
+    ais: bool,
+    device: Device,
+    place: Place,
+    id: AdapterId,
+) -> Reply
+    requires { ⌜ (room ≤ 256) × Held (now order) (now counts) × Canonical place ⌝ }
+    ensures answer { λ r. ⌜ ((singles b : List ℕ) → Replies places room ais device place (id .0) b (λ L s. request L s airqInject (id .0) b) (pendingOf (now (order .entry)) (now (counts .entry)) (now (slots .entry)) singles) (pendingOf (now (order .exit)) (now (counts .exit)) (now (slots .exit)) singles) r) ⌝ }
+    ensures held { λ r. ⌜ Held (now (order .exit)) (now (counts .exit)) × Canonical (r .place) ⌝ }
+    ensures kept { λ r. ⌜ ((r .answer .code ≡ 0 → ⊥) → (r .device ≡ device) × (r .place ≡ place) × (now (slots .exit) ≡ now (slots .entry)) × (now (order .exit) ≡ now (order .entry)) × (now (counts .exit) ≡ now (counts .entry))) ⌝ }
+{
+    if places <= id.0 {
+        return values::with_answer(answers::refuse(22), device, place);
+    }
+    // lent as slices so that their lengths are known
+    let listed: &[u8] = order;
+    let counted: &[usize] = counts;
+    let full = room <= queues::queued(counts);
+    let what = adapters::inject(ais, device, place, full);
+    match what {
+        Injection::NoAdapter => values::with_answer(answers::refuse(22), device, place),
+        Injection::Dropped => values::with_answer(answers::accept(0), device, place),
+        Injection::Full => values::with_answer(answers::refuse(16), device, place),
+        Injection::Appended(isc, next) => {
+            records::append_interrupt(slots, order, counts, isc);
+            values::with_answer(answers::accept(1), next, place)
+        }
+    }
+}
+
+// A request that sets.
+pub fn set_request(
+    slots: &mut [u8; 18432],
+    order: &mut [u8; 256],
+    counts: &mut [usize; 9],
+    singles: &mut [u8; 146],
+    places: u64,
+    room: usize,
+    ais: bool,
+    device: Device,
+    place: Place,
+    group: u32,
+    attr: u64,
+    payload: &[u8],
+) -> Reply
+    requires { ⌜ (room ≤ 256) × Held (now order) (now counts) × Canonical place ⌝ }
+    ensures answer { λ r. ⌜ Replies places room ais device place (aboutOf group attr (now (payload .entry))) (now (payload .entry)) (λ L s. request L s (setRequest group) attr (now (payload .entry))) (pendingOf (now (order .entry)) (now (counts .entry)) (now (slots .entry)) (now (singles .entry))) (pendingOf (now (order .exit)) (now (counts .exit)) (now (slots .exit)) (now (singles .exit))) r ⌝ }
+    ensures held { λ r. ⌜ Held (now (order .exit)) (now (counts .exit)) × Canonical (r .place) ⌝ }
+    ensures kept { λ r. ⌜ ((r .answer .code ≡ 0 → ⊥) → (r .device ≡ device) × (r .place ≡ place) × (now (slots .exit) ≡ now (slots .entry)) × (now (order .exit) ≡ now (order .entry)) × (now (counts .exit) ≡ now (counts .entry)) × (now (singles .exit) ≡ now (singles .entry))) ⌝ }
+{
+    if group == 2 {
+        let a = records::enqueue_irqs(slots, order, counts, singles, room, attr, payload);
+        return values::with_answer(a, device, place);
+    }
+    if group == 3 {
+        // lent as a slice so that its length is known
+        let listed: &[u8] = order;
+        let a = outgoing::clear_irqs(counts, singles, attr);
+        return values::with_answer(a, device, place);
+    }
+    if group == 8 {
+        let a = outgoing::clear_io(slots, order, counts, attr, payload);
+        return values::with_answer(a, device, place);
+    }
+    if group == 10 {
+        return inject(
+            slots,
+            order,
+            counts,
+            places,
+            room,
+            ais,
+            device,
+            place,
+            AdapterId(attr),
+        );
+    }
+    values::set_values(places, ais, device, place, group, attr, payload)
+}
+
+// A request that gets.
+pub fn get_request(
+    slots: &[u8; 18432],
+    order: &[u8; 256],
+    counts: &[usize; 9],
+    singles: &[u8; 146],
+    ais: bool,
+    device: Device,
+    group: u32,
+    attr: u64,
+    out: &mut [u8],
+) -> Answer
+    requires { ⌜ Held (now order) (now counts) ⌝ }
+    ensures answer { λ r. ⌜ ((L : Limits) (s : State) → s .ais ≡ ais → s .pending ≡ pendingOf (now (order .entry)) (now (counts .entry)) (now (slots .entry)) (now (singles .entry)) → s .device ≡ deviceOf device → Answers L s (now (out .entry)) (request L s (getRequest group) attr (now (out .entry))) r s (now (out .exit))) ⌝ }
+    ensures kept { λ r. ⌜ ((r .code ≡ 0 → ⊥) → now (out .exit) ≡ now (out .entry)) ⌝ }
+{
+    if group == 1 {
+        return outgoing::get_all(slots, order, counts, singles, attr, out);
+    }
+    if group == 11 {
+        return values::get_masks(ais, device, attr, out);
+    }
+    answers::refuse(22)
+}

@@ -1,0 +1,347 @@
+-- Laws of the pending records in lent memory: the listing, what a removal leaves, and the four cases of the take. Assumes nothing.
+use mathlib.Core.Path.{_≡_, refl, sym, ap, _∙_}
+use mathlib.Core.Bool.{Bool, true, false, not, _&&_}
+use mathlib.Core.Option.{Option, none, some}
+use mathlib.Core.List.{List, [], _∷_, _++_, flatten, append-assoc, append-nil}
+use Prim.Native.Nat.{ℕ, zero, suc, _+_, _*_, _≤_, _<_}
+use native.Mathlib.Nat.{not-suc-le-zero, le-of-suc-le-suc}
+use native.Mathlib.Omega.{arith}
+use borrow.Author.Tests.{le-leb, lt-leb, ne-eqb, ltb-false}
+use lib.ListN.{length, take, drop, getD, set, replicate, length-append, length-take, length-drop}
+use lib.Dec.{eqb, ltb}
+use lib.Seq.{take-all, take-suc, take-at, drop-at, drop-drop, take-set-le, getD-take, getD-set-same, getD-set-other, paste, length-paste}
+use Rattle.rules.specs.Bytes.{choose, byte, part, field}
+use Rattle.rules.specs.State.{Limits, State, Record, Pending, nothing, withPending, single, listing}
+use Rattle.rules.specs.Outcome.{Outcome, refuse, accept, result}
+use Rattle.rules.specs.Requests.{isZero, isFor, request, clearIoIrq, clearsIo, removes, clears, lists}
+use Rattle.rules.specs.Take.{orElse, handMchk, handService, handDone, handIo, handed, handsOut, takes}
+use Rattle.rules.proofs.Checks.{passes, fails}
+use Rattle.rules.proofs.Lists.{flatten-append}
+use Rattle.answers.specs.Answers.{Answers}
+use Rattle.answers.specs.declared.Answer.{Answer}
+use Rattle.slots.specs.Slots.{removeAt}
+use Rattle.queues.specs.Queues.{sum, cut, queues}
+use Rattle.queues.proofs.Laws.{length-queues, length-flatten-queues, queues-none}
+use Rattle.singles.specs.Singles.{ifThere, serviceOf, mchkOf}
+use Rattle.singles.proofs.Laws.{absent-if, there-if}
+use Rattle.search.specs.declared.Found.{Found}
+use Rattle.search.specs.declared.Found.the-variants.{At, None}
+use Rattle.search.specs.Search.{searchQueues, leftAt, handedAt}
+use Rattle.search.proofs.Laws.{found-first, take-is, clear-is}
+use Rattle.records.specs.Memory.{pendingOf}
+
+-- ---- the listing of nine queues and two records
+whole : (qs : List (List Record)) → length qs ≡ 9 → flatten (take 8 qs) ++ getD qs 8 [] ≡ flatten qs
+unfolding flatten
+whole qs h =
+    sym (ap flatten (sym (take-all 9 qs (omega arith)) ∙ take-suc qs 8 [] (omega arith)) ∙ flatten-append (take 8 qs) (getD qs 8 [] ∷ [])
+    ∙ ap (λ (l : List Record). flatten (take 8 qs) ++ l) (append-nil (getD qs 8 [])))
+
+module _ (o c b g : List ℕ) (h : length c ≡ 9) where
+  pub listing-is : listing (pendingOf o c b g) ≡ (flatten (queues o c b) ++ single (serviceOf g)) ++ single (mchkOf g)
+  unfolding listing pendingOf
+  listing-is =
+      sym (append-assoc (flatten (take 8 (queues o c b))) (getD (queues o c b) 8 []) _)
+      ∙ rw (whole (queues o c b) (length-queues o c b ∙ h)) (sym (append-assoc (flatten (queues o c b)) (single (serviceOf g)) (single (mchkOf g))))
+
+  pub length-listing : sum c ≤ length o
+      → length (listing (pendingOf o c b g)) ≡ sum c + length (single (serviceOf g)) + length (single (mchkOf g))
+  length-listing k = rw (listing-is, length-append, length-append, length-flatten-queues o c b k)
+
+  pub flatten-listing : flatten (listing (pendingOf o c b g))
+      ≡ (flatten (flatten (queues o c b)) ++ flatten (single (serviceOf g))) ++ flatten (single (mchkOf g))
+  flatten-listing = rw (listing-is, flatten-append, flatten-append)
+
+-- what has_service and has_mchk say
+module _ (g : List ℕ) (t : Bool) where
+  pub service-there : (r : Record) → t ≡ not (eqb (byte 144 g) 0) → t ≡ true → r ≡ part 0 72 g → serviceOf g ≡ some r
+  unfolding serviceOf
+  service-there r e f k = rw k (there-if (byte 144 g) (part 0 72 g) t e f)
+
+  pub service-absent : t ≡ not (eqb (byte 144 g) 0) → t ≡ false → serviceOf g ≡ none
+  unfolding serviceOf
+  service-absent = absent-if (byte 144 g) (part 0 72 g) t
+
+  pub mchk-there : (r : Record) → t ≡ not (eqb (byte 145 g) 0) → t ≡ true → r ≡ part 72 72 g → mchkOf g ≡ some r
+  unfolding mchkOf
+  mchk-there r e f k = rw k (there-if (byte 145 g) (part 72 72 g) t e f)
+
+  pub mchk-absent : t ≡ not (eqb (byte 145 g) 0) → t ≡ false → mchkOf g ≡ none
+  unfolding mchkOf
+  mchk-absent = absent-if (byte 145 g) (part 72 72 g) t
+
+-- one for a record that is there
+one-there : (n : ℕ) (r : Record) (t : Bool) → t ≡ not (eqb n 0) → choose t 1 0 ≡ length (single (ifThere n r))
+unfolding choose
+one-there n r true e = rw (there-if n r true e refl)
+one-there n r false e = rw (absent-if n r false e refl)
+
+pub count-is : (o c b g : List ℕ) (q x y : ℕ) (t u : Bool) → length c ≡ 9 → sum c ≤ length o → q ≡ sum c → t ≡ not (eqb (byte 144 g) 0)
+    → u ≡ not (eqb (byte 145 g) 0) → x ≡ choose t 1 0 → y ≡ choose u 1 0 → q + x + y ≡ length (listing (pendingOf o c b g))
+unfolding serviceOf mchkOf
+count-is o c b g q x y t u h k eq et eu ex ey =
+    rw (eq, ex, ey, one-there (byte 144 g) (part 0 72 g) t et, one-there (byte 145 g) (part 72 72 g) u eu) (sym (length-listing o c b g h k))
+
+-- ---- what stands in out: the records l, and out's own bytes from n on
+pub record Wrote (out d : List ℕ) (l : List Record) (n : ℕ) : Type 0 where
+  pub text : d ≡ flatten l ++ drop n out
+  pub size : length (flatten l) ≡ n
+  pub count : n ≡ 72 * length l
+  pub long : length d ≡ length out
+
+module _ (out d : List ℕ) (l : List Record) (n : ℕ) (w : Wrote out d l n) (x : Option Record) where
+  pub none-more : x ≡ none → Wrote out d (l ++ single x) n
+  none-more e = rw (e, append-nil) w
+
+  pub one-more : (r : Record) → x ≡ some r → length r ≡ 72 → n + 72 ≤ length out → Wrote out (paste d n r 72) (l ++ single x) (n + 72)
+  unfolding flatten
+  one-more r e f h =
+      let k : flatten (l ++ single x) ≡ flatten l ++ r = rw (e, flatten-append) (ap (λ (t : Record). flatten l ++ t) (append-nil r)) in
+      let front : take n d ≡ flatten l = rw (w .text) (take-at (flatten l) (drop n out) n (w .size)) in
+      let back : drop (n + 72) d ≡ drop (n + 72) out = sym (drop-drop 72 n d) ∙ rw (w .text, drop-at (flatten l) (drop n out) n (w .size)) (drop-drop 72 n out) in
+      record {
+        text = rw (k, front, back, take-all 72 r (omega arith));
+        size = rw (k, length-append, w .size, f);
+        count = rw (e, length-append) (omega (arith, w .count));
+        long = length-paste d n r 72 (omega (arith, w .long)) (omega arith) ∙ w .long;
+      }
+
+  pub room-more : (r : Record) → x ≡ some r → (m : ℕ) → 72 * length (l ++ single x) ≤ m → n + 72 ≤ m
+  room-more r e m h = omega (arith, rw (e, length-append) at h, w .count)
+
+pub front : (k l : List Record) (m : ℕ) → 72 * length (k ++ l) ≤ m → 72 * length k ≤ m
+front k l m h = omega (arith, rw length-append at h)
+
+pub wrote-all : (o c b g out d : List ℕ) (n : ℕ) → length c ≡ 9 → Wrote out d ((flatten (queues o c b) ++ single (serviceOf g)) ++ single (mchkOf g)) n
+    → d ≡ flatten (listing (pendingOf o c b g)) ++ drop (72 * length (listing (pendingOf o c b g))) out
+wrote-all o c b g out d n h w = rw (listing-is o c b g h, ← w .count) (w .text)
+
+pub wrote-queues : (o c b out d : List ℕ) (n : ℕ) → n ≡ sum c → sum c ≤ length o → sum c * 72 ≤ length out → length d ≡ length out
+    → d ≡ flatten (flatten (queues o c b)) ++ drop (sum c * 72) out → Wrote out d (flatten (queues o c b)) (n * 72)
+wrote-queues o c b out d n en k m f e =
+    record {
+      text = rw en e;
+      size = omega (arith, ap length e, length-append (flatten (flatten (queues o c b))) (drop (sum c * 72) out), length-drop (sum c * 72) out);
+      count = rw (length-flatten-queues o c b k) (omega arith);
+      long = f;
+    }
+
+-- ---- what a removal leaves
+take-set : {A : Type 0} (n : ℕ) (l : List A) (i : ℕ) (a : A) → i < n → take n (set l i a) ≡ set (take n l) i a
+take-set zero l i a h = absurd (not-suc-le-zero h)
+take-set (suc n) [] i a h = refl
+take-set (suc n) (x ∷ l) zero a h = refl
+take-set (suc n) (x ∷ l) (suc i) a h = ap (λ (t : List _). x ∷ t) (take-set n l i a (le-of-suc-le-suc h))
+
+within : (qs : List (List Record)) (i : ℕ) → 0 < length (getD qs i []) → i < length qs
+within [] i h = absurd (not-suc-le-zero h)
+within (q ∷ qs) zero h = omega arith
+within (q ∷ qs) (suc i) h = omega (arith, within qs i h)
+
+module _ (o c u v b g : List ℕ) where
+  pub io-left : (x j : ℕ) → x < 8 → queues u v b ≡ set (queues o c b) x (removeAt j (getD (queues o c b) x []))
+      → let p = pendingOf o c b g in
+      pendingOf u v b g ≡ record { io = set (p .io) x (removeAt j (getD (p .io) x [])); done = p .done; service = p .service; mchk = p .mchk }
+  unfolding pendingOf
+  io-left x j h e =
+      let k : 8 ≡ x → ⊥ = omega arith in
+      rw (e, take-set 8 (queues o c b) x _ h, getD-set-other (queues o c b) x 8 _ [] k, getD-take 8 (queues o c b) x [] h)
+
+  pub done-left : 0 < length (pendingOf o c b g .done) → queues u v b ≡ set (queues o c b) 8 (removeAt 0 (getD (queues o c b) 8 []))
+      → let p = pendingOf o c b g in
+      pendingOf u v b g ≡ record { io = p .io; done = removeAt 0 (p .done); service = p .service; mchk = p .mchk }
+  unfolding pendingOf
+  done-left h e = rw (e, take-set-le 8 (queues o c b) 8 _ (omega arith), getD-set-same (queues o c b) 8 _ [] (within (queues o c b) 8 h))
+
+module _ (o c b g d : List ℕ) where
+  pub mchk-left : mchkOf d ≡ none → serviceOf d ≡ serviceOf g
+      → let p = pendingOf o c b g in
+      pendingOf o c b d ≡ record { io = p .io; done = p .done; service = p .service; mchk = none }
+  unfolding pendingOf
+  mchk-left e f = rw (e, f)
+
+  pub service-left : serviceOf d ≡ none → mchkOf d ≡ mchkOf g
+      → let p = pendingOf o c b g in
+      pendingOf o c b d ≡ record { io = p .io; done = p .done; service = none; mchk = p .mchk }
+  unfolding pendingOf
+  service-left e f = rw (e, f)
+
+pub none-left : (o c b g : List ℕ) → c ≡ replicate 9 0 → serviceOf g ≡ none → mchkOf g ≡ none → pendingOf o c b g ≡ nothing
+unfolding pendingOf
+none-left o c b g e f k = rw (e, f, k, queues-none o b)
+
+-- ---- answers
+pub same-state : (s : State) (p : Pending) → s .pending ≡ p → withPending p s ≡ s
+same-state s p e = ap (λ (q : Pending). withPending q s) (sym e)
+
+module _ (L : Limits) (s : State) (b : List ℕ) (o : Outcome) (a : Answer) (n : ℕ) where
+  pub refused : (p : Pending) → s .pending ≡ p → o ≡ refuse n → a ≡ record { code = n; count = 0 } → Answers L s b o a (withPending p s) b
+  unfolding result
+  refused p e f k = rw (f, k, same-state s p e)
+
+  pub accepted : (t : State) (w d : List ℕ) → o ≡ accept n t w → a ≡ record { code = 0; count = n } → d ≡ w ++ drop (length w) b → Answers L s b o a t d
+  unfolding result
+  accepted t w d e f k = rw (e, f, k)
+
+pub not-refused : {A : Type 0} (a : Answer) (n : ℕ) → a ≡ record { code = 0; count = n } → (a .code ≡ 0 → ⊥) → A
+not-refused a n e h = absurd (h (ap (λ (x : Answer). x .code) e))
+
+-- ---- where a search ends
+cut-short : {A : Type 0} (cs : List ℕ) (l : List A) (q : ℕ) → length (getD (cut cs l) q []) ≤ getD cs q 0
+unfolding cut
+cut-short [] l q = omega arith
+cut-short (c ∷ cs) l zero = omega (arith, length-take c l)
+cut-short (c ∷ cs) l (suc q) = cut-short cs (drop c l) q
+
+pub queue-short : (o c b : List ℕ) (q : ℕ) → length (getD (queues o c b) q []) ≤ getD c q 0
+unfolding queues
+queue-short o c b q = cut-short c _ q
+
+pub found-at : (f : Record → Bool) (mask : ℕ) (o c b : List ℕ) (v : Found) (x j : ℕ) → v ≡ At (record { 0 = x }) j → v ≡ searchQueues f mask 0 (take 8 (queues o c b))
+    → (x < 8) × (j < getD c x 0)
+found-at f mask o c b v x j w e =
+    let h = found-first f mask (take 8 (queues o c b)) x j (sym e ∙ w) in
+    let k : x < 8 = omega (arith, length-take 8 (queues o c b)) in
+    (k, omega (arith, rw (getD-take 8 (queues o c b) x [] k) at (h .1), queue-short o c b x))
+
+-- ---- CLEAR_IO_IRQ: both words of the subchannel are 0, or one is not
+module _ (b : List ℕ) (x y : ℕ) (ex : x ≡ field 0 2 b) (ey : y ≡ field 2 2 b) where
+  pub both-zero : x ≡ 0 → eqb y 0 ≡ true → not (isZero (field 0 2 b) && isZero (field 2 2 b)) ≡ false
+  both-zero h k = rw (← ex, ← ey, h, k)
+
+  pub first-word : (x ≡ 0 → ⊥) → (isZero (field 0 2 b) && isZero (field 2 2 b)) ≡ false
+  first-word h = rw (← ex, ne-eqb x 0 h)
+
+  pub second-word : x ≡ 0 → eqb y 0 ≡ false → (isZero (field 0 2 b) && isZero (field 2 2 b)) ≡ false
+  second-word h k = rw (← ex, ← ey, h, k)
+
+-- what the rules do by the answer of the search
+module _ (L : Limits) (s : State) (attr : ℕ) (b : List ℕ) (x y : ℕ) (ex : x ≡ field 0 2 b) (ey : y ≡ field 2 2 b) (h : 4 ≤ attr) (k : 4 ≤ length b) (z : (isZero (field 0 2 b) && isZero (field 2 2 b)) ≡ false) (o c m g : List ℕ) (e : s .pending ≡ pendingOf o c m g) where
+  clears-by : (v : Found) → v ≡ searchQueues (isFor x y) 255 0 (take 8 (queues o c m)) → request L s clearIoIrq attr b ≡ removes s (leftAt v (take 8 (queues o c m)))
+  unfolding request clearsIo pendingOf
+  clears-by v f =
+      passes _ _ _ (le-leb 4 attr h) ∙ passes _ _ _ (le-leb 4 (length b) k) ∙ passes _ _ _ (ap not z)
+      ∙ rw (e, ← ex, ← ey, clear-is (isFor x y) (take 8 (queues o c m)) (omega (arith, length-take 8 (queues o c m))), f)
+
+  pub clears-none : (v : Found) → v ≡ None → v ≡ searchQueues (isFor x y) 255 0 (take 8 (queues o c m)) → request L s clearIoIrq attr b ≡ accept 0 (withPending (pendingOf o c m g) s) []
+  unfolding removes
+  clears-none v w f = clears-by None (sym w ∙ f) ∙ ap (λ (t : State). accept 0 t []) (sym (same-state s (pendingOf o c m g) e))
+
+  pub clears-one : (v : Found) (i j : ℕ) (u d : List ℕ) → i < 8 → v ≡ At (record { 0 = i }) j → v ≡ searchQueues (isFor x y) 255 0 (take 8 (queues o c m))
+      → queues u d m ≡ set (queues o c m) i (removeAt j (getD (queues o c m) i [])) → request L s clearIoIrq attr b ≡ accept 1 (withPending (pendingOf u d m g) s) []
+  unfolding removes
+  clears-one v i j u d l w f q = clears-by (At (record { 0 = i }) j) (sym w ∙ f) ∙ rw (io-left o c u d m g i j l q, e) (unfold pendingOf in refl)
+
+-- ---- the take: a class of records that hands nothing out
+abbrev pub NoMchk : Pending → Bool → Type 0
+NoMchk p k = choose k (handMchk p (p .mchk)) none ≡ none
+
+abbrev pub NoService : Pending → Bool → Type 0
+NoService p e = choose e (handService p (p .service)) none ≡ none
+
+abbrev pub NoDone : Pending → Bool → Type 0
+NoDone p e = choose e (handDone p (p .done)) none ≡ none
+
+empty : (l : List Record) → length l ≤ 0 → l ≡ []
+empty [] h = refl
+empty (x ∷ l) h = absurd (not-suc-le-zero h)
+
+module _ (o c b g : List ℕ) where
+  pub no-mchk : mchkOf g ≡ none → (k : Bool) → NoMchk (pendingOf o c b g) k
+  unfolding pendingOf choose
+  no-mchk e true = rw e
+  no-mchk e false = refl
+
+  pub no-service : serviceOf g ≡ none → (k : Bool) → NoService (pendingOf o c b g) k
+  unfolding pendingOf choose
+  no-service e true = rw e
+  no-service e false = refl
+
+pub no-done : (o c b g : List ℕ) (n : ℕ) → n ≡ getD c 8 0 → ltb 0 n ≡ false → (k : Bool) → NoDone (pendingOf o c b g) k
+unfolding pendingOf choose
+no-done o c b g n e h true = rw (empty (getD (queues o c b) 8 []) (omega (arith, queue-short o c b 8, ltb-false 0 n h)))
+no-done o c b g n e h false = refl
+
+first-of : (q : List Record) (r : Record) → r ≡ getD q 0 [] → length r ≡ 72 → q ≡ r ∷ removeAt 0 q
+unfolding removeAt
+first-of [] r e h = absurd (omega (arith, ap length e))
+first-of (x ∷ q) r e h = ap (λ (y : Record). y ∷ q) (sym e)
+
+-- the four cases: what is handed out, and what is left
+module _ (o c b g : List ℕ) (m : ℕ) (e k : Bool) where
+  pub hands-mchk : (d r : List ℕ) → k ≡ true → mchkOf g ≡ some r → mchkOf d ≡ none → serviceOf d ≡ serviceOf g
+      → handed (pendingOf o c b g) m e k ≡ some (record { given = r; left = pendingOf o c b d })
+  unfolding handed orElse choose
+  hands-mchk d r f u x y =
+      let v : pendingOf o c b g .mchk ≡ some r = unfold pendingOf in u in
+      rw (mchk-left o c b g d x y, f, v)
+
+  module _ (n₁ : NoMchk (pendingOf o c b g) k) where
+    pub hands-service : (d r : List ℕ) → e ≡ true → serviceOf g ≡ some r → serviceOf d ≡ none → mchkOf d ≡ mchkOf g
+        → handed (pendingOf o c b g) m e k ≡ some (record { given = r; left = pendingOf o c b d })
+    unfolding handed orElse choose
+    hands-service d r f u x y =
+        let v : pendingOf o c b g .service ≡ some r = unfold pendingOf in u in
+        rw (service-left o c b g d x y, n₁, f, v)
+
+    module _ (n₂ : NoService (pendingOf o c b g) e) where
+      pub hands-done : (u v r : List ℕ) → e ≡ true → r ≡ getD (getD (queues o c b) 8 []) 0 [] → length r ≡ 72
+          → queues u v b ≡ set (queues o c b) 8 (removeAt 0 (getD (queues o c b) 8 []))
+          → handed (pendingOf o c b g) m e k ≡ some (record { given = r; left = pendingOf u v b g })
+      unfolding handed orElse choose removeAt
+      hands-done u v r ee er l q =
+          let p = pendingOf o c b g in
+          let f : p .done ≡ r ∷ removeAt 0 (p .done) = unfold pendingOf in first-of (getD (queues o c b) 8 []) r er l in
+          rw (done-left o c u v b g (rw f (omega arith)) q, n₁, n₂, ee, f)
+
+      module _ (n₃ : NoDone (pendingOf o c b g) e) where
+        hands-by : (v : Found) → v ≡ searchQueues (λ r. true) m 0 (take 8 (queues o c b))
+            → let p = pendingOf o c b g in
+            handed p m e k ≡ handIo p (handedAt v (p .io))
+        unfolding handed orElse pendingOf
+        hands-by v f = rw (n₁, n₂, n₃, take-is m (take 8 (queues o c b)), f)
+
+        pub hands-nothing : (v : Found) → v ≡ None → v ≡ searchQueues (λ r. true) m 0 (take 8 (queues o c b)) → handed (pendingOf o c b g) m e k ≡ none
+        hands-nothing v w f = hands-by None (sym w ∙ f)
+
+        pub hands-io : (v : Found) (x j : ℕ) (u d r : List ℕ) → x < 8 → v ≡ At (record { 0 = x }) j → v ≡ searchQueues (λ r. true) m 0 (take 8 (queues o c b))
+            → r ≡ getD (getD (queues o c b) x []) j [] → queues u d b ≡ set (queues o c b) x (removeAt j (getD (queues o c b) x []))
+            → handed (pendingOf o c b g) m e k ≡ some (record { given = r; left = pendingOf u d b g })
+        hands-io v x j u d r h w f er q =
+            hands-by (At (record { 0 = x }) j) (sym w ∙ f) ∙ rw (io-left o c u d b g x j h q, er) (unfold pendingOf in rw (getD-take 8 (queues o c b) x [] h))
+
+-- from what is handed out to the answer
+module _ (L : Limits) (s : State) (p : Pending) (m : ℕ) (e k : Bool) (b : List ℕ) (a : Answer) (x : s .pending ≡ p) (h : 72 ≤ length b) where
+  pub hands : (d r : List ℕ) (q : Pending) → length r ≡ 72 → handed p m e k ≡ some (record { given = r; left = q })
+      → (a ≡ record { code = 0; count = 1 }) × (d ≡ r ++ drop 72 b) → Answers L s b (takes s m e k b) a (withPending q s) d
+  unfolding takes handsOut
+  hands d r q l f w =
+      accepted L s b _ a 1 (withPending q s) r d (passes _ _ _ (le-leb 72 (length b) h) ∙ rw (x, f)) (w .0) (rw l (w .1))
+
+  pub hands-none : handed p m e k ≡ none → a ≡ record { code = 0; count = 0 } → Answers L s b (takes s m e k b) a (withPending p s) b
+  unfolding takes handsOut
+  hands-none f w =
+      accepted L s b _ a 0 (withPending p s) [] b (passes _ _ _ (le-leb 72 (length b) h) ∙ rw (x, f)) w refl
+
+-- ---- CLEAR_IRQS
+pub clears-all : (s : State) (p q : Pending) (n : ℕ) → s .pending ≡ p → n ≡ length (listing p) → q ≡ nothing → clears s ≡ accept n (withPending q s) []
+unfolding clears
+clears-all s p q n e f k = rw (e, f, k)
+
+-- ---- GET_ALL_IRQS
+module _ (s : State) (p : Pending) (n attr : ℕ) (e : s .pending ≡ p) (f : n ≡ length (listing p)) where
+  pub lists-none : attr < n * 72 → lists s attr ≡ refuse 12
+  unfolding lists
+  lists-none h = fails _ _ _ (lt-leb (72 * length (listing (s .pending))) attr (rw e (omega arith)))
+
+  pub lists-all : n * 72 ≤ attr → lists s attr ≡ accept n s (flatten (listing p))
+  unfolding lists
+  lists-all h = passes _ _ _ (le-leb (72 * length (listing (s .pending))) attr (rw e (omega arith))) ∙ rw (e, f)
+
+-- what was written is as long as the place where the old bytes go on
+pub wrote-long : (p : Pending) (b d : List ℕ) → 72 * length (listing p) ≤ length b → length d ≡ length b → d ≡ flatten (listing p) ++ drop (72 * length (listing p)) b
+    → d ≡ flatten (listing p) ++ drop (length (flatten (listing p))) b
+wrote-long p b d h l e =
+    let n : ℕ = 72 * length (listing p) in
+    let k : length (flatten (listing p)) ≡ n = omega (arith, ap length e, length-append (flatten (listing p)) (drop n b), length-drop n b) in
+    rw k e

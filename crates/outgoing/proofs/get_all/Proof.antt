@@ -1,0 +1,92 @@
+-- `outgoing::get_all` meets its contract. Assumes nothing.
+use borrow.Author.Needs.{needs}
+use Prim.Native.Nat.{_*_, _≤_}
+use mathlib.Core.Path.{_≡_, refl, ap, _∙_}
+use mathlib.Core.Bool.{not}
+use native.Mathlib.Omega.{arith}
+use lib.ListN.{length}
+use borrow.Author.Tests.{eq-eqb, ne-eqb, le-leb, lt-leb}
+use Rattle.rules.specs.State.{listing}
+use Rattle.rules.specs.Requests.{request}
+use Rattle.rules.proofs.Checks.{passes, fails}
+use Rattle.records.specs.Memory.{pendingOf}
+use Rattle.outgoing.proofs.Laws.{refused, accepted, not-refused, lists-none, lists-all, wrote-long}
+use Rattle.outgoing.proofs.get_all.Statement.{statement}
+use Rattle.outgoing.proofs.get_all.Tie as tie
+
+room : (c : tie.After-list-all-arg) → let a = c .before .before .before .before .before .before .before .args in 72 * length (listing (pendingOf (a .order .now) (a .counts .now) (a .slots .now) (a .singles .now))) ≤ length (a .out .now)
+room c =
+    let a = c .before .before .before .before .before .before .before .args in
+    omega (arith, c .before .before .pending .ensures .0 (a .order .now) (a .slots .now) (c .before .before .before .-o .given .0))
+
+refuse-requires : tie.Need-refuse-requires
+refuse-requires c κs = search needs
+
+returns : tie.Need-returns
+unfolding request
+returns c = (λ L s e. refused L s _ _ _ 22 _ refl (fails _ _ _ (ap not (eq-eqb _ 0 (c .before .if1 .taken)))) (c .refuse .ensures), λ k. refl)
+
+refuse-requires-2 : tie.Need-refuse-requires-2
+refuse-requires-2 c κs = search needs
+
+returns-2 : tie.Need-returns-2
+unfolding request
+returns-2 c = (λ L s e. refused L s _ _ _ 14 _ refl (passes _ _ _ (ap not (ne-eqb _ 0 (c .before .before .if1 .left))) ∙ fails _ _ _ (lt-leb _ _ (c .before .if2 .taken))) (c .refuse2 .ensures), λ k. refl)
+
+pending-requires : tie.Need-pending-requires
+pending-requires c κs = search needs
+
+mul-if3 : tie.Need-mul-if3
+mul-if3 c = search needs
+
+refuse-requires-3 : tie.Need-refuse-requires-3
+refuse-requires-3 c κs = search needs
+
+returns-3 : tie.Need-returns-3
+unfolding request
+returns-3 c =
+    let d = c .before .before .before in
+    let f = d .before .before .before .before in
+    (λ L s e. refused L s _ _ _ 12 _ refl (passes _ _ _ (ap not (ne-eqb _ 0 (d .before .before .if1 .left))) ∙ passes _ _ _ (le-leb _ _ (d .before .if2 .left)) ∙ lists-none s _ _ _ e (c .before .before .pending .ensures .0 (f .args .order .now) (f .args .slots .now) (d .-o .given .0)) (c .before .if3 .taken)) (c .refuse3 .ensures), λ k. refl)
+
+list-all-requires : tie.Need-list-all-requires
+list-all-requires c κs = (c .before .before .before .before .before .before .before .pre, room c)
+
+accept-requires : tie.Need-accept-requires
+accept-requires c κs = search needs
+
+same-length : tie.Need-same-length
+same-length c = search needs
+
+returns-4 : tie.Need-returns-4
+unfolding request
+returns-4 c =
+    let d = c .before .before .before in
+    let f = d .before .before .before in
+    let t = f .before .before .before in
+    let n = (f .pending .ensures .0 (t .before .before .args .order .now) (t .before .before .args .slots .now) (f .before .-o .given .0)) in
+    let l : length (d .list-all .last .1 .1 .1 .1 .0) ≡ length (t .before .before .args .out .now) = search needs in (
+      λ L s e.
+          accepted L s _ _ _ _ s _ _
+          (passes _ _ _ (ap not (ne-eqb _ 0 (t .if1 .left))) ∙ passes _ _ _ (le-leb _ _ (f .before .before .if2 .left)) ∙ lists-all s _ _ _ e n (d .before .before .if3 .left))
+          (c .accept .ensures)
+          (wrote-long _ (t .before .before .args .out .now) _ (room (d .before)) l (d .list-all .ensures)),
+      not-refused _ _ (c .accept .ensures),
+    )
+
+pub get-all-spec : {M : Type 1} → statement M
+get-all-spec =
+    tie.close
+    (tie.spec
+    refuse-requires
+    returns
+    refuse-requires-2
+    returns-2
+    pending-requires
+    mul-if3
+    refuse-requires-3
+    returns-3
+    list-all-requires
+    accept-requires
+    same-length
+    returns-4)

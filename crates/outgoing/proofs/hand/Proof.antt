@@ -1,0 +1,27 @@
+-- `outgoing::hand` meets its contract. Assumes nothing.
+use borrow.Author.Needs.{needs}
+use mathlib.Core.Path.{_≡_, _∙_}
+use native.Mathlib.Omega.{arith}
+use lib.ListN.{length}
+use lib.Seq.{take-all}
+use Rattle.outgoing.proofs.hand.Statement.{statement}
+use Rattle.outgoing.proofs.hand.Tie as tie
+
+save-requires : tie.Need-save-requires
+save-requires c κs = search needs
+
+accept-requires : tie.Need-accept-requires
+accept-requires c κs = search needs
+
+same-length : tie.Need-same-length
+same-length c = search needs
+
+returns : tie.Need-returns
+returns c =
+    let d = c .before .before .before in
+    let f = d .before .before .before in
+    let l : length (f .args .r) ≡ 72 = search needs in
+    (c .accept .ensures, d .save .ensures ∙ rw (take-all 72 (f .args .r) (omega arith)))
+
+pub hand-spec : {M : Type 1} → statement M
+hand-spec = tie.close (tie.spec save-requires accept-requires same-length returns)

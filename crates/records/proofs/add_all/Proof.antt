@@ -1,0 +1,71 @@
+-- The invariant: what is left to add, to what is held now, comes to what all come to; and there is room for it.
+use native.Mathlib.Omega.{arith}
+use Prim.Native.Nat.{_+_, _-_, _≤_}
+use mathlib.Core.Path.{_≡_, sym, _∙_}
+use borrow.Author.Needs.{needs}
+use Rattle.records.proofs.Laws.{add-next, add-ends, want-next, recordsFrom, records-all}
+use Rattle.rules.specs.State.{addAll}
+use Rattle.rules.specs.Requests.{recordsIn, allWant}
+use Rattle.queues.specs.Queues.{sum, Held}
+use Rattle.records.specs.Memory.{pendingOf}
+use Rattle.records.proofs.add_all.Statement.{statement}
+use Rattle.records.proofs.add_all.Tie as tie
+
+abbrev Inv-loop : tie.InvT-loop
+Inv-loop slots₀ order₀ counts₀ singles₀ b n i₀ slots order counts singles i =
+    (i ≤ n) × Held order counts × (sum counts + allWant (recordsFrom i n b) ≤ 256)
+    × (addAll (recordsIn n b) (pendingOf order₀ counts₀ slots₀ singles₀) ≡ addAll (recordsFrom i n b) (pendingOf order counts slots singles))
+
+abbrev μ-loop : tie.MeasureT-loop
+μ-loop slots₀ order₀ counts₀ singles₀ b n i₀ slots order counts singles i = n - i
+
+loop-holds : tie.Need-loop-holds Inv-loop μ-loop
+loop-holds c = (omega arith, c .before .pre .2, rw records-all (c .before .pre .3), rw records-all)
+
+mul-add-one : tie.Need-mul-add-one Inv-loop μ-loop
+mul-add-one c = search needs
+
+add-one-requires : tie.Need-add-one-requires Inv-loop μ-loop
+add-one-requires c κs =
+    let j = c .before .before .before .before .before in
+    let f = j .before .before in
+    let v = j .loop .inv in
+    (omega arith, v .1, omega (arith, v .2, want-next (j .loop .i) (f .args .n) (f .args .b .now) (c .before .before .before .before .loop-test .taken)))
+
+add-i : tie.Need-add-i Inv-loop μ-loop
+add-i c = search needs
+
+loop-less : tie.Need-loop-less Inv-loop μ-loop
+loop-less c = search needs
+
+loop-again : tie.Need-loop-again Inv-loop μ-loop
+loop-again c =
+    let j = c .before .before .before .before .before in
+    let m = j .before in
+    let f = m .before .before in
+    let a = f .args in
+    let v = m .loop .inv in (
+      omega arith,
+      c .add-one .ensures .1 .0,
+      omega (arith, v .2, c .add-one .ensures .1 .1, want-next (m .loop .i) (a .n) (a .b .now) (j .loop-test .taken)),
+      v .3 ∙ add-next (m .loop .i) (a .n) (a .b .now) _ _ (j .loop-test .taken) (c .add-one .ensures .0),
+    )
+
+returns : tie.Need-returns Inv-loop μ-loop
+returns c =
+    let f = c .before .before .before in
+    (sym (c .before .loop .inv .3 ∙ add-ends (c .before .loop .i) (f .args .n) (f .args .b .now) _ (c .loop-test .left)), c .before .loop .inv .1)
+
+pub add-all-spec : {M : Type 1} → statement M
+add-all-spec =
+    tie.close
+    (tie.spec
+    Inv-loop
+    μ-loop
+    loop-holds
+    mul-add-one
+    add-one-requires
+    add-i
+    loop-less
+    loop-again
+    returns)

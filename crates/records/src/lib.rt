@@ -1,0 +1,194 @@
+// Inner crate: records that come into lent memory: ENQUEUE, and the record of an adapter interrupt.
+ghost use mathlib.Core.Path.{_≡_};
+ghost use mathlib.Core.List.{List};
+ghost use Prim.Native.Nat.{ℕ, _+_, _*_, _≤_, _<_};
+ghost use lib.ListN.{length};
+ghost use Rattle.rules.specs.Bytes.{part};
+ghost use Rattle.rules.specs.State.{Limits, State, withPending, subclass, kind, addIo, add, addAll};
+ghost use Rattle.rules.specs.Requests.{enqueue, recordsIn, wants, allWant, adapterInterrupt, request};
+ghost use Rattle.queues.specs.Queues.{sum, Held};
+ghost use Rattle.answers.specs.Answers.{Answers};
+ghost use Rattle.records.specs.Memory.{pendingOf};
+ghost use Rattle.records.specs.Cases.{kindOf, checkFrom};
+use answers::Answer;
+use words::Subclass;
+
+// What kind of record there is, with the subclass of an I/O record.
+pub enum Kind {
+    Io(Subclass),
+    Done,
+    Service,
+    MachineCheck,
+    Other,
+}
+
+fn subclass_at(b: &[u8], at: usize) -> Subclass
+    requires { ⌜ at + 72 ≤ length (now b) ⌝ }
+    ensures { λ r. ⌜ r ≡ record { 0 = subclass (part at 72 (now (b .entry))) } ⌝ }
+{
+    let word = words::read_be(b, at + 16, 4);
+    Subclass((word / 134217728 % 8) as u8)
+}
+
+// The kind of the record at index at of b.
+pub fn kind_at(b: &[u8], at: usize) -> Kind
+    requires { ⌜ at + 72 ≤ length (now b) ⌝ }
+    ensures { λ r. ⌜ r ≡ kindOf (part at 72 (now (b .entry))) ⌝ }
+{
+    let t = words::read_be(b, at, 8);
+    if t <= 0xfffd_ffff {
+        return Kind::Io(subclass_at(b, at));
+    }
+    if t == 0xfffe_0005 {
+        return Kind::Done;
+    }
+    if t == 0xfffe_1000 {
+        return Kind::MachineCheck;
+    }
+    if t == 0xffff_2401 {
+        return Kind::Service;
+    }
+    Kind::Other
+}
+
+// All records are of types taken and want so many places of the nine queues; or the place of the first that is not.
+pub enum Checked {
+    Good(usize),
+    BadAt(usize),
+}
+
+// The first n records of b.
+pub fn check(b: &[u8], n: usize) -> Checked
+    requires { ⌜ (n ≤ 258) × (n * 72 ≤ length (now b)) ⌝ }
+    ensures { λ r. ⌜ r ≡ checkFrom 0 0 (recordsIn n (now (b .entry))) ⌝ }
+{
+    let mut wanted = 0;
+    let mut place = 0;
+    while place < n {
+        match kind_at(b, place * 72) {
+            Kind::Io(_) | Kind::Done => {
+                wanted += 1;
+            }
+            Kind::Service | Kind::MachineCheck => {}
+            Kind::Other => {
+                return Checked::BadAt(place);
+            }
+        }
+        place += 1;
+    }
+    Checked::Good(wanted)
+}
+
+// Adds the record at index at of b.
+fn add_one(
+    slots: &mut [u8; 18432],
+    order: &mut [u8; 256],
+    counts: &mut [usize; 9],
+    singles: &mut [u8; 146],
+    b: &[u8],
+    at: usize,
+)
+    requires { ⌜ (at + 72 ≤ length (now b)) × Held (now order) (now counts) × (sum (now counts) + wants (kind (part at 72 (now b))) ≤ 256) ⌝ }
+    ensures pending { λ _. ⌜ pendingOf (now (order .exit)) (now (counts .exit)) (now (slots .exit)) (now (singles .exit)) ≡ add (part at 72 (now (b .entry))) (pendingOf (now (order .entry)) (now (counts .entry)) (now (slots .entry)) (now (singles .entry))) ⌝ }
+    ensures held { λ _. ⌜ Held (now (order .exit)) (now (counts .exit)) × (sum (now (counts .exit)) ≡ sum (now (counts .entry)) + wants (kind (part at 72 (now (b .entry))))) ⌝ }
+{
+    let r = words::load(b, at);
+    match kind_at(b, at) {
+        Kind::Io(isc) => queues::append_io(slots, order, counts, isc, r),
+        Kind::Done => {
+            // a slice's length is known to the proof
+            let lent: &[usize] = counts;
+            queues::append_done(slots, order, counts, r)
+        }
+        Kind::Service => singles::add_service(singles, r),
+        Kind::MachineCheck => singles::add_mchk(singles, r),
+        Kind::Other => {}
+    }
+}
+
+// Adds the first n records of b in order.
+fn add_all(
+    slots: &mut [u8; 18432],
+    order: &mut [u8; 256],
+    counts: &mut [usize; 9],
+    singles: &mut [u8; 146],
+    b: &[u8],
+    n: usize,
+)
+    requires { ⌜ (n ≤ 258) × (n * 72 ≤ length (now b)) × Held (now order) (now counts) × (sum (now counts) + allWant (recordsIn n (now b)) ≤ 256) ⌝ }
+    ensures pending { λ _. ⌜ pendingOf (now (order .exit)) (now (counts .exit)) (now (slots .exit)) (now (singles .exit)) ≡ addAll (recordsIn n (now (b .entry))) (pendingOf (now (order .entry)) (now (counts .entry)) (now (slots .entry)) (now (singles .entry))) ⌝ }
+    ensures held { λ _. ⌜ Held (now (order .exit)) (now (counts .exit)) ⌝ }
+{
+    let mut i = 0;
+    while i < n {
+        add_one(slots, order, counts, singles, b, i * 72);
+        i += 1;
+    }
+}
+
+// Group 2: all records are added, or none.
+pub fn enqueue_irqs(
+    slots: &mut [u8; 18432],
+    order: &mut [u8; 256],
+    counts: &mut [usize; 9],
+    singles: &mut [u8; 146],
+    room: usize,
+    attr: u64,
+    payload: &[u8],
+) -> Answer
+    requires { ⌜ (room ≤ 256) × Held (now order) (now counts) ⌝ }
+    ensures answer { λ r. ⌜ ((L : Limits) (s : State) → L .room ≡ room → s .pending ≡ pendingOf (now (order .entry)) (now (counts .entry)) (now (slots .entry)) (now (singles .entry)) → Answers L s (now (payload .entry)) (request L s enqueue attr (now (payload .entry))) r (withPending (pendingOf (now (order .exit)) (now (counts .exit)) (now (slots .exit)) (now (singles .exit))) s) (now (payload .entry))) ⌝ }
+    ensures held { λ _. ⌜ Held (now (order .exit)) (now (counts .exit)) ⌝ }
+    ensures kept { λ r. ⌜ ((r .code ≡ 0 → ⊥) → (now (slots .exit) ≡ now (slots .entry)) × (now (order .exit) ≡ now (order .entry)) × (now (counts .exit) ≡ now (counts .entry)) × (now (singles .exit) ≡ now (singles .entry))) ⌝ }
+{
+    if attr == 0 {
+        return answers::refuse(22);
+    }
+    if 18576 < attr {
+        return answers::refuse(22);
+    }
+    if attr % 72 != 0 {
+        return answers::refuse(22);
+    }
+    let bytes = attr as usize;
+    if payload.len() < bytes {
+        return answers::refuse(14);
+    }
+    let n = bytes / 72;
+    let Checked::Good(wanted) = check(payload, n) else {
+        return answers::refuse(22);
+    };
+    // slices' lengths are known to the proof
+    let listed: &[u8] = order;
+    let counted: &[usize] = counts;
+    if room < queues::queued(counts) + wanted {
+        return answers::refuse(16);
+    }
+    add_all(slots, order, counts, singles, payload, n);
+    answers::accept(n as u64)
+}
+
+// The record of an adapter interrupt.
+fn interrupt(isc: Subclass) -> [u8; 72]
+    requires { ⌜ isc .0 ≤ 7 ⌝ }
+    ensures { λ r. ⌜ r ≡ adapterInterrupt (isc .0) ⌝ }
+{
+    let mut r = [0u8; 72];
+    r[4] = 4;
+    r[16] = 128 + isc.0 * 8;
+    r
+}
+
+// Group 10, where there is room: the interrupt joins the queue of its subclass.
+pub fn append_interrupt(
+    slots: &mut [u8; 18432],
+    order: &mut [u8; 256],
+    counts: &mut [usize; 9],
+    isc: Subclass,
+)
+    requires { ⌜ (isc .0 ≤ 7) × (sum (now counts) < 256) × Held (now order) (now counts) ⌝ }
+    ensures pending { λ _. ⌜ ((singles : List ℕ) → pendingOf (now (order .exit)) (now (counts .exit)) (now (slots .exit)) singles ≡ addIo (isc .0) (adapterInterrupt (isc .0)) (pendingOf (now (order .entry)) (now (counts .entry)) (now (slots .entry)) singles)) ⌝ }
+    ensures held { λ _. ⌜ Held (now (order .exit)) (now (counts .exit)) ⌝ }
+{
+    queues::append_io(slots, order, counts, isc, interrupt(isc));
+}

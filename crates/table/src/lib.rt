@@ -1,0 +1,53 @@
+// Inner crate: the adapter table as a lent slice of places, and the device record behind a reference. Few and thin functions, proved by hand.
+ghost use mathlib.Core.Path.{_≡_};
+ghost use lib.ListN.{getD, set};
+ghost use Rattle.adapters.specs.Values.{unused};
+ghost use Rattle.table.specs.Table.{withMasked};
+use adapters::Device;
+use adapters::Place;
+use words::AdapterId;
+
+// The place of an id; an id without a place reads as free.
+pub fn look_up(t: &[Place], id: AdapterId) -> Place
+    ensures { λ r. ⌜ r ≡ getD (now (t .entry)) (id .0) unused ⌝ }
+{
+    let i = id.0 as usize;
+    if i < t.len() {
+        return t[i];
+    }
+    adapters::free_place()
+}
+
+// The place of an id is this; an id without a place changes nothing.
+pub fn register(t: &mut [Place], id: AdapterId, p: Place)
+    ensures { λ _. ⌜ now (t .exit) ≡ set (now (t .entry)) (id .0) p ⌝ }
+{
+    let i = id.0 as usize;
+    if i < t.len() {
+        t[i] = p;
+    }
+}
+
+// The adapter at an id is masked or not; an id without a place changes nothing.
+pub fn mask(t: &mut [Place], id: AdapterId, on: bool)
+    ensures { λ _. ⌜ now (t .exit) ≡ set (now (t .entry)) (id .0) (withMasked on (getD (now (t .entry)) (id .0) unused)) ⌝ }
+{
+    let i = id.0 as usize;
+    if i < t.len() {
+        t[i].masked = on;
+    }
+}
+
+// The device record as it is.
+pub fn read_device(d: &Device) -> Device
+    ensures { λ r. ⌜ r ≡ now (d .entry) ⌝ }
+{
+    *d
+}
+
+// The device record is what a function by value gave.
+pub fn store_device(d: &mut Device, m: Device)
+    ensures { λ _. ⌜ now (d .exit) ≡ m ⌝ }
+{
+    *d = m;
+}

@@ -63,10 +63,11 @@ pub fn about(group: u32, attr: u64, payload: &[u8]) -> AdapterId
 fn set_flag(device: Device, place: Place, attr: u64, on: bool) -> Reply
     ensures { λ r. ⌜ ((id places room : ℕ) (ais : Bool) (b : List ℕ) → Replied places room ais device place id b (λ L s. request L s (choose on apfEnable apfDisableWait) attr b) r) ⌝ }
 {
+    let next = adapters::apf_set(device, on);
     if attr != 0 {
-        return with_answer(answers::refuse(22), device, place);
+        return with_answer(answers::refuse(22), device, place); // the flag stays
     }
-    with_answer(answers::accept(0), adapters::apf_set(device, on), place)
+    with_answer(answers::accept(0), next, place)
 }
 
 // Group 6: an adapter is registered at the place of its id.

@@ -1,13 +1,15 @@
 // Inner crate: every request of groups 1 to 11, on lent records, with a device record and one adapter place by value.
 ghost use mathlib.Core.Path.{_≡_};
 ghost use mathlib.Core.List.{List};
-ghost use Prim.Native.Nat.{ℕ, _≤_};
+ghost use Prim.Native.Nat.{ℕ, _≤_, _<_};
+ghost use lib.Dec.{leb};
 ghost use Rattle.rules.specs.State.{Limits, State};
 ghost use Rattle.rules.specs.Requests.{airqInject, setRequest, getRequest, request};
-ghost use Rattle.queues.specs.Queues.{Held};
+ghost use Rattle.queues.specs.Queues.{sum, Held};
 ghost use Rattle.answers.specs.Answers.{Answers};
 ghost use Rattle.records.specs.Memory.{pendingOf};
-ghost use Rattle.adapters.specs.Values.{deviceOf, Canonical};
+ghost use Rattle.adapters.specs.Values.{deviceOf, Canonical, injectionOf};
+ghost use Rattle.core.specs.Cases.{answerFor};
 ghost use Rattle.values.specs.States.{aboutOf, Replies};
 use adapters::Device;
 use adapters::Injection;
@@ -32,6 +34,7 @@ fn inject(
     ensures answer { λ r. ⌜ ((singles b : List ℕ) → Replies places room ais device place (id .0) b (λ L s. request L s airqInject (id .0) b) (pendingOf (now (order .entry)) (now (counts .entry)) (now (slots .entry)) singles) (pendingOf (now (order .exit)) (now (counts .exit)) (now (slots .exit)) singles) r) ⌝ }
     ensures held { λ r. ⌜ Held (now (order .exit)) (now (counts .exit)) × Canonical (r .place) ⌝ }
     ensures kept { λ r. ⌜ ((r .answer .code ≡ 0 → ⊥) → (r .device ≡ device) × (r .place ≡ place) × (now (slots .exit) ≡ now (slots .entry)) × (now (order .exit) ≡ now (order .entry)) × (now (counts .exit) ≡ now (counts .entry))) ⌝ }
+    ensures told { λ r. ⌜ (id .0 < places → r .answer ≡ answerFor (injectionOf ais device place (leb room (sum (now (counts .entry)))))) ⌝ }
 {
     if places <= id.0 {
         return values::with_answer(answers::refuse(22), device, place);

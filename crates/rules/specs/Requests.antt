@@ -1,5 +1,6 @@
 -- 01, 'Request numbers and effects', with the checks of 'Codes and the order of checks' that come after the adapter table's.
--- As in the paper's table, what a group does is followed by its count.
+-- As in the paper's table, what a group does is followed by its count. Source document 000 decides what each group means; 000 is named where it
+-- says what 01 does not repeat.
 use Prim.Native.Nat.{ℕ, zero, suc, _+_, _*_, _/_, _%_, _^_}
 use mathlib.Core.Bool.{Bool, true, false, not, _&&_, _||_}
 use mathlib.Core.Option.{Option, none, some}
@@ -38,7 +39,7 @@ isZero n = eqb n 0
 abbrev pub nonZero : ℕ → Bool
 nonZero n = not (eqb n 0)
 
--- 1 GET_ALL_IRQS: the listing; records written. 12 where it is longer than the claimed length. The attribute of groups 1, 2 and 8 is the
+-- 1 GET_ALL_IRQS: the listing; records written; all interrupts remain pending (000). 12 where it is longer than the claimed length. The attribute of groups 1, 2 and 8 is the
 -- claimed length ('claimed length' is a term of paper 01).
 unfoldable pub lists : State → ℕ → Outcome
 lists s claimed =
@@ -105,7 +106,7 @@ registers L s id x =
     accept 0 (withAdapter id x s) []
 
 -- id (4), isc, maskable, swap, flags. Any non-zero maskable or swap means yes. The flags bit of value 1 means suppressible; others are ignored
--- and not kept.
+-- (000) and not kept.
 unfoldable pub adapterIn : List ℕ → Adapter
 adapterIn b =
     record {
@@ -116,7 +117,7 @@ adapterIn b =
       masked = false;
     }
 
--- 7 ADAPTER_MODIFY: type 1 sets masked (mask not 0) or unmasked, types 2 and 3 do nothing; 0. Refused: id above 63, free id, type not 1 to 3,
+-- 7 ADAPTER_MODIFY: type 1 sets masked (mask not 0) or unmasked, types 2 and 3 (MAP, UNMAP) do nothing (000); 0. Refused: id above 63, free id, type not 1 to 3,
 -- type 1 on an unmaskable adapter.
 abbrev pub withMask : Bool → Adapter → Adapter
 withMask on x = record { isc = x .isc; maskable = x .maskable; swap = x .swap; suppressible = x .suppressible; masked = on }
@@ -130,7 +131,7 @@ modifies L s id type on =
     accept 0 (choose (eqb type 1) (withAdapter id (withMask on x) s) s) []
 
 -- 8 CLEAR_IO_IRQ: the first I/O record in listing order that has both subchannel id and number is removed; 0 or 1. None: code 0, count 0.
--- Word 0 is refused.
+-- Word 0 is refused (000, last note).
 abbrev pub isFor : ℕ → ℕ → Record → Bool
 isFor id nr r = eqb (subchannelId r) id && eqb (subchannelNumber r) nr
 

@@ -88,7 +88,7 @@ withDevice d s = record { ais = s .ais; adapters = s .adapters; pending = s .pen
 abbrev pub withAdapter : ℕ → Adapter → State → State
 withAdapter id x s = record { ais = s .ais; adapters = set (s .adapters) id (holds x); pending = s .pending; device = s .device }
 
--- Subclass n, 0 to 7, is the bit 128 / 2^n of a mask; `bit` is meant for no other n.
+-- Subclass n, 0 to 7, is the bit 128 / 2^n of a mask (000: MSB0 bit 0 to ISC 0 and so on); `bit` is meant for no other n.
 abbrev pub bit : ℕ → ℕ
 bit n = 128 / 2 ^ n
 

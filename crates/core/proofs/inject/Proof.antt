@@ -1,6 +1,8 @@
 -- `core::inject` meets its contract. Assumes nothing.
+use Prim.Native.Nat.{ℕ}
 use mathlib.Core.Path.{refl, ap, sym, _∙_}
 use native.Mathlib.Omega.{arith}
+use lib.Dec.{leb}
 use borrow.Author.Tests.{leb-true, leb-false}
 use Rattle.rules.specs.Requests.{adapterInterrupt}
 use Rattle.rules.specs.State.{queued, addIo}
@@ -9,6 +11,7 @@ use Rattle.records.proofs.Laws.{queued-sum}
 use Rattle.adapters.specs.Values.{injectionOf, placeOf, deviceOf}
 use Rattle.words.specs.declared.Subclass.{Subclass}
 use Rattle.answers.specs.declared.Answer.{Answer}
+use Rattle.core.specs.Cases.{answerFor}
 use Rattle.values.specs.declared.Reply.{Reply}
 use Rattle.values.specs.States.{stateWith}
 use Rattle.core.proofs.Laws.{as-it-was, told-refuse, told-accept, replies, none-there, dropped-there, full-there, appended-there, out-of-range, nobody-there, is-dropped, is-full, is-appended, injected-is, code-of, place-of}
@@ -26,7 +29,13 @@ returns : tie.Need-returns
 unfolding injectionOf
 returns c = (
   λ g b. replies _ _ _ _ _ _ _ _ _ _ (c .with-answer .ensures) (λ L s e1 e2 e3 e4 e5 e6. told-refuse L s _ 22 (out-of-range L s (c .before .before .before .before .args .ais) (c .before .before .before .before .args .device) (c .before .before .before .before .args .place) (c .before .before .before .before .args .id .0) b (omega (arith, e1, c .before .before .if1 .taken))) (c .before .refuse .ensures) (as-it-was s _ _ _ _ e4 e5 e6)),
-  ((c .before .before .before .before .pre .1, place-of (c .with-answer .ensures) (c .before .before .before .before .pre .2)), λ n. (ap (λ (x : Reply). x .device) (c .with-answer .ensures), ap (λ (x : Reply). x .place) (c .with-answer .ensures), refl, refl, refl)),
+  (
+    (c .before .before .before .before .pre .1, place-of (c .with-answer .ensures) (c .before .before .before .before .pre .2)),
+    (
+      λ n. (ap (λ (x : Reply). x .device) (c .with-answer .ensures), ap (λ (x : Reply). x .place) (c .with-answer .ensures), refl, refl, refl),
+      λ h. let z : ⊥ = omega (arith, h, c .before .before .if1 .taken) in absurd z,
+    ),
+  ),
 )
 
 queued-requires : tie.Need-queued-requires
@@ -83,21 +92,39 @@ returns-2 : tie.Need-returns-2
 unfolding injectionOf
 returns-2 c = (
   λ g b. replies _ _ _ _ _ _ _ _ _ _ (c .with-answer2 .ensures) (λ L s e1 e2 e3 e4 e5 e6. told-refuse L s _ 22 (nobody-there L s (c .before .before .before .before .before .before .before .before .before .before .before .before .before .args .ais) (c .before .before .before .before .before .before .before .before .before .before .before .before .before .args .device) (c .before .before .before .before .before .before .before .before .before .before .before .before .before .args .place) (c .before .before .before .before .before .before .before .before .before .before .before .before .before .args .id .0) b (omega (arith, e1, c .before .before .before .before .before .before .before .before .before .before .before .if1 .left)) e6 (none-there _ _ _ _ _ (sym (c .before .before .before .before .inject .ensures) ∙ c .before .before .enum-told .given .1))) (c .before .refuse2 .ensures) (as-it-was s _ _ _ _ e4 e5 e6)),
-  ((c .before .before .before .before .before .before .before .before .before .before .before .before .before .pre .1, place-of (c .with-answer2 .ensures) (c .before .before .before .before .before .before .before .before .before .before .before .before .before .pre .2)), λ n. (ap (λ (x : Reply). x .device) (c .with-answer2 .ensures), ap (λ (x : Reply). x .place) (c .with-answer2 .ensures), refl, refl, refl)),
+  (
+    (c .before .before .before .before .before .before .before .before .before .before .before .before .before .pre .1, place-of (c .with-answer2 .ensures) (c .before .before .before .before .before .before .before .before .before .before .before .before .before .pre .2)),
+    (
+      λ n. (ap (λ (x : Reply). x .device) (c .with-answer2 .ensures), ap (λ (x : Reply). x .place) (c .with-answer2 .ensures), refl, refl, refl),
+      λ h. ap (λ (x : Reply). x .answer) (c .with-answer2 .ensures) ∙ c .before .refuse2 .ensures ∙ ap answerFor (sym (c .before .before .enum-told .given .1) ∙ c .before .before .before .before .inject .ensures ∙ ap (λ (n : ℕ). injectionOf (c .before .before .before .before .before .before .before .before .before .before .before .before .before .args .ais) (c .before .before .before .before .before .before .before .before .before .before .before .before .before .args .device) (c .before .before .before .before .before .before .before .before .before .before .before .before .before .args .place) (leb (c .before .before .before .before .before .before .before .before .before .before .before .before .before .args .room) n)) (c .before .before .before .before .before .queued .ensures)),
+    ),
+  ),
 )
 
 returns-3 : tie.Need-returns-3
 unfolding injectionOf
 returns-3 c = (
   λ g b. replies _ _ _ _ _ _ _ _ _ _ (c .with-answer3 .ensures) (λ L s e1 e2 e3 e4 e5 e6. let d = dropped-there _ _ _ _ _ (sym (c .before .before .before .before .inject .ensures) ∙ c .before .before .enum-told2 .given .1) in told-accept L s _ 0 s (is-dropped L s (c .before .before .before .before .before .before .before .before .before .before .before .before .before .args .ais) (c .before .before .before .before .before .before .before .before .before .before .before .before .before .args .device) (c .before .before .before .before .before .before .before .before .before .before .before .before .before .args .place) (c .before .before .before .before .before .before .before .before .before .before .before .before .before .args .id .0) b (omega (arith, e1, c .before .before .before .before .before .before .before .before .before .before .before .if1 .left)) e6 (d .0) e3 e5 (d .1)) (c .before .accept .ensures) (as-it-was s _ _ _ _ e4 e5 e6)),
-  ((c .before .before .before .before .before .before .before .before .before .before .before .before .before .pre .1, place-of (c .with-answer3 .ensures) (c .before .before .before .before .before .before .before .before .before .before .before .before .before .pre .2)), λ n. (ap (λ (x : Reply). x .device) (c .with-answer3 .ensures), ap (λ (x : Reply). x .place) (c .with-answer3 .ensures), refl, refl, refl)),
+  (
+    (c .before .before .before .before .before .before .before .before .before .before .before .before .before .pre .1, place-of (c .with-answer3 .ensures) (c .before .before .before .before .before .before .before .before .before .before .before .before .before .pre .2)),
+    (
+      λ n. (ap (λ (x : Reply). x .device) (c .with-answer3 .ensures), ap (λ (x : Reply). x .place) (c .with-answer3 .ensures), refl, refl, refl),
+      λ h. ap (λ (x : Reply). x .answer) (c .with-answer3 .ensures) ∙ c .before .accept .ensures ∙ ap answerFor (sym (c .before .before .enum-told2 .given .1) ∙ c .before .before .before .before .inject .ensures ∙ ap (λ (n : ℕ). injectionOf (c .before .before .before .before .before .before .before .before .before .before .before .before .before .args .ais) (c .before .before .before .before .before .before .before .before .before .before .before .before .before .args .device) (c .before .before .before .before .before .before .before .before .before .before .before .before .before .args .place) (leb (c .before .before .before .before .before .before .before .before .before .before .before .before .before .args .room) n)) (c .before .before .before .before .before .queued .ensures)),
+    ),
+  ),
 )
 
 returns-4 : tie.Need-returns-4
 unfolding injectionOf
 returns-4 c = (
   λ g b. replies _ _ _ _ _ _ _ _ _ _ (c .with-answer4 .ensures) (λ L s e1 e2 e3 e4 e5 e6. let d = full-there _ _ _ _ _ (sym (c .before .before .before .before .inject .ensures) ∙ c .before .before .enum-told3 .given .1) in told-refuse L s _ 16 (is-full L s (c .before .before .before .before .before .before .before .before .before .before .before .before .before .args .ais) (c .before .before .before .before .before .before .before .before .before .before .before .before .before .args .device) (c .before .before .before .before .before .before .before .before .before .before .before .before .before .args .place) (c .before .before .before .before .before .before .before .before .before .before .before .before .before .args .id .0) b (omega (arith, e1, c .before .before .before .before .before .before .before .before .before .before .before .if1 .left)) e6 (d .0) e3 e5 (d .1) (omega (arith, e2, leb-true (c .before .before .before .before .before .before .before .before .before .before .before .before .before .args .room) (c .before .before .before .before .before .queued .result) (d .2), c .before .before .before .before .before .queued .ensures, (ap queued e4 ∙ queued-sum (c .before .before .before .before .before .before .before .before .before .before .before .before .before .args .order .now) (c .before .before .before .before .before .before .before .before .before .before .before .before .before .args .counts .now) (c .before .before .before .before .before .before .before .before .before .before .before .before .before .args .slots .now) g (omega (arith, c .before .before .before .before .before .before .before .before .before .before .before .before .before .pre .1 .few, c .before .before .before .before .before .before .before .before .before .listed2 .given .0)) (c .before .before .before .before .before .before .before .counted2 .given .0))))) (c .before .refuse3 .ensures) (as-it-was s _ _ _ _ e4 e5 e6)),
-  ((c .before .before .before .before .before .before .before .before .before .before .before .before .before .pre .1, place-of (c .with-answer4 .ensures) (c .before .before .before .before .before .before .before .before .before .before .before .before .before .pre .2)), λ n. (ap (λ (x : Reply). x .device) (c .with-answer4 .ensures), ap (λ (x : Reply). x .place) (c .with-answer4 .ensures), refl, refl, refl)),
+  (
+    (c .before .before .before .before .before .before .before .before .before .before .before .before .before .pre .1, place-of (c .with-answer4 .ensures) (c .before .before .before .before .before .before .before .before .before .before .before .before .before .pre .2)),
+    (
+      λ n. (ap (λ (x : Reply). x .device) (c .with-answer4 .ensures), ap (λ (x : Reply). x .place) (c .with-answer4 .ensures), refl, refl, refl),
+      λ h. ap (λ (x : Reply). x .answer) (c .with-answer4 .ensures) ∙ c .before .refuse3 .ensures ∙ ap answerFor (sym (c .before .before .enum-told3 .given .1) ∙ c .before .before .before .before .inject .ensures ∙ ap (λ (n : ℕ). injectionOf (c .before .before .before .before .before .before .before .before .before .before .before .before .before .args .ais) (c .before .before .before .before .before .before .before .before .before .before .before .before .before .args .device) (c .before .before .before .before .before .before .before .before .before .before .before .before .before .args .place) (leb (c .before .before .before .before .before .before .before .before .before .before .before .before .before .args .room) n)) (c .before .before .before .before .before .queued .ensures)),
+    ),
+  ),
 )
 
 returns-5 : tie.Need-returns-5
@@ -106,7 +133,13 @@ returns-5 c = let d = appended-there _ _ _ _ _ _ _ (sym (c .before .before .befo
   λ g b. replies _ _ _ _ _ _ _ _ _ _ (c .with-answer5 .ensures) (λ L s e1 e2 e3 e4 e5 e6.
       told-accept L s _ 1 _ (is-appended L s (c .before .before .before .before .before .before .before .before .before .before .before .before .before .before .before .before .before .before .args .ais) (c .before .before .before .before .before .before .before .before .before .before .before .before .before .before .before .before .before .before .args .device) (c .before .before .before .before .before .before .before .before .before .before .before .before .before .before .before .before .before .before .args .place) (c .before .before .before .before .before .before .before .before .before .before .before .before .before .before .before .before .before .before .args .id .0) b (omega (arith, e1, c .before .before .before .before .before .before .before .before .before .before .before .before .before .before .before .before .if1 .left)) e6 (d .0) e3 e5 (d .1) (omega (arith, e2, leb-false (c .before .before .before .before .before .before .before .before .before .before .before .before .before .before .before .before .before .before .args .room) (c .before .before .before .before .before .before .before .before .before .before .queued .result) (d .2), c .before .before .before .before .before .before .before .before .before .before .queued .ensures, (ap queued e4 ∙ queued-sum (c .before .before .before .before .before .before .before .before .before .before .before .before .before .before .before .before .before .before .args .order .now) (c .before .before .before .before .before .before .before .before .before .before .before .before .before .before .before .before .before .before .args .counts .now) (c .before .before .before .before .before .before .before .before .before .before .before .before .before .before .before .before .before .before .args .slots .now) g (omega (arith, c .before .before .before .before .before .before .before .before .before .before .before .before .before .before .before .before .before .before .pre .1 .few, c .before .before .before .before .before .before .before .before .before .before .before .before .before .before .listed2 .given .0)) (c .before .before .before .before .before .before .before .before .before .before .before .before .counted2 .given .0))))) (c .before .accept2 .ensures)
       (injected-is L s (c .before .before .before .before .before .before .before .before .before .before .before .before .before .before .before .before .before .before .args .ais) (c .before .before .before .before .before .before .before .before .before .before .before .before .before .before .before .before .before .before .args .device) (c .before .before .before .before .before .before .before .before .before .before .before .before .before .before .before .before .before .before .args .place) (c .before .before .before .before .before .before .before .before .before .before .before .before .before .before .before .before .before .before .args .id .0) b (omega (arith, e1, c .before .before .before .before .before .before .before .before .before .before .before .before .before .before .before .before .if1 .left)) e6 (d .0) e3 e5 _ e4 ∙ (λ i. stateWith s (c .before .before .before .before .before .before .before .before .before .before .before .before .before .before .before .before .before .before .args .id .0) (placeOf (c .before .before .before .before .before .before .before .before .before .before .before .before .before .before .before .before .before .before .args .place)) (sym (c .before .before .append-interrupt .ensures .0 g ∙ ap (λ (x : Subclass). addIo (x .0) (adapterInterrupt (x .0)) (pendingOf (c .before .before .before .before .before .before .before .before .before .before .before .before .before .before .before .before .before .before .args .order .now) (c .before .before .before .before .before .before .before .before .before .before .before .before .before .before .before .before .before .before .args .counts .now) (c .before .before .before .before .before .before .before .before .before .before .before .before .before .before .before .before .before .before .args .slots .now) g)) (d .3)) i) (deviceOf (sym (d .4) i))))),
-  ((c .before .before .append-interrupt .ensures .1, place-of (c .with-answer5 .ensures) (c .before .before .before .before .before .before .before .before .before .before .before .before .before .before .before .before .before .before .pre .2)), λ n. absurd (code-of (c .with-answer5 .ensures) n (ap (λ (x : Answer). x .code) (c .before .accept2 .ensures)))),
+  (
+    (c .before .before .append-interrupt .ensures .1, place-of (c .with-answer5 .ensures) (c .before .before .before .before .before .before .before .before .before .before .before .before .before .before .before .before .before .before .pre .2)),
+    (
+      λ n. absurd (code-of (c .with-answer5 .ensures) n (ap (λ (x : Answer). x .code) (c .before .accept2 .ensures))),
+      λ h. ap (λ (x : Reply). x .answer) (c .with-answer5 .ensures) ∙ c .before .accept2 .ensures ∙ ap answerFor (sym (c .before .before .before .before .before .before .before .what .given .1) ∙ c .before .before .before .before .before .before .before .before .before .inject .ensures ∙ ap (λ (n : ℕ). injectionOf (c .before .before .before .before .before .before .before .before .before .before .before .before .before .before .before .before .before .before .args .ais) (c .before .before .before .before .before .before .before .before .before .before .before .before .before .before .before .before .before .before .args .device) (c .before .before .before .before .before .before .before .before .before .before .before .before .before .before .before .before .before .before .args .place) (leb (c .before .before .before .before .before .before .before .before .before .before .before .before .before .before .before .before .before .before .args .room) n)) (c .before .before .before .before .before .before .before .before .before .before .queued .ensures)),
+    ),
+  ),
 )
 
 pub inject-spec : {M : Type 1} → statement M

@@ -62,7 +62,7 @@ inject-requires c κs = search needs
 
 returns-4 : tie.Need-returns-4
 unfolding request aboutOf choose
-returns-4 c = (as-set (c .before .before .before .before .before .before .before .before .before .args .device) (c .before .before .before .before .before .before .before .before .before .args .place) (c .inject .result) (c .before .before .before .before .before .before .before .before .before .args .attr) 10 (c .before .before .before .before .if4 .taken) (c .inject .ensures .0 _ _), (c .inject .ensures .1 .0, λ n. let m = c .inject .ensures .1 .1 n in (m .0, m .1, m .2, m .3, m .4, refl)))
+returns-4 c = (as-set (c .before .before .before .before .before .before .before .before .before .args .device) (c .before .before .before .before .before .before .before .before .before .args .place) (c .inject .result) (c .before .before .before .before .before .before .before .before .before .args .attr) 10 (c .before .before .before .before .if4 .taken) (c .inject .ensures .0 _ _), (c .inject .ensures .1 .0, λ n. let m = c .inject .ensures .1 .1 .0 n in (m .0, m .1, m .2, m .3, m .4, refl)))
 
 set-values-requires : tie.Need-set-values-requires
 set-values-requires c κs = search needs

@@ -21,6 +21,18 @@ adapterOf p =
 unfoldable pub placeOf : Place → rules.Place
 placeOf p = choose (p .used) (rules.holds (adapterOf p)) rules.free
 
+-- a place with its masked field set
+abbrev pub withMasked : Bool → Place → Place
+withMasked on p =
+    record {
+      used = p .used;
+      isc = p .isc;
+      maskable = p .maskable;
+      swap = p .swap;
+      suppressible = p .suppressible;
+      masked = on;
+    }
+
 -- What every place made here satisfies: unused, it is the one unused place; its subclass is below 8; only a maskable adapter is masked.
 abbrev pub unused : Place
 unused = record { used = false; isc = 0; maskable = false; swap = false; suppressible = false; masked = false }

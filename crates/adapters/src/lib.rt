@@ -3,7 +3,7 @@ ghost use mathlib.Core.Path.{_≡_};
 ghost use mathlib.Core.Bool.{true, false};
 ghost use Prim.Native.Nat.{_<_, _≤_};
 ghost use Rattle.rules.specs.State.{free, holds, bit, hasBit, withBit, withoutBit};
-ghost use Rattle.adapters.specs.Values.{placeOf, deviceOf, Canonical, maskedAs, modeSet, underAis, injectionOf};
+ghost use Rattle.adapters.specs.Values.{placeOf, deviceOf, Canonical, maskedAs, modeSet, underAis, injectionOf, withMasked};
 use words::Subclass;
 
 // The masks and the page-fault flag.
@@ -154,6 +154,7 @@ pub fn registered(isc: Subclass, maskable: bool, swap: bool, suppressible: bool)
 pub fn mask_set(p: Place, on: bool) -> Place
     ensures { λ r. ⌜ placeOf r ≡ maskedAs (placeOf p) on ⌝ }
     ensures canonical { λ r. ⌜ (Canonical p → (on ≡ true → p .maskable ≡ true) → Canonical r) ⌝ }
+    ensures others { λ r. ⌜ r ≡ withMasked (r .masked) p ⌝ }
 {
     if p.used {
         return Place {

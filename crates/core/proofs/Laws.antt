@@ -194,3 +194,7 @@ code-of er n e = n (ap (λ (x : Reply). x .answer .code) er ∙ e)
 
 pub place-of : {a : Answer} {d : Device} {p : Place} {r : Reply} → r ≡ record { answer = a; device = d; place = p } → Canonical p → Canonical (r .place)
 place-of er h = subst (λ (x : Reply). Canonical (x .place)) (sym er) h
+
+-- a group number is one number
+pub other-group {ℓ} : {A : Type ℓ} {g m n : ℕ} → g ≡ m → g ≡ n → (m ≡ n → ⊥) → A
+other-group e f d = absurd (d (sym e ∙ f))

@@ -1,5 +1,6 @@
 // Inner crate: every request of groups 1 to 11, on lent records, with a device record and one adapter place by value.
 ghost use mathlib.Core.Path.{_≡_};
+ghost use mathlib.Core.Bool.{true};
 ghost use mathlib.Core.List.{List};
 ghost use Prim.Native.Nat.{ℕ, _≤_, _<_};
 ghost use lib.Dec.{leb};
@@ -8,7 +9,7 @@ ghost use Rattle.rules.specs.Requests.{airqInject, setRequest, getRequest, requ
 ghost use Rattle.queues.specs.Queues.{sum, Held};
 ghost use Rattle.answers.specs.Answers.{Answers};
 ghost use Rattle.records.specs.Memory.{pendingOf};
-ghost use Rattle.adapters.specs.Values.{deviceOf, Canonical, injectionOf};
+ghost use Rattle.adapters.specs.Values.{deviceOf, Canonical, injectionOf, withMasked};
 ghost use Rattle.core.specs.Cases.{answerFor};
 ghost use Rattle.values.specs.States.{aboutOf, Replies};
 use adapters::Device;
@@ -74,6 +75,7 @@ pub fn set_request(
     ensures answer { λ r. ⌜ Replies places room ais device place (aboutOf group attr (now (payload .entry))) (now (payload .entry)) (λ L s. request L s (setRequest group) attr (now (payload .entry))) (pendingOf (now (order .entry)) (now (counts .entry)) (now (slots .entry)) (now (singles .entry))) (pendingOf (now (order .exit)) (now (counts .exit)) (now (slots .exit)) (now (singles .exit))) r ⌝ }
     ensures held { λ r. ⌜ Held (now (order .exit)) (now (counts .exit)) × Canonical (r .place) ⌝ }
     ensures kept { λ r. ⌜ ((r .answer .code ≡ 0 → ⊥) → (r .device ≡ device) × (r .place ≡ place) × (now (slots .exit) ≡ now (slots .entry)) × (now (order .exit) ≡ now (order .entry)) × (now (counts .exit) ≡ now (counts .entry)) × (now (singles .exit) ≡ now (singles .entry))) ⌝ }
+    ensures others { λ r. ⌜ (group ≡ 7 → place .used ≡ true → r .place ≡ withMasked (r .place .masked) place) ⌝ }
 {
     if group == 2 {
         let a = records::enqueue_irqs(slots, order, counts, singles, room, attr, payload);

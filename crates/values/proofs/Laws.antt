@@ -16,7 +16,7 @@ use Rattle.rules.specs.State.{Limits, Pending, State}
 use Rattle.rules.specs.Outcome.{Outcome, refuse, accept, holder_else_⨾_, result}
 use Rattle.adapters.specs.declared.Device.{Device}
 use Rattle.adapters.specs.declared.Place.{Place}
-use Rattle.adapters.specs.Values.{placeOf, deviceOf, Canonical, modeSet}
+use Rattle.adapters.specs.Values.{placeOf, deviceOf, Canonical, withMasked, modeSet}
 use Rattle.answers.specs.declared.Answer.{Answer}
 use Rattle.answers.specs.Answers.{Answers}
 use Rattle.values.specs.declared.Reply.{Reply}
@@ -71,18 +71,21 @@ module _ (places room : ℕ) (ais : Bool) (device : Device) (place : Place) (id 
         answer = λ p L s e1 e2 e3 e4 e5 e6. refuses code f p L s e1 e3 e4 e5 e6;
         kept = λ k. (refl, refl);
         canonical = λ k. k;
+        others = λ u. refl;
       })
 
   pub accepted : {device′ : Device} {place′ : Place} {a : Answer} {r : Reply} → a ≡ record { code = 0; count = 0 }
       → r ≡ record { answer = a; device = device′; place = place′ } → (Canonical place → Canonical place′)
+      → (place .used ≡ true → place′ ≡ withMasked (place′ .masked) place)
       → Gives (λ L s. accept 0 (stateWith s id (placeOf place′) (s .pending) (deviceOf device′)) []) → Replied places room ais device place id b o r
-  accepted {device′} {place′} ea er k f =
+  accepted {device′} {place′} ea er k m f =
       subst (Replied places room ais device place id b o)
       (sym (er ∙ ap (λ (x : Answer). record { answer = x; device = device′; place = place′ }) ea))
       (record {
         answer = λ p L s e1 e2 e3 e4 e5 e6. accepts device′ place′ f p L s e1 e3 e4 e5 e6;
         kept = λ n. absurd (n refl);
         canonical = k;
+        others = m;
       })
 
   -- where the place is as it was

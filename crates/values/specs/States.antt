@@ -1,7 +1,7 @@
 -- Which adapter a set request is about, and what a reply says.
 use Prim.Native.Nat.{ℕ, _^_}
 use mathlib.Core.Path.{_≡_}
-use mathlib.Core.Bool.{Bool, _||_}
+use mathlib.Core.Bool.{Bool, true, _||_}
 use mathlib.Core.List.{List}
 use lib.ListN.{length, getD, set}
 use lib.Dec.{leb, eqb}
@@ -11,7 +11,7 @@ use Rattle.rules.specs.State.{Limits, Pending, State}
 use Rattle.rules.specs.Outcome.{Outcome}
 use Rattle.adapters.specs.declared.Device.{Device}
 use Rattle.adapters.specs.declared.Place.{Place}
-use Rattle.adapters.specs.Values.{placeOf, deviceOf, Canonical}
+use Rattle.adapters.specs.Values.{placeOf, deviceOf, Canonical, withMasked}
 use Rattle.answers.specs.Answers.{Answers}
 use Rattle.values.specs.declared.Reply.{Reply}
 
@@ -36,8 +36,10 @@ Replies places room ais device place id b o before after r =
     → getD (s .adapters) id rules.free ≡ placeOf place
     → Answers L s b (o L s) (r .answer) (stateWith s id (placeOf (r .place)) after (deviceOf (r .device))) b
 
--- What a request that touches no pending record promises of its reply: the answer; a refusal leaves the values equal; a place made here stays so.
+-- What a request that touches no pending record promises of its reply: the answer; a refusal leaves the values equal; a place made here stays so;
+-- of a used place no field but `masked` changes.
 pub record Replied (places room : ℕ) (ais : Bool) (device : Device) (place : Place) (id : ℕ) (b : List ℕ) (o : Limits → State → Outcome) (r : Reply) : Type 0 where
   pub answer : (p : Pending) → Replies places room ais device place id b o p p r
   pub kept : (r .answer .code ≡ 0 → ⊥) → (r .device ≡ device) × (r .place ≡ place)
   pub canonical : Canonical place → Canonical (r .place)
+  pub others : place .used ≡ true → r .place ≡ withMasked (r .place .masked) place

@@ -1,0 +1,4 @@
+pub mod Tables
+pub mod Promises
+pub mod Follows
+pub mod Claim

@@ -1,0 +1,138 @@
+-- From what the inner functions promise to what the public calls promise.
+use Prim.Native.Nat.{ℕ}
+use mathlib.Core.Path.{_≡_, refl, ap, sym, _∙_, subst}
+use mathlib.Core.Bool.{Bool, true, false}
+use mathlib.Core.List.{List}
+use native.Mathlib.Omega.{arith}
+use lib.ListN.{length, getD, set}
+use lib.Seq.{set-getD}
+use lib.Dec.{eqb}
+use borrow.Author.Tests.{eq-eqb, ne-eqb, eqb-true, eqb-false}
+use Rattle.rules.specs.Bytes.{choose}
+use Rattle.rules.specs.State.{State, Pending, Place as RulesPlace, free, paperLimits}
+use Rattle.rules.specs.Outcome.{Outcome, refuse, need_else_⨾_, result}
+use Rattle.rules.specs.Outcome.{Answer as Told}
+use Rattle.rules.specs.Requests.{setRequest, getRequest, request}
+use Rattle.rules.specs.Machine.{Ask, Call, setAttr, getAttr, outcome, step}
+use Rattle.rules.proofs.Checks.{passes, fails}
+use Rattle.rules.proofs.Lists.{All, all-set, all-get}
+use Rattle.rules.proofs.Reachable.{Sound, kept-step}
+use Rattle.answers.specs.declared.Answer.{Answer}
+use Rattle.adapters.specs.declared.Device.{Device}
+use Rattle.adapters.specs.declared.Place.{Place}
+use Rattle.adapters.specs.Values.{placeOf, deviceOf, unused, Canonical, withMasked}
+use Rattle.queues.specs.Queues.{Held}
+use Rattle.records.specs.Memory.{pendingOf}
+use Rattle.values.specs.States.{aboutOf, stateWith}
+use Rattle.flic.specs.declared.Controller.{Controller}
+use Rattle.flic.specs.declared.Decision.{Decision}
+use Rattle.flic.specs.Surface.{stateOf, Ready, Valid, Steps, Requested}
+use Rattle.flic.specs.Inner.{placeAfter, Decided, Got}
+use Rattle.flic.proofs.Tables.{map-set, getD-map, put-and-change}
+
+canonical-unused : Canonical unused
+canonical-unused = record { unusedOne = λ e. refl; iscSmall = omega arith; maskedMaskable = λ e. e }
+
+-- ---- the table after a place is entered at an id and its masked field is set
+abbrev pub tableAfter : List Place → ℕ → Decision → List Place
+tableAfter t id r = set (set t id (r .entered)) id (withMasked (r .masked) (getD (set t id (r .entered)) id unused))
+
+table-is : (t : List Place) (id : ℕ) (r : Decision) → tableAfter t id r ≡ set t id (placeAfter r)
+table-is t id r = put-and-change (withMasked (r .masked)) t id (r .entered) unused
+
+module _ (c c′ : Controller) (d : Device) (t : List Place) where
+  pub may-decide : (id : ℕ) → (length t ≡ paperLimits .places → Valid c d t)
+      → length t ≡ paperLimits .places → Held (c .order) (c .counts) × Canonical (getD t id unused)
+  may-decide id h e = (h e .ready, all-get Canonical t id unused (h e .places) canonical-unused)
+
+  -- a place as the rules see it
+  seen-place : (id : ℕ) → getD (stateOf c d t .adapters) id free ≡ placeOf (getD t id unused)
+  unfolding stateOf placeOf choose
+  seen-place id = getD-map placeOf t id unused
+
+  next-state : (id : ℕ) (d′ : Device) (p : Place) → c′ .ais ≡ c .ais
+      → stateWith (stateOf c d t) id (placeOf p) (pendingOf (c′ .order) (c′ .counts) (c′ .slots) (c′ .singles)) (deviceOf d′) ≡ stateOf c′ d′ (set t id p)
+  unfolding stateOf
+  next-state id d′ p a =
+      λ i. record {
+        ais = (sym a) i;
+        adapters = (sym (map-set placeOf t id p)) i;
+        pending = pendingOf (c′ .order) (c′ .counts) (c′ .slots) (c′ .singles);
+        device = deviceOf d′;
+      }
+
+-- a state that a step leads to is sound
+pub next-sound : (ask : Ask) (c c′ : Controller) (d d′ : Device) (t t′ : List Place) (b b′ : List ℕ) (r : Answer) → Valid c d t
+    → Steps ask c c′ d d′ t t′ b b′ r → Sound paperLimits (stateOf c′ d′ t′)
+next-sound ask c c′ d d′ t t′ b b′ r h e =
+    subst (Sound paperLimits) (ap (λ (a : Told). a .next) e) (kept-step paperLimits (stateOf c d t) (h .sound) _ .sound)
+
+-- a table that is checked first: its length is right, or not
+module _ (n : ℕ) (code : ℕ) (o : Outcome) where
+  pub right-table : n ≡ paperLimits .places → (need eqb n (paperLimits .places) else code ⨾ o) ≡ o
+  right-table e = passes _ _ _ (eq-eqb n (paperLimits .places) e)
+
+  pub wrong-table : (n ≡ paperLimits .places → ⊥) → (need eqb n (paperLimits .places) else code ⨾ o) ≡ refuse code
+  wrong-table e = fails _ _ _ (ne-eqb n (paperLimits .places) e)
+
+pub by-length {ℓ} : {A : Type ℓ} (n : ℕ) → (n ≡ paperLimits .places → A) → ((n ≡ paperLimits .places → ⊥) → A) → A
+by-length {A = A} n f g = go (eqb n (paperLimits .places)) refl
+  where
+    go : (t : Bool) → eqb n (paperLimits .places) ≡ t → A
+    go true e = f (eqb-true n (paperLimits .places) e)
+    go false e = g (eqb-false n (paperLimits .places) e)
+
+pub not-zero : {a : Answer} → a ≡ record { code = 14; count = 0 } → a .code ≡ 0 → ⊥
+not-zero e z = let y : _≡_ {A = ℕ} 14 0 = sym (ap (λ (x : Answer). x .code) e) ∙ z in omega (arith, y)
+
+module _ (group attr : ℕ) (c c′ : Controller) (d : Device) (t : List Place) (b : List ℕ) (r : Decision) where
+  abbrev id : ℕ
+  id = aboutOf group attr b
+
+  module _ (a : c′ .ais ≡ c .ais) (f : Decided (length t) group attr c c′ d (getD t id unused) b r) where
+    -- nothing was changed
+    same : (r .answer .code ≡ 0 → ⊥) → (c′ ≡ c) × (r .device ≡ d) × (tableAfter t id r ≡ t) × (b ≡ b)
+    same n = let k = f .kept n in (k .0, k .1, table-is t id r ∙ ap (set t id) (k .2) ∙ set-getD t id unused, refl)
+
+    set-steps : Steps (setAttr group attr) c c′ d (r .device) t (tableAfter t id r) b b (r .answer)
+    unfolding step outcome result stateOf
+    set-steps =
+        by-length (length t)
+        (λ e. ap (result paperLimits (stateOf c d t) b) (right-table (length t) 14 _ e)
+        ∙ f .answer e paperLimits (stateOf c d t) refl refl refl refl refl (seen-place c c′ d t id)
+        ∙ (λ i. record { code = r .answer .code; count = r .answer .count; next = (next-state c c′ d t id (r .device) (placeAfter r) a ∙ ap (stateOf c′ (r .device)) (sym (table-is t id r))) i; buffer = b }))
+        (λ e. let w = f .wrong e in let k = same (not-zero w) in
+        ap (result paperLimits (stateOf c d t) b) (wrong-table (length t) 14 _ e)
+        ∙ (λ i. record { code = (sym w) i .code; count = (sym w) i .count; next = stateOf ((sym (k .0)) i) ((sym (k .1)) i) ((sym (k .2)) i); buffer = b }))
+
+    pub set-promises : (length t ≡ paperLimits .places → Valid c d t)
+        → Requested (setAttr group attr) c c′ d (r .device) t (tableAfter t id r) b b (r .answer)
+    set-promises h =
+        record {
+          steps = set-steps;
+          kept = same;
+          valid = λ e. record {
+            ready = f .held e .0;
+            places = subst (All Canonical) (sym (table-is t id r)) (all-set Canonical t id (placeAfter r) (h e .places) (f .held e .1));
+            sound = next-sound (setAttr group attr) c c′ d (r .device) t (tableAfter t id r) b b (r .answer) (h e) set-steps;
+          };
+        }
+
+module _ (group attr : ℕ) (c : Controller) (d : Device) (t : List Place) (b b′ : List ℕ) (r : Answer) (f : Got (length t) group attr c d b b′ r) where
+  get-steps : Steps (getAttr group attr) c c d d t t b b′ r
+  unfolding step outcome result stateOf
+  get-steps =
+      by-length (length t)
+      (λ e. ap (result paperLimits (stateOf c d t) b) (right-table (length t) 14 _ e) ∙ f .answer e (stateOf c d t) refl refl refl)
+      (λ e. let w = f .wrong e in
+      ap (result paperLimits (stateOf c d t) b) (wrong-table (length t) 14 _ e)
+      ∙ (λ i. record { code = (sym w) i .code; count = (sym w) i .count; next = stateOf c d t; buffer = (sym (f .kept (not-zero w))) i }))
+
+  pub get-promises : (length t ≡ paperLimits .places → Valid c d t) → Requested (getAttr group attr) c c d d t t b b′ r
+  get-promises h = record { steps = get-steps; kept = λ n. (refl, refl, refl, f .kept n); valid = h }
+
+-- an answer with another name for the place
+pub place-named : (a : Answer) (s : State) (id : ℕ) (b : List ℕ) (q : Pending) (d : Device) {p p′ : Place} {x : Told} → p ≡ p′
+    → x ≡ record { code = a .code; count = a .count; next = stateWith s id (placeOf p′) q (deviceOf d); buffer = b }
+    → x ≡ record { code = a .code; count = a .count; next = stateWith s id (placeOf p) q (deviceOf d); buffer = b }
+place-named a s id b q d e f = f ∙ (λ i. record { code = a .code; count = a .count; next = stateWith s id (placeOf ((sym e) i)) q (deviceOf d); buffer = b })

@@ -1,0 +1,42 @@
+-- What the inner functions of the public calls promise, on the controller's arrays and with one adapter place by value.
+use Prim.Native.Nat.{ℕ}
+use mathlib.Core.Path.{_≡_}
+use mathlib.Core.Bool.{Bool}
+use mathlib.Core.List.{List}
+use Rattle.rules.specs.State.{State, paperLimits}
+use Rattle.rules.specs.Requests.{setRequest, getRequest, request}
+use Rattle.answers.specs.declared.Answer.{Answer}
+use Rattle.answers.specs.Answers.{Answers}
+use Rattle.adapters.specs.declared.Device.{Device}
+use Rattle.adapters.specs.declared.Place.{Place}
+use Rattle.adapters.specs.Values.{deviceOf, Canonical, withMasked}
+use Rattle.records.specs.Memory.{pendingOf}
+use Rattle.values.specs.States.{Replies, aboutOf}
+use Rattle.flic.specs.declared.Controller.{Controller}
+use Rattle.flic.specs.declared.Decision.{Decision}
+use Rattle.flic.specs.Surface.{Ready}
+
+-- a controller from its arrays and its capability
+abbrev pub controller : (slots order counts singles : List ℕ) → Bool → Controller
+controller slots order counts singles ais = record { slots = slots; order = order; counts = counts; singles = singles; ais = ais }
+
+-- the adapter place after a set request
+abbrev pub placeAfter : Decision → Place
+placeAfter r = withMasked (r .masked) (r .entered)
+
+-- A set request with a table of so many places, on the place p of the adapter that it is about.
+pub record Decided (table group attr : ℕ) (c c′ : Controller) (d : Device) (p : Place) (b : List ℕ) (r : Decision) : Type 0 where
+  pub wrong : (table ≡ paperLimits .places → ⊥) → r .answer ≡ record { code = 14; count = 0 }
+  pub answer : table ≡ paperLimits .places
+      → Replies (paperLimits .places) (paperLimits .room) (c .ais) d p (aboutOf group attr b) b (λ L s. request L s (setRequest group) attr b)
+      (pendingOf (c .order) (c .counts) (c .slots) (c .singles)) (pendingOf (c′ .order) (c′ .counts) (c′ .slots) (c′ .singles))
+      (record { answer = r .answer; device = r .device; place = placeAfter r })
+  pub kept : (r .answer .code ≡ 0 → ⊥) → (c′ ≡ c) × (r .device ≡ d) × (placeAfter r ≡ p)
+  pub held : table ≡ paperLimits .places → Ready c′ × Canonical (placeAfter r)
+
+-- A get request with a table of so many places.
+pub record Got (table group attr : ℕ) (c : Controller) (d : Device) (b b′ : List ℕ) (r : Answer) : Type 0 where
+  pub wrong : (table ≡ paperLimits .places → ⊥) → r ≡ record { code = 14; count = 0 }
+  pub answer : table ≡ paperLimits .places → (s : State) → s .ais ≡ c .ais → s .pending ≡ pendingOf (c .order) (c .counts) (c .slots) (c .singles)
+      → s .device ≡ deviceOf d → Answers paperLimits s b (request paperLimits s (getRequest group) attr b) r s b′
+  pub kept : (r .code ≡ 0 → ⊥) → b′ ≡ b

@@ -1,0 +1,3 @@
+pub mod Surface
+pub mod Inner
+pub mod Chain

@@ -5,6 +5,7 @@ pub mod Decode
 pub mod Reachable
 pub mod Replay
 pub mod Move
+pub mod Shapes
 pub mod Unread
 pub mod Computes
 pub mod Examples

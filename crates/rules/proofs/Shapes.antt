@@ -1,0 +1,179 @@
+-- What the outcome of a call can be: a set request writes nothing, a get request and the writing of a list leave the state as it was, and no call
+-- but the playing of a list is refused part-way.
+use Prim.Native.Nat.{ℕ, suc, _/_}
+use mathlib.Core.Path.{_≡_, refl}
+use mathlib.Core.Bool.{Bool, true, false}
+use mathlib.Core.Option.{Option, none, some}
+use mathlib.Core.List.{List, [], _∷_}
+use Rattle.rules.specs.Bytes.{choose}
+use Rattle.rules.specs.State.{Limits, Adapter, Place, free, holds, Record, recordBytes, Pending, State}
+use Rattle.rules.specs.Outcome.{Outcome, refuse, accept, reset, need_else_⨾_, holder_else_⨾_}
+use Rattle.rules.specs.Requests.{Request, noRequest, getAllIrqs, enqueue, clearIrqs, apfEnable, apfDisableWait, adapterRegister, adapterModify, clearIoIrq, aism, airqInject, setAismAll, getAismAll, setGroups, getGroups, setRequest, getRequest, lists, enqueues, clears, flags, registers, modifies, removes, clearsIo, setsMode, injects, request}
+use Rattle.rules.specs.Take.{Handed, handsOut, takes}
+use Rattle.rules.specs.MoveList.{Entry, writes, onward, applies, plays}
+use Rattle.rules.specs.Machine.{setAttr, getAttr, guestTake, writeList, playList, outcome}
+use Rattle.rules.proofs.Lists.{All, all-get}
+
+-- accepted with such a next state and such bytes written; refused part-way only if
+abbrev pub Shape : (State → Type 0) → (List ℕ → Type 0) → Type 0 → Outcome → Type 0
+Shape N B Z (refuse code) = Unit {0}
+Shape N B Z (accept count next written) = N next × B written
+Shape N B Z (reset code place) = Z
+
+module _ (N : State → Type 0) (B : List ℕ → Type 0) (Z : Type 0) where
+  needs : (t : Bool) (code : ℕ) (o : Outcome) → Shape N B Z o → Shape N B Z (need t else code ⨾ o)
+  unfolding need_else_⨾_
+  needs true code o h = h
+  needs false code o h = tt
+
+  holders : (p : Place) (code : ℕ) (f : Adapter → Outcome) → ((x : Adapter) → Shape N B Z (f x)) → Shape N B Z (holder p else code ⨾ f)
+  unfolding holder_else_⨾_
+  holders free code f h = tt
+  holders (holds x) code f h = h x
+
+  chooses : (t : Bool) (x y : Outcome) → Shape N B Z x → Shape N B Z y → Shape N B Z (choose t x y)
+  unfolding choose
+  chooses true x y h k = h
+  chooses false x y h k = k
+
+abbrev pub Any {ℓ} : {A : Type ℓ} → A → Type 0
+Any a = Unit {0}
+
+abbrev pub None : List ℕ → Type 0
+None w = w ≡ []
+
+-- ---- requests that set
+abbrev pub Sets : Outcome → Type 0
+Sets = Shape Any None ⊥
+
+set-need : (t : Bool) (code : ℕ) (o : Outcome) → Sets o → Sets (need t else code ⨾ o)
+set-need = needs Any None ⊥
+
+abbrev IsSet : Request → Type 0
+IsSet noRequest = Unit {0}
+IsSet getAllIrqs = ⊥
+IsSet enqueue = Unit {0}
+IsSet clearIrqs = Unit {0}
+IsSet apfEnable = Unit {0}
+IsSet apfDisableWait = Unit {0}
+IsSet adapterRegister = Unit {0}
+IsSet adapterModify = Unit {0}
+IsSet clearIoIrq = Unit {0}
+IsSet aism = Unit {0}
+IsSet airqInject = Unit {0}
+IsSet setAismAll = Unit {0}
+IsSet getAismAll = ⊥
+
+sets-removed : (s : State) (o : Option (List (List Record))) → Sets (removes s o)
+unfolding removes
+sets-removed s none = (tt, refl)
+sets-removed s (some qs) = (tt, refl)
+
+sets-one : (L : Limits) (s : State) (q : Request) (attr : ℕ) (b : List ℕ) → IsSet q → Sets (request L s q attr b)
+unfolding request enqueues clears flags registers modifies clearsIo setsMode injects
+sets-one L s noRequest attr b k = tt
+sets-one L s getAllIrqs attr b k = absurd k
+sets-one L s enqueue attr b k = set-need _ _ _ (set-need _ _ _ (set-need _ _ _ (set-need _ _ _ (tt, refl))))
+sets-one L s clearIrqs attr b k = set-need _ _ _ (tt, refl)
+sets-one L s apfEnable attr b k = set-need _ _ _ (tt, refl)
+sets-one L s apfDisableWait attr b k = set-need _ _ _ (tt, refl)
+sets-one L s adapterRegister attr b k =
+    set-need _ _ _ (set-need _ _ _ (set-need _ _ _ (set-need _ _ _ (set-need _ _ _ (tt, refl)))))
+sets-one L s adapterModify attr b k =
+    set-need _ _ _ (set-need _ _ _ (set-need _ _ _ (holders Any None ⊥ _ _ _ (λ x.
+    set-need _ _ _ (set-need _ _ _ (tt, refl))))))
+sets-one L s clearIoIrq attr b k = set-need _ _ _ (set-need _ _ _ (set-need _ _ _ (sets-removed s _)))
+sets-one L s aism attr b k =
+    set-need _ _ _ (set-need _ _ _ (set-need _ _ _ (set-need _ _ _ (set-need _ _ _ (tt, refl)))))
+sets-one L s airqInject attr b k =
+    set-need _ _ _ (holders Any None ⊥ _ _ _ (λ x. chooses Any None ⊥ _ _ _ (tt, refl) (set-need _ _ _ (tt, refl))))
+sets-one L s setAismAll attr b k = set-need _ _ _ (set-need _ _ _ (set-need _ _ _ (tt, refl)))
+sets-one L s getAismAll attr b k = absurd k
+
+set-group : (group : ℕ) → IsSet (setRequest group)
+set-group group = all-get IsSet setGroups group noRequest (tt, (tt, (tt, (tt, (tt, (tt, (tt, (tt, (tt, (tt, (tt, (tt, tt)))))))))))) tt
+
+pub set-shape : (L : Limits) (s : State) (group attr table : ℕ) (b : List ℕ) → Sets (outcome L s (setAttr group attr) table b)
+unfolding outcome
+set-shape L s group attr table b = set-need _ _ _ (sets-one L s (setRequest group) attr b (set-group group))
+
+-- ---- requests that get, and the writing of a list
+abbrev pub Gets : State → Outcome → Type 0
+Gets s = Shape (λ t. t ≡ s) Any ⊥
+
+abbrev IsGet : Request → Type 0
+IsGet noRequest = Unit {0}
+IsGet getAllIrqs = Unit {0}
+IsGet enqueue = ⊥
+IsGet clearIrqs = ⊥
+IsGet apfEnable = ⊥
+IsGet apfDisableWait = ⊥
+IsGet adapterRegister = ⊥
+IsGet adapterModify = ⊥
+IsGet clearIoIrq = ⊥
+IsGet aism = ⊥
+IsGet airqInject = ⊥
+IsGet setAismAll = ⊥
+IsGet getAismAll = Unit {0}
+
+module _ (L : Limits) (s : State) where
+  get-need : (t : Bool) (code : ℕ) (o : Outcome) → Gets s o → Gets s (need t else code ⨾ o)
+  get-need = needs (λ t. t ≡ s) Any ⊥
+
+  gets-one : (q : Request) (attr : ℕ) (b : List ℕ) → IsGet q → Gets s (request L s q attr b)
+  unfolding request lists
+  gets-one noRequest attr b k = tt
+  gets-one getAllIrqs attr b k = get-need _ _ _ (get-need _ _ _ (get-need _ _ _ (refl, tt)))
+  gets-one enqueue attr b k = absurd k
+  gets-one clearIrqs attr b k = absurd k
+  gets-one apfEnable attr b k = absurd k
+  gets-one apfDisableWait attr b k = absurd k
+  gets-one adapterRegister attr b k = absurd k
+  gets-one adapterModify attr b k = absurd k
+  gets-one clearIoIrq attr b k = absurd k
+  gets-one aism attr b k = absurd k
+  gets-one airqInject attr b k = absurd k
+  gets-one setAismAll attr b k = absurd k
+  gets-one getAismAll attr b k = get-need _ _ _ (get-need _ _ _ (get-need _ _ _ (refl, tt)))
+
+  get-group : (group : ℕ) → IsGet (getRequest group)
+  get-group group = all-get IsGet getGroups group noRequest (tt, (tt, (tt, (tt, (tt, (tt, (tt, (tt, (tt, (tt, (tt, (tt, tt)))))))))))) tt
+
+  pub get-shape : (group attr table : ℕ) (b : List ℕ) → Gets s (outcome L s (getAttr group attr) table b)
+  unfolding outcome
+  get-shape group attr table b = get-need _ _ _ (gets-one (getRequest group) attr b (get-group group))
+
+  pub write-shape : (table : ℕ) (b : List ℕ) → Gets s (outcome L s writeList table b)
+  unfolding outcome writes
+  write-shape table b = get-need _ _ _ (get-need _ _ _ (refl, tt))
+
+-- ---- the take
+hands-shape : (s : State) (o : Option (Handed Pending)) → Shape Any Any ⊥ (handsOut s o)
+unfolding handsOut
+hands-shape s none = (tt, tt)
+hands-shape s (some h) = (tt, tt)
+
+pub take-shape : (L : Limits) (s : State) (subclasses : ℕ) (external mcheck : Bool) (table : ℕ) (b : List ℕ)
+    → Shape Any Any ⊥ (outcome L s (guestTake subclasses external mcheck) table b)
+unfolding outcome takes
+take-shape L s subclasses external mcheck table b = needs Any Any ⊥ _ _ _ (hands-shape s _)
+
+-- ---- the playing of a list writes nothing
+apply-shape : (o : Outcome) (place : ℕ) (rest : State → Outcome) → ((t : State) → Shape Any None (Unit {0}) (rest t)) → Shape Any None (Unit {0}) (onward o place rest)
+unfolding onward
+apply-shape (refuse code) place rest h = tt
+apply-shape (accept count next written) place rest h = h next
+apply-shape (reset code at) place rest h = tt
+
+applies-shape : (L : Limits) (place : ℕ) (s : State) (es : List Entry) → Shape Any None (Unit {0}) (applies L place s es)
+unfolding applies
+applies-shape L place s [] = (tt, refl)
+applies-shape L place s (e ∷ es) = apply-shape _ place (λ t. applies L (suc place) t es) (λ t. applies-shape L (suc place) t es)
+
+pub play-shape : (L : Limits) (s : State) (table : ℕ) (b : List ℕ) → Shape Any None (Unit {0}) (outcome L s playList table b)
+unfolding outcome plays
+play-shape L s table b =
+    go _ _ _ (go _ _ _ (go _ _ _ (go _ _ _ (go _ _ _ (go _ _ _ (go _ _ _ (go _ _ _ (applies-shape L 0 _ _))))))))
+  where
+    go : (t : Bool) (code : ℕ) (o : Outcome) → Shape Any None (Unit {0}) o → Shape Any None (Unit {0}) (need t else code ⨾ o)
+    go = needs Any None (Unit {0})

@@ -1,7 +1,8 @@
--- The calls of `look_up` and of `register`, each as one step of a walk: the caller holds the table's memory, `row`, as it does while its borrow is open. The row is lent for a lifetime of the call and comes back.
---     looks-up     row ys ∷ Γ,  a call of `look_up` at (ys, id)  ⟶  row ys ∷ Γ,  the result is the adapter at id
---     registers         row ys ∷ Γ,  a call of `register` at (ys, id, a)   ⟶  row (set ys (id .0) a) ∷ Γ
-use Rattle.table.proofs.Walk.{_≡_, refl, sym, ap, subst, ℕ, Bool, [], _∷_, List, length, getD, set, URA, fullShare, named, Val, vunit, vbool, SProp, ent, sep, snd∗, exE, id⊢, feq, flent, GName, ftrue, flft, Memory, Routine, Heap, Env, Calls, Loops, Atoms, sem, Fun, fact, Given, Item, Seq, runs, lands, ‵, raw, some, later, _⊛_, _$_, _∵_, !, qed, move, drop, use1, use2, use3, split, join, pick, rewrite, fsplit, fjoin, feqL, feqI, frame, await, done, Opds, cells, Arr, lft-new, lft-end, lent-back, arr-parts, FmC, Is, shows, mem, shares, Boolean, bool-makes, RefT, sliceVal, MutSlice, ShrSlice, Room, Held, lends-slice, slice-back, lends-shr-slice, whole-out, whole-in, row, only, owned, peeks, heard, nothing, tripleOf, Contract, Triple, calls-at, ensured, lasts}
+-- The calls of the functions over a table, each as one step of a walk.
+--     looks-up, snapshots                  the caller holds the table's memory, `row`, as it does while its borrow is open: it is lent for a lifetime of the call and comes back
+--     looks-up-shared, snapshots-shared    the caller passes its own `&[Place]` on: it holds the token of the slice's lifetime and what the slice owns (Gives.antt's `Shared`), and keeps both
+--     registers, masks, restores           row ys ∷ Γ  ⟶  row of the new table ∷ Γ
+use Rattle.table.proofs.Walk.{refl, ℕ, _<_, _^_, Bool, [], _∷_, List, length, getD, set, URA, fullShare, w64, Val, vunit, vint, vbool, SProp, ent, sep, snd∗, exE, id⊢, GName, Lft, Share, Fml, ftrue, fsep, flft, Memory, Routine, Heap, Env, Calls, Loops, Atoms, sem, Fun, Given, Item, Seq, runs, lands, ‵, _⊛_, _$_, _∵_, !, qed, move, join, fjoin, frame, done, Opds, FmC, Is, Boolean, bool-makes, uint-makes, u64, sliceVal, Room, row, owned, nothing, tripleOf, Contract, Triple, ensured, lasts}
 use types.Kit as Kit
 use mir.Syntax.{Place as Where, Body as Code, Opd as Operand, seq, call}
 use denote.Struct.Laws as LL
@@ -12,21 +13,34 @@ use Rattle.adapters.specs.declared.Place.{Place}
 use Rattle.adapters.specs.Values.{unused}
 use Rattle.adapters.proofs.Place as T
 use Rattle.adapters.proofs.Place.Laws as T′
-use Rattle.table.specs.Table.{withMasked}
-use Rattle.table.proofs.Places.{R, FitsId, makes-id}
+use Rattle.table.specs.Table.{withMasked, snapTo, restored}
+use Rattle.table.proofs.Places.{R, low, Fits, FitsId, makes, makes-id}
+use Rattle.table.proofs.Images.{Image, low-image, FitsImage, image-tells, image-makes}
+use Rattle.table.proofs.Gives.{at-list, Gives, Shared, Lent, gives-row, gives-shared, changes-row}
 use Rattle.table.proofs.look_up as look-up
 use Rattle.table.proofs.look_up.Symbol.{name as #look-up}
+use Rattle.table.proofs.snapshot as snapshot
+use Rattle.table.proofs.snapshot.Symbol.{name as #snapshot}
 use Rattle.table.proofs.register as register
 use Rattle.table.proofs.register.Symbol.{name as #register}
 use Rattle.table.proofs.mask as mask
 use Rattle.table.proofs.mask.Symbol.{name as #mask}
+use Rattle.table.proofs.restore as restore
+use Rattle.table.proofs.restore.Symbol.{name as #restore}
 
-abbrev at-list : ℕ → ℕ → GName → List Place → RefT (List Place)
-at-list b o δ l = record { ptr = (b, o); name = δ; now = l }
+-- two parameters that a callee cannot change leave nothing
+abbrev Two : Type 0
+Two = Unit {0} × (Unit {0} × Unit {0})
+
+abbrev nothings : Two → Fml
+nothings z = fsep ftrue (fsep ftrue ftrue)
 
 module _ {M : Type 1} (𝓤 : URA M) (H : Heap 𝓤) (A : Atoms 𝓤) (mem′ : Memory → SProp 𝓤) (run : Routine → Fun 𝓤) where
   abbrev pub LookUp : Contract 𝓤
   LookUp = tripleOf 𝓤 H A look-up.signature (look-up.spec 𝓤 H A mem′ run)
+
+  abbrev pub Snapshot : Contract 𝓤
+  Snapshot = tripleOf 𝓤 H A snapshot.signature (snapshot.spec 𝓤 H A mem′ run)
 
   abbrev pub Register : Contract 𝓤
   Register = tripleOf 𝓤 H A register.signature (register.spec 𝓤 H A mem′ run)
@@ -34,96 +48,129 @@ module _ {M : Type 1} (𝓤 : URA M) (H : Heap 𝓤) (A : Atoms 𝓤) (mem′ : 
   abbrev pub Mask : Contract 𝓤
   Mask = tripleOf 𝓤 H A mask.signature (mask.spec 𝓤 H A mem′ run)
 
-module _ {M : Type 1} (𝓤 : URA M) (H : Heap 𝓤) (A : Atoms 𝓤) (W : Given 𝓤 H A) (mem′ : Memory → SProp 𝓤) (run : Routine → Fun 𝓤) (b o : ℕ) (ys : List Place) (id : AdapterId) (id-fits : FitsId id) where
-  abbrev s : Val
-  s = sliceVal (b, o) (length ys)
+  abbrev pub Restore : Contract 𝓤
+  Restore = tripleOf 𝓤 H A restore.signature (restore.spec 𝓤 H A mem′ run)
 
-  abbrev to-look : ℕ → GName → LookUp 𝓤 H A mem′ run .Ghost
-  to-look ν δ = (((ν ∷ [], tt), (fullShare, tt), tt, (at-list b o δ ys, (id, tt)), (s ∷ [], (I′.lowered id ∷ [], tt))), tt)
+  module _ (W : Given 𝓤 H A) (b o : ℕ) (ys : List Place) where
+    abbrev s : Val
+    s = sliceVal (b, o) (length ys)
 
-  goes-look : (ν : ℕ) (δ : GName) → ent 𝓤 (sep 𝓤 (A .lft (ν ∷ []) fullShare) (sem 𝓤 H A (ShrSlice (named 0) (ν ∷ []) R .own (at-list b o δ ys) (s ∷ [])))) (LookUp 𝓤 H A mem′ run .pre (to-look ν δ))
-  goes-look ν δ =
-      qed W (‵ (flft (ν ∷ []) fullShare) ∷ ‵ (ShrSlice (named 0) (ν ∷ []) R .own (at-list b o δ ys) (s ∷ [])) ∷ []) ∵ nothing ! $ move ! (1 ∷ 0 ∷ []) $ join ! $
-      nothing ! $ owned ! I.the-row (Is I.the-row) (makes-id 𝓤 H A W) id _ id-fits $ fjoin ! $ move ! (2 ∷ 0 ∷ []) $ fjoin ! $ move ! (1 ∷ 0 ∷ []) $ join ! $ frame ! $ done !
+    module _ (κ : Lft) (q : Share) (γ : GName) where
+      abbrev to-look : AdapterId → LookUp .Ghost
+      to-look id = (((κ, tt), (q, tt), tt, (at-list b o γ ys, (id, tt)), (s ∷ [], (I′.lowered id ∷ [], tt))), tt)
 
-  looked : (ν : ℕ) (δ : GName) (r : Place) → ent 𝓤 (ensured 𝓤 H A look-up.ended (look-up.clauses 𝓤 H A mem′ run) (ν ∷ [], tt) (at-list b o δ ys, (id, tt)) tt r) (fact 𝓤 (r ≡ getD ys (id .0) unused))
-  looked ν δ r = exE 𝓤 _ (λ ws. snd∗ 𝓤 (sem 𝓤 H A (lasts look-up.ended (ν ∷ [], tt) (at-list b o δ ys, (id, tt)) ws)) (fact 𝓤 (r ≡ getD ys (id .0) unused)))
+      goes-look : (id : AdapterId) → FitsId id → ent 𝓤 (sep 𝓤 (A .lft κ q) (sem 𝓤 H A (Shared R ys b o κ γ))) (LookUp .pre (to-look id))
+      goes-look id g =
+          qed W (‵ (flft κ q) ∷ ‵ (Shared R ys b o κ γ) ∷ []) ∵ nothing ! $ move ! (1 ∷ 0 ∷ []) $ join ! $
+          nothing ! $ owned ! I.the-row (Is I.the-row) (makes-id 𝓤 H A W) id _ g $ fjoin ! $ move ! (2 ∷ 0 ∷ []) $ fjoin ! $ move ! (1 ∷ 0 ∷ []) $ join ! $ frame ! $ done !
+
+      looked : (id : AdapterId) → Gives 𝓤 H A LookUp (to-look id) (‵ (flft κ q) ⊛ ‵ ftrue) R (LL.vals T.the-type T′.the-laws) (getD ys (id .0) unused)
+      looked id =
+          record {
+            tells = LL.tells T.the-type T′.the-laws;
+            Said = ensured 𝓤 H A look-up.ended (look-up.clauses 𝓤 H A mem′ run) (κ, tt) (at-list b o γ ys, (id, tt)) tt;
+            shape = λ w. id⊢ 𝓤 _;
+            told = λ r. exE 𝓤 _ (λ ws. snd∗ 𝓤 (sem 𝓤 H A (lasts look-up.ended (κ, tt) (at-list b o γ ys, (id, tt)) ws)) _);
+          }
+
+      abbrev to-snap : Snapshot .Ghost
+      to-snap = (((κ, tt), (q, tt), tt, (at-list b o γ ys, tt), (s ∷ [], tt)), tt)
+
+      goes-snap : ent 𝓤 (sep 𝓤 (A .lft κ q) (sem 𝓤 H A (Shared R ys b o κ γ))) (Snapshot .pre to-snap)
+      goes-snap = qed W (‵ (flft κ q) ∷ ‵ (Shared R ys b o κ γ) ∷ []) ∵ nothing ! $ move ! (1 ∷ 0 ∷ []) $ join ! $ nothing ! $ move ! (2 ∷ 0 ∷ []) $ fjoin ! $ move ! (1 ∷ 0 ∷ []) $ join ! $ frame ! $ done !
+
+      snapped : Gives 𝓤 H A Snapshot to-snap (‵ (flft κ q) ⊛ ‵ ftrue) Image (λ l. low-image l ∷ []) (snapTo ys 64)
+      snapped =
+          record {
+            tells = image-tells;
+            Said = ensured 𝓤 H A snapshot.ended (snapshot.clauses 𝓤 H A mem′ run) (κ, tt) (at-list b o γ ys, tt) tt;
+            shape = λ w. id⊢ 𝓤 _;
+            told = λ r. exE 𝓤 _ (λ ws. snd∗ 𝓤 (sem 𝓤 H A (lasts snapshot.ended (κ, tt) (at-list b o γ ys, tt) ws)) _);
+          }
+
+      abbrev to-register : AdapterId → Place → Register .Ghost
+      to-register id a = (((κ, tt), (q, tt), tt, (at-list b o γ ys, (id, (a, tt))), (s ∷ [], (I′.lowered id ∷ [], (T′.lowered a ∷ [], tt)))), tt)
+
+      goes-register : (id : AdapterId) (a : Place) → FitsId id → Fits a → ent 𝓤 (sep 𝓤 (A .lft κ q) (sem 𝓤 H A (Lent R ys b o κ γ))) (Register .pre (to-register id a))
+      goes-register id a g ga =
+          qed W (‵ (flft κ q) ∷ ‵ (Lent R ys b o κ γ) ∷ []) ∵ nothing ! $ move ! (1 ∷ 0 ∷ []) $ join ! $
+          nothing ! $ owned ! R (Is R) (makes 𝓤 H A W) a _ ga $ fjoin ! $ owned ! I.the-row (Is I.the-row) (makes-id 𝓤 H A W) id _ g $ fjoin ! $ move ! (2 ∷ 0 ∷ []) $ fjoin ! $ move ! (1 ∷ 0 ∷ []) $ join ! $ frame ! $ done !
+
+      abbrev to-mask : AdapterId → Bool → Mask .Ghost
+      to-mask id a = (((κ, tt), (q, tt), tt, (at-list b o γ ys, (id, (a, tt))), (s ∷ [], (I′.lowered id ∷ [], (vbool a ∷ [], tt)))), tt)
+
+      goes-mask : (id : AdapterId) (a : Bool) → FitsId id → ent 𝓤 (sep 𝓤 (A .lft κ q) (sem 𝓤 H A (Lent R ys b o κ γ))) (Mask .pre (to-mask id a))
+      goes-mask id a g =
+          qed W (‵ (flft κ q) ∷ ‵ (Lent R ys b o κ γ) ∷ []) ∵ nothing ! $ move ! (1 ∷ 0 ∷ []) $ join ! $
+          nothing ! $ owned ! Boolean (Is Boolean) (bool-makes 𝓤 H A W) a _ refl $ fjoin ! $ owned ! I.the-row (Is I.the-row) (makes-id 𝓤 H A W) id _ g $ fjoin ! $ move ! (2 ∷ 0 ∷ []) $ fjoin ! $ move ! (1 ∷ 0 ∷ []) $ join ! $ frame ! $ done !
+
+      abbrev to-restore : ℕ → List ℕ → Restore .Ghost
+      to-restore n all = (((κ, tt), (q, tt), tt, (at-list b o γ ys, (n, (all, tt))), (s ∷ [], (vint w64 n ∷ [], (low-image all ∷ [], tt)))), tt)
+
+      goes-restore : (n : ℕ) (all : List ℕ) → n < 2 ^ 64 → FitsImage all → ent 𝓤 (sep 𝓤 (A .lft κ q) (sem 𝓤 H A (Lent R ys b o κ γ))) (Restore .pre (to-restore n all))
+      goes-restore n all g ga =
+          qed W (‵ (flft κ q) ∷ ‵ (Lent R ys b o κ γ) ∷ []) ∵ nothing ! $ move ! (1 ∷ 0 ∷ []) $ join ! $
+          nothing ! $ owned ! Image (Is Image) (image-makes 𝓤 H A W) all _ ga $ fjoin ! $ owned ! u64 (Is u64) (uint-makes 𝓤 H A W w64) n _ (refl, g) $ fjoin ! $ move ! (2 ∷ 0 ∷ []) $ fjoin ! $ move ! (1 ∷ 0 ∷ []) $ join ! $ frame ! $ done !
 
 module _ {M : Type 1} {𝓤 : URA M} {H : Heap 𝓤} {A : Atoms 𝓤} {K : Type 0} {W : Given 𝓤 H A} {Γ : List (Item 𝓤)} {E : Env 𝓤 H} {C : Calls 𝓤 H} {Λ : Loops 𝓤 H} {p : Kit.Post 𝓤 H} {d : Where} {rest : Code} {xs : List Operand} where
   pub looks-up : K → (mem′ : Memory → SProp 𝓤) (run : Routine → Fun 𝓤) → FmC 𝓤 H (W .laws) C → Triple 𝓤 (C #look-up) (LookUp 𝓤 H A mem′ run)
       → (ys : List Place) (id : AdapterId) (b o : ℕ) → Room R (length ys) → FitsId id
       → ((i j : Item 𝓤) → Opds K W (i ∷ j ∷ Γ) E xs (sliceVal (b, o) (length ys) ∷ I′.lowered id ∷ []))
-      → (Is R (getD ys (id .0) unused) (T′.lowered (getD ys (id .0) unused) ∷ []) → Seq K W (‵ (row R fullShare ys b o) ∷ Γ) (lands C Λ E d (T′.lowered (getD ys (id .0) unused)) rest p))
+      → (Fits (getD ys (id .0) unused) → Seq K W (‵ (row R fullShare ys b o) ∷ Γ) (lands C Λ E d (low (getD ys (id .0) unused)) rest p))
       → Seq K W (‵ (row R fullShare ys b o) ∷ Γ) (runs C Λ E (seq (call #look-up xs d) rest) p)
-  looks-up t mem′ run fm known ys id b o room id-fits os k =
-      feqI t ℕ (length ys) (length ys) refl $ fjoin t $ lft-new t tt (λ ν. move t (1 ∷ []) $
-      use1 W (later (some (λ (δ : GName). ‵ (ShrSlice (named 0) (ν ∷ []) R .own (at-list b o δ ys) (s 𝓤 H A W mem′ run b o ys id id-fits ∷ [])) ⊛ ‵ (flent (ν ∷ []) (arr-parts (shares R) (length ys) .part fullShare ys b o))))) (lends-shr-slice 𝓤 H A W R (named 0) (ν ∷ []) fullShare ys b o room) $ await t tt $ pick t (λ δ. split t $
-      -- [the slice; the lender's part; the token; Γ]
-      move t (2 ∷ 0 ∷ []) $ use2 W (raw (LookUp 𝓤 H A mem′ run .pre (to-look 𝓤 H A W mem′ run b o ys id id-fits ν δ))) (goes-look 𝓤 H A W mem′ run b o ys id id-fits ν δ) $
-      calls-at t fm (LookUp 𝓤 H A mem′ run) known (to-look 𝓤 H A W mem′ run b o ys id id-fits ν δ) (os _ _) (λ w.
-      use1 W (later (some (λ (r : Place). ((‵ (flft (ν ∷ []) fullShare) ⊛ ‵ ftrue) ⊛ ‵ (R .own r (w ∷ []))) ⊛ raw (ensured 𝓤 H A look-up.ended (look-up.clauses 𝓤 H A mem′ run) (ν ∷ [], tt) (at-list b o δ ys, (id, tt)) tt r)))) (id⊢ 𝓤 _) $ await t tt $ pick t (λ r.
-      split t $ move t (1 ∷ []) $ use1 W (raw (fact 𝓤 (r ≡ getD ys (id .0) unused))) (looked 𝓤 H A W mem′ run b o ys id id-fits ν δ r) $ heard t (r ≡ getD ys (id .0) unused) (λ e. split t $ move t (1 ∷ []) $
-      rewrite t 0 (λ (a : Place). ‵ (R .own a (w ∷ []))) e refl $ peeks t R (Is R) (shows 𝓤 H A R) (getD ys (id .0) unused) (w ∷ []) (λ is. drop t $
-      split t $ lft-end t tt $ move t (0 ∷ 2 ∷ []) $ lent-back t tt $ fsplit t $ drop t $ move t (1 ∷ []) $ drop t $
-      subst (λ (v : Val). Seq K W (‵ (row R fullShare ys b o) ∷ Γ) (lands C Λ E d v rest p)) (sym (ap only (LL.tells T.the-type T′.the-laws (getD ys (id .0) unused) (w ∷ []) is)))
-      (k (subst (Is R (getD ys (id .0) unused)) (LL.tells T.the-type T′.the-laws (getD ys (id .0) unused) (w ∷ []) is) is))))))))
+  looks-up t mem′ run fm known ys id b o room g os k =
+      gives-row R ys b o t fm (LookUp 𝓤 H A mem′ run) known room (λ ν δ. to-look 𝓤 H A mem′ run W b o ys (ν ∷ []) fullShare δ id) (λ ν δ. goes-look 𝓤 H A mem′ run W b o ys (ν ∷ []) fullShare δ id g)
+      R (LL.vals T.the-type T′.the-laws) (getD ys (id .0) unused) (λ ν δ. looked 𝓤 H A mem′ run W b o ys (ν ∷ []) fullShare δ id) (λ ν δ. os) k
 
-module _ {M : Type 1} (𝓤 : URA M) (H : Heap 𝓤) (A : Atoms 𝓤) (W : Given 𝓤 H A) (mem′ : Memory → SProp 𝓤) (run : Routine → Fun 𝓤) (b o : ℕ) (ys : List Place) (id : AdapterId) (a : Place) (id-fits : FitsId id) (g : Is R a (T′.lowered a ∷ [])) where
-  abbrev to-register : ℕ → GName → Register 𝓤 H A mem′ run .Ghost
-  to-register ν δ = (((ν ∷ [], tt), (fullShare, tt), tt, (at-list b o δ ys, (id, (a, tt))), (sliceVal (b, o) (length ys) ∷ [], (I′.lowered id ∷ [], (T′.lowered a ∷ [], tt)))), tt)
+  pub looks-up-shared : K → (mem′ : Memory → SProp 𝓤) (run : Routine → Fun 𝓤) → FmC 𝓤 H (W .laws) C → Triple 𝓤 (C #look-up) (LookUp 𝓤 H A mem′ run)
+      → (ys : List Place) (id : AdapterId) (b o : ℕ) (κ : Lft) (q : Share) (γ : GName) → FitsId id
+      → ((i j : Item 𝓤) → Opds K W (i ∷ j ∷ Γ) E xs (sliceVal (b, o) (length ys) ∷ I′.lowered id ∷ []))
+      → (Fits (getD ys (id .0) unused) → Seq K W (‵ (flft κ q) ∷ ‵ (Shared R ys b o κ γ) ∷ Γ) (lands C Λ E d (low (getD ys (id .0) unused)) rest p))
+      → Seq K W (‵ (flft κ q) ∷ ‵ (Shared R ys b o κ γ) ∷ Γ) (runs C Λ E (seq (call #look-up xs d) rest) p)
+  looks-up-shared t mem′ run fm known ys id b o κ q γ g os k =
+      gives-shared R ys b o t fm (LookUp 𝓤 H A mem′ run) known κ q γ (to-look 𝓤 H A mem′ run W b o ys κ q γ id) (goes-look 𝓤 H A mem′ run W b o ys κ q γ id g)
+      R (LL.vals T.the-type T′.the-laws) (getD ys (id .0) unused) (looked 𝓤 H A mem′ run W b o ys κ q γ id) os k
 
-  goes-register : (ν : ℕ) (δ : GName) → ent 𝓤 (sep 𝓤 (A .lft (ν ∷ []) fullShare) (sem 𝓤 H A (MutSlice (named 0) (ν ∷ []) R .own (at-list b o δ ys) (sliceVal (b, o) (length ys) ∷ [])))) (Register 𝓤 H A mem′ run .pre (to-register ν δ))
-  goes-register ν δ =
-      qed W (‵ (flft (ν ∷ []) fullShare) ∷ ‵ (MutSlice (named 0) (ν ∷ []) R .own (at-list b o δ ys) (sliceVal (b, o) (length ys) ∷ [])) ∷ []) ∵ nothing ! $ move ! (1 ∷ 0 ∷ []) $ join ! $
-      nothing ! $ owned ! R (Is R) (LL.makes T.the-type T′.the-plain 𝓤 H A) a _ g $ fjoin ! $ owned ! I.the-row (Is I.the-row) (makes-id 𝓤 H A W) id _ id-fits $ fjoin ! $ move ! (2 ∷ 0 ∷ []) $ fjoin ! $ move ! (1 ∷ 0 ∷ []) $ join ! $ frame ! $ done !
+  pub snapshots : K → (mem′ : Memory → SProp 𝓤) (run : Routine → Fun 𝓤) → FmC 𝓤 H (W .laws) C → Triple 𝓤 (C #snapshot) (Snapshot 𝓤 H A mem′ run)
+      → (ys : List Place) (b o : ℕ) → Room R (length ys)
+      → ((i j : Item 𝓤) → Opds K W (i ∷ j ∷ Γ) E xs (sliceVal (b, o) (length ys) ∷ []))
+      → (FitsImage (snapTo ys 64) → Seq K W (‵ (row R fullShare ys b o) ∷ Γ) (lands C Λ E d (low-image (snapTo ys 64)) rest p))
+      → Seq K W (‵ (row R fullShare ys b o) ∷ Γ) (runs C Λ E (seq (call #snapshot xs d) rest) p)
+  snapshots t mem′ run fm known ys b o room os k =
+      gives-row R ys b o t fm (Snapshot 𝓤 H A mem′ run) known room (λ ν δ. to-snap 𝓤 H A mem′ run W b o ys (ν ∷ []) fullShare δ) (λ ν δ. goes-snap 𝓤 H A mem′ run W b o ys (ν ∷ []) fullShare δ)
+      Image (λ l. low-image l ∷ []) (snapTo ys 64) (λ ν δ. snapped 𝓤 H A mem′ run W b o ys (ν ∷ []) fullShare δ) (λ ν δ. os) k
 
-module _ {M : Type 1} {𝓤 : URA M} {H : Heap 𝓤} {A : Atoms 𝓤} {K : Type 0} {W : Given 𝓤 H A} {Γ : List (Item 𝓤)} {E : Env 𝓤 H} {C : Calls 𝓤 H} {Λ : Loops 𝓤 H} {p : Kit.Post 𝓤 H} {d : Where} {rest : Code} {xs : List Operand} where
+  pub snapshots-shared : K → (mem′ : Memory → SProp 𝓤) (run : Routine → Fun 𝓤) → FmC 𝓤 H (W .laws) C → Triple 𝓤 (C #snapshot) (Snapshot 𝓤 H A mem′ run)
+      → (ys : List Place) (b o : ℕ) (κ : Lft) (q : Share) (γ : GName)
+      → ((i j : Item 𝓤) → Opds K W (i ∷ j ∷ Γ) E xs (sliceVal (b, o) (length ys) ∷ []))
+      → (FitsImage (snapTo ys 64) → Seq K W (‵ (flft κ q) ∷ ‵ (Shared R ys b o κ γ) ∷ Γ) (lands C Λ E d (low-image (snapTo ys 64)) rest p))
+      → Seq K W (‵ (flft κ q) ∷ ‵ (Shared R ys b o κ γ) ∷ Γ) (runs C Λ E (seq (call #snapshot xs d) rest) p)
+  snapshots-shared t mem′ run fm known ys b o κ q γ os k =
+      gives-shared R ys b o t fm (Snapshot 𝓤 H A mem′ run) known κ q γ (to-snap 𝓤 H A mem′ run W b o ys κ q γ) (goes-snap 𝓤 H A mem′ run W b o ys κ q γ) Image (λ l. low-image l ∷ []) (snapTo ys 64) (snapped 𝓤 H A mem′ run W b o ys κ q γ) os k
+
   pub registers : K → (mem′ : Memory → SProp 𝓤) (run : Routine → Fun 𝓤) → FmC 𝓤 H (W .laws) C → Triple 𝓤 (C #register) (Register 𝓤 H A mem′ run)
-      → (ys : List Place) (id : AdapterId) (a : Place) (b o : ℕ) → Room R (length ys) → FitsId id → Is R a (T′.lowered a ∷ [])
-      → ((i j : Item 𝓤) → Opds K W (i ∷ j ∷ Γ) E xs (sliceVal (b, o) (length ys) ∷ I′.lowered id ∷ T′.lowered a ∷ []))
+      → (ys : List Place) (id : AdapterId) (a : Place) (b o : ℕ) → Room R (length ys) → FitsId id → Fits a
+      → ((i j : Item 𝓤) → Opds K W (i ∷ j ∷ Γ) E xs (sliceVal (b, o) (length ys) ∷ I′.lowered id ∷ low a ∷ []))
       → Seq K W (‵ (row R fullShare (set ys (id .0) a) b o) ∷ Γ) (lands C Λ E d vunit rest p)
       → Seq K W (‵ (row R fullShare ys b o) ∷ Γ) (runs C Λ E (seq (call #register xs d) rest) p)
-  registers t mem′ run fm known ys id a b o room id-fits g os k =
-      use1 W (‵ (cells (mem R) ys b o)) (whole-in 𝓤 H A W R ys b o) $ lft-new t tt (λ ν. move t (1 ∷ []) $
-      use1 W (later (some (λ (δ : GName). ‵ (MutSlice (named 0) (ν ∷ []) R .own (at-list b o δ ys) (sliceVal (b, o) (length ys) ∷ [])) ⊛ ‵ (flent (ν ∷ []) (Held R (length ys) b o δ))))) (lends-slice 𝓤 H A W R (named 0) (ν ∷ []) ys b o room) $ await t tt $ pick t (λ δ. split t $
-      move t (2 ∷ 0 ∷ []) $ use2 W (raw (Register 𝓤 H A mem′ run .pre (to-register 𝓤 H A W mem′ run b o ys id a id-fits g ν δ))) (goes-register 𝓤 H A W mem′ run b o ys id a id-fits g ν δ) $
-      calls-at t fm (Register 𝓤 H A mem′ run) known (to-register 𝓤 H A W mem′ run b o ys id a id-fits g ν δ) (os _ _) (λ w.
-      use1 W (later (some (λ (r : Unit {0}). ((‵ (flft (ν ∷ []) fullShare) ⊛ ‵ ftrue) ⊛ ‵ (feq (List Val) (w ∷ []) (vunit ∷ []))) ⊛ some (λ (zs : List Place × (Unit {0} × (Unit {0} × Unit {0}))). ‵ (lasts register.ended (ν ∷ [], tt) (at-list b o δ ys, (id, (a, tt))) zs) ⊛ raw (fact 𝓤 (zs .0 ≡ set ys (id .0) a)))))) (id⊢ 𝓤 _) $ await t tt $ pick t (λ r.
-      split t $ move t (1 ∷ []) $ pick t (λ zs. split t $ move t (1 ∷ []) $ heard t (zs .0 ≡ set ys (id .0) a) (λ e. fsplit t $ fsplit t $
-      -- [the last list; its length; true; the token and the result; the lender's part; Γ]
-      move t (3 ∷ []) $ split t $ split t $ lft-end t tt $ move t (0 ∷ 6 ∷ 3 ∷ []) $
-      use3 W (later (‵ (Arr (mem R) (length ys) .lies (zs .0) b o))) (slice-back 𝓤 H A W R (ν ∷ []) δ (zs .0) (length ys) b o) $ await t tt $ fsplit t $ drop t $ use1 W (‵ (row R fullShare (zs .0) b o)) (whole-out 𝓤 H A W R (zs .0) b o) $
-      rewrite t 0 (λ (l : List Place). ‵ (row R fullShare l b o)) e refl $
-      -- [row; true; the result; the length; true; Γ]
-      move t (2 ∷ []) $ feqL t (λ u. move t (1 ∷ []) $ drop t $ move t (1 ∷ []) $ drop t $ move t (1 ∷ []) $ drop t $
-      subst (λ (v : Val). Seq K W (‵ (row R fullShare (set ys (id .0) a) b o) ∷ Γ) (lands C Λ E d v rest p)) (sym (ap only u)) k)))))))
+  registers t mem′ run fm known ys id a b o room g ga os k =
+      changes-row R ys b o t fm (Register 𝓤 H A mem′ run) known room (λ ν δ. to-register 𝓤 H A mem′ run W b o ys (ν ∷ []) fullShare δ id a) (λ ν δ. goes-register 𝓤 H A mem′ run W b o ys (ν ∷ []) fullShare δ id a g ga)
+      (set ys (id .0) a) Two nothings (λ ν δ w. id⊢ 𝓤 _) (λ ν δ. os) k
 
-module _ {M : Type 1} (𝓤 : URA M) (H : Heap 𝓤) (A : Atoms 𝓤) (W : Given 𝓤 H A) (mem′ : Memory → SProp 𝓤) (run : Routine → Fun 𝓤) (b o : ℕ) (ys : List Place) (id : AdapterId) (a : Bool) (id-fits : FitsId id) where
-  abbrev to-mask : ℕ → GName → Mask 𝓤 H A mem′ run .Ghost
-  to-mask ν δ = (((ν ∷ [], tt), (fullShare, tt), tt, (at-list b o δ ys, (id, (a, tt))), (sliceVal (b, o) (length ys) ∷ [], (I′.lowered id ∷ [], (vbool a ∷ [], tt)))), tt)
-
-  goes-mask : (ν : ℕ) (δ : GName) → ent 𝓤 (sep 𝓤 (A .lft (ν ∷ []) fullShare) (sem 𝓤 H A (MutSlice (named 0) (ν ∷ []) R .own (at-list b o δ ys) (sliceVal (b, o) (length ys) ∷ [])))) (Mask 𝓤 H A mem′ run .pre (to-mask ν δ))
-  goes-mask ν δ =
-      qed W (‵ (flft (ν ∷ []) fullShare) ∷ ‵ (MutSlice (named 0) (ν ∷ []) R .own (at-list b o δ ys) (sliceVal (b, o) (length ys) ∷ [])) ∷ []) ∵ nothing ! $ move ! (1 ∷ 0 ∷ []) $ join ! $
-      nothing ! $ owned ! Boolean (Is Boolean) (bool-makes 𝓤 H A W) a _ refl $ fjoin ! $ owned ! I.the-row (Is I.the-row) (makes-id 𝓤 H A W) id _ id-fits $ fjoin ! $ move ! (2 ∷ 0 ∷ []) $ fjoin ! $ move ! (1 ∷ 0 ∷ []) $ join ! $ frame ! $ done !
-
-module _ {M : Type 1} {𝓤 : URA M} {H : Heap 𝓤} {A : Atoms 𝓤} {K : Type 0} {W : Given 𝓤 H A} {Γ : List (Item 𝓤)} {E : Env 𝓤 H} {C : Calls 𝓤 H} {Λ : Loops 𝓤 H} {p : Kit.Post 𝓤 H} {d : Where} {rest : Code} {xs : List Operand} where
   pub masks : K → (mem′ : Memory → SProp 𝓤) (run : Routine → Fun 𝓤) → FmC 𝓤 H (W .laws) C → Triple 𝓤 (C #mask) (Mask 𝓤 H A mem′ run)
       → (ys : List Place) (id : AdapterId) (a : Bool) (b o : ℕ) → Room R (length ys) → FitsId id
       → ((i j : Item 𝓤) → Opds K W (i ∷ j ∷ Γ) E xs (sliceVal (b, o) (length ys) ∷ I′.lowered id ∷ vbool a ∷ []))
       → Seq K W (‵ (row R fullShare (set ys (id .0) (withMasked a (getD ys (id .0) unused))) b o) ∷ Γ) (lands C Λ E d vunit rest p)
       → Seq K W (‵ (row R fullShare ys b o) ∷ Γ) (runs C Λ E (seq (call #mask xs d) rest) p)
-  masks t mem′ run fm known ys id a b o room id-fits os k =
-      use1 W (‵ (cells (mem R) ys b o)) (whole-in 𝓤 H A W R ys b o) $ lft-new t tt (λ ν. move t (1 ∷ []) $
-      use1 W (later (some (λ (δ : GName). ‵ (MutSlice (named 0) (ν ∷ []) R .own (at-list b o δ ys) (sliceVal (b, o) (length ys) ∷ [])) ⊛ ‵ (flent (ν ∷ []) (Held R (length ys) b o δ))))) (lends-slice 𝓤 H A W R (named 0) (ν ∷ []) ys b o room) $ await t tt $ pick t (λ δ. split t $
-      move t (2 ∷ 0 ∷ []) $ use2 W (raw (Mask 𝓤 H A mem′ run .pre (to-mask 𝓤 H A W mem′ run b o ys id a id-fits ν δ))) (goes-mask 𝓤 H A W mem′ run b o ys id a id-fits ν δ) $
-      calls-at t fm (Mask 𝓤 H A mem′ run) known (to-mask 𝓤 H A W mem′ run b o ys id a id-fits ν δ) (os _ _) (λ w.
-      use1 W (later (some (λ (r : Unit {0}). ((‵ (flft (ν ∷ []) fullShare) ⊛ ‵ ftrue) ⊛ ‵ (feq (List Val) (w ∷ []) (vunit ∷ []))) ⊛ some (λ (zs : List Place × (Unit {0} × (Unit {0} × Unit {0}))). ‵ (lasts mask.ended (ν ∷ [], tt) (at-list b o δ ys, (id, (a, tt))) zs) ⊛ raw (fact 𝓤 (zs .0 ≡ set ys (id .0) (withMasked a (getD ys (id .0) unused)))))))) (id⊢ 𝓤 _) $ await t tt $ pick t (λ r.
-      split t $ move t (1 ∷ []) $ pick t (λ zs. split t $ move t (1 ∷ []) $ heard t (zs .0 ≡ set ys (id .0) (withMasked a (getD ys (id .0) unused))) (λ e. fsplit t $ fsplit t $
-      -- [the last list; its length; true; the token and the result; the lender's part; Γ]
-      move t (3 ∷ []) $ split t $ split t $ lft-end t tt $ move t (0 ∷ 6 ∷ 3 ∷ []) $
-      use3 W (later (‵ (Arr (mem R) (length ys) .lies (zs .0) b o))) (slice-back 𝓤 H A W R (ν ∷ []) δ (zs .0) (length ys) b o) $ await t tt $ fsplit t $ drop t $ use1 W (‵ (row R fullShare (zs .0) b o)) (whole-out 𝓤 H A W R (zs .0) b o) $
-      rewrite t 0 (λ (l : List Place). ‵ (row R fullShare l b o)) e refl $
-      -- [row; true; the result; the length; true; Γ]
-      move t (2 ∷ []) $ feqL t (λ u. move t (1 ∷ []) $ drop t $ move t (1 ∷ []) $ drop t $ move t (1 ∷ []) $ drop t $
-      subst (λ (v : Val). Seq K W (‵ (row R fullShare (set ys (id .0) (withMasked a (getD ys (id .0) unused))) b o) ∷ Γ) (lands C Λ E d v rest p)) (sym (ap only u)) k)))))))
+  masks t mem′ run fm known ys id a b o room g os k =
+      changes-row R ys b o t fm (Mask 𝓤 H A mem′ run) known room (λ ν δ. to-mask 𝓤 H A mem′ run W b o ys (ν ∷ []) fullShare δ id a) (λ ν δ. goes-mask 𝓤 H A mem′ run W b o ys (ν ∷ []) fullShare δ id a g)
+      (set ys (id .0) (withMasked a (getD ys (id .0) unused))) Two nothings (λ ν δ w. id⊢ 𝓤 _) (λ ν δ. os) k
+
+  pub restores : K → (mem′ : Memory → SProp 𝓤) (run : Routine → Fun 𝓤) → FmC 𝓤 H (W .laws) C → Triple 𝓤 (C #restore) (Restore 𝓤 H A mem′ run)
+      → (ys : List Place) (n : ℕ) (all : List ℕ) (b o : ℕ) → Room R (length ys) → n < 2 ^ 64 → FitsImage all
+      → ((i j : Item 𝓤) → Opds K W (i ∷ j ∷ Γ) E xs (sliceVal (b, o) (length ys) ∷ vint w64 n ∷ low-image all ∷ []))
+      → Seq K W (‵ (row R fullShare (restored ys all n) b o) ∷ Γ) (lands C Λ E d vunit rest p)
+      → Seq K W (‵ (row R fullShare ys b o) ∷ Γ) (runs C Λ E (seq (call #restore xs d) rest) p)
+  restores t mem′ run fm known ys n all b o room g ga os k =
+      changes-row R ys b o t fm (Restore 𝓤 H A mem′ run) known room (λ ν δ. to-restore 𝓤 H A mem′ run W b o ys (ν ∷ []) fullShare δ n all) (λ ν δ. goes-restore 𝓤 H A mem′ run W b o ys (ν ∷ []) fullShare δ n all g ga)
+      (restored ys all n) Two nothings (λ ν δ w. id⊢ 𝓤 _) (λ ν δ. os) k

@@ -3,5 +3,9 @@ pub mod Places
 pub mod Free
 pub mod Slot
 pub mod Rows
+pub mod Gives
+pub mod Count
 pub mod Record
+pub mod Tables
+pub mod Images
 pub mod Calls

@@ -43,6 +43,9 @@ FitsId k = Is I.the-row k (I′.lowered k ∷ [])
 pub id-fits : (k : AdapterId) → FitsId k → k .0 < 2 ^ 64
 id-fits k g = LL.owed I.the-type I′.the-laws k _ g .0 .1
 
+pub fit-id : (k : AdapterId) → k .0 < 2 ^ 64 → FitsId k
+fit-id k h = LL.owes I.the-type I′.the-laws k ((refl, h), tt)
+
 module _ {M : Type 1} (𝓤 : URA M) (H : Heap 𝓤) (A : Atoms 𝓤) (W : Given 𝓤 H A) where
   pub typed : (p : Place) → Fits p → Holds (hasTy P′.mir (low p)) × WT (low p)
   typed p g = LL.lawful P.the-type P′.the-laws 𝓤 H A W .typed p _ g .0

@@ -1,6 +1,11 @@
--- A place with its masked field set.
+-- A place with its masked field set; a table as an image, and from one.
+use Prim.Native.Nat.{ℕ, zero, suc}
 use mathlib.Core.Bool.{Bool}
+use mathlib.Core.List.{List}
+use lib.ListN.{getD, set, replicate}
 use Rattle.adapters.specs.declared.Place.{Place}
+use Rattle.adapters.specs.Values.{unused}
+use Rattle.image.specs.Image.{packed, unpacked}
 
 abbrev pub withMasked : Bool → Place → Place
 withMasked on p =
@@ -12,3 +17,13 @@ withMasked on p =
       suppressible = p .suppressible;
       masked = on;
     }
+
+-- an image that has the first n places of a table, then unused ones
+unfoldable pub snapTo : List Place → ℕ → List ℕ
+snapTo t zero = replicate 64 0
+snapTo t (suc n) = set (snapTo t n) n (packed (getD t n unused))
+
+-- a table whose first n places are those of an image; the rest stays
+unfoldable pub restored : List Place → List ℕ → ℕ → List Place
+restored t all zero = t
+restored t all (suc n) = set (restored t all n) n (unpacked (getD all n 0))

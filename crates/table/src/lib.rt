@@ -2,7 +2,7 @@
 ghost use mathlib.Core.Path.{_≡_};
 ghost use lib.ListN.{getD, set};
 ghost use Rattle.adapters.specs.Values.{unused};
-ghost use Rattle.table.specs.Table.{withMasked};
+ghost use Rattle.table.specs.Table.{withMasked, snapTo, restored};
 use adapters::Device;
 use adapters::Place;
 use words::AdapterId;
@@ -50,4 +50,30 @@ pub fn store_device(d: &mut Device, m: Device)
     ensures { λ _. ⌜ now (d .exit) ≡ m ⌝ }
 {
     *d = m;
+}
+
+// The places as an image; a place that is not there reads as free.
+pub fn snapshot(t: &[Place]) -> [u8; 64]
+    ensures { λ r. ⌜ r ≡ snapTo (now (t .entry)) 64 ⌝ }
+{
+    let mut all = image::empty();
+    let mut i = 0;
+    while i < 64 {
+        let p = look_up(t, AdapterId(i));
+        all = image::with_place(all, i, p);
+        i += 1;
+    }
+    all
+}
+
+// The first n places are those of the image.
+pub fn restore(t: &mut [Place], n: u64, all: [u8; 64])
+    ensures { λ _. ⌜ now (t .exit) ≡ restored (now (t .entry)) all n ⌝ }
+{
+    let mut i = 0;
+    while i < n {
+        let p = image::place_at(all, i);
+        register(t, AdapterId(i), p);
+        i += 1;
+    }
 }

@@ -1,0 +1,26 @@
+-- An adapter place as one byte. From the highest bit on: used, the subclass in three bits, maskable, swap, suppressible, masked. An unused place is 0.
+use Prim.Native.Nat.{ℕ, _+_, _*_, _/_, _%_}
+use mathlib.Core.Bool.{true}
+use lib.Dec.{eqb, ltb}
+use Rattle.rules.specs.Bytes.{choose}
+use Rattle.rules.specs.MoveList.{flag}
+use Rattle.adapters.specs.declared.Place.{Place}
+use Rattle.adapters.specs.Values.{unused}
+
+unfoldable pub packed : Place → ℕ
+packed p =
+    choose (p .used)
+    (128 + p .isc % 8 * 16 + flag (p .maskable) * 8 + flag (p .swap) * 4 + flag (p .suppressible) * 2 + flag (p .masked))
+    0
+
+unfoldable pub unpacked : ℕ → Place
+unpacked b =
+    choose (ltb b 128) unused
+    (record {
+      used = true;
+      isc = b / 16 % 8;
+      maskable = eqb (b / 8 % 2) 1;
+      swap = eqb (b / 4 % 2) 1;
+      suppressible = eqb (b / 2 % 2) 1;
+      masked = eqb (b % 2) 1;
+    })

@@ -1,0 +1,79 @@
+// Inner crate: an adapter place as one byte, and a table of 64 places as an array of bytes.
+ghost use mathlib.Core.Path.{_≡_};
+ghost use Prim.Native.Nat.{_≤_};
+ghost use lib.ListN.{getD, set, replicate};
+ghost use Rattle.rules.specs.MoveList.{flag};
+ghost use Rattle.image.specs.Image.{packed, unpacked};
+use adapters::Place;
+
+// 1 where it holds, else 0.
+fn flag(on: bool) -> u8
+    ensures { λ r. ⌜ (r ≡ flag on) × (r ≤ 1) ⌝ }
+{
+    if on {
+        return 1;
+    }
+    0
+}
+
+// The byte of a place.
+pub fn pack(p: Place) -> u8
+    ensures { λ r. ⌜ r ≡ packed p ⌝ }
+{
+    if !p.used {
+        return 0;
+    }
+    128
+        + p.isc % 8 * 16
+        + flag(p.maskable) * 8
+        + flag(p.swap) * 4
+        + flag(p.suppressible) * 2
+        + flag(p.masked)
+}
+
+// The place that a byte says.
+pub fn unpack(b: u8) -> Place
+    ensures { λ r. ⌜ r ≡ unpacked b ⌝ }
+{
+    if b < 128 {
+        return adapters::free_place();
+    }
+    Place {
+        used: true,
+        isc: b / 16 % 8,
+        maskable: b / 8 % 2 == 1,
+        swap: b / 4 % 2 == 1,
+        suppressible: b / 2 % 2 == 1,
+        masked: b % 2 == 1,
+    }
+}
+
+// 64 unused places.
+pub fn empty() -> [u8; 64]
+    ensures { λ r. ⌜ r ≡ replicate 64 0 ⌝ }
+{
+    [0u8; 64]
+}
+
+// The image with this place at an index; an index past the end changes nothing.
+pub fn with_place(image: [u8; 64], i: u64, p: Place) -> [u8; 64]
+    ensures { λ r. ⌜ r ≡ set image i (packed p) ⌝ }
+{
+    let mut r = image;
+    if i < 64 {
+        let at = i as usize;
+        r[at] = pack(p);
+    }
+    r
+}
+
+// The place at an index; past the end it is unused.
+pub fn place_at(image: [u8; 64], i: u64) -> Place
+    ensures { λ r. ⌜ r ≡ unpacked (getD image i 0) ⌝ }
+{
+    if i < 64 {
+        let at = i as usize;
+        return unpack(image[at]);
+    }
+    unpack(0)
+}

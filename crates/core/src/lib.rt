@@ -6,6 +6,7 @@ ghost use Prim.Native.Nat.{ℕ, _≤_, _<_};
 ghost use lib.Dec.{leb};
 ghost use Rattle.rules.specs.State.{Limits, State};
 ghost use Rattle.rules.specs.Requests.{airqInject, setRequest, getRequest, request};
+ghost use Rattle.slots.specs.Slots.{slotCount};
 ghost use Rattle.queues.specs.Queues.{sum, Held};
 ghost use Rattle.answers.specs.Answers.{Answers};
 ghost use Rattle.records.specs.Memory.{pendingOf};
@@ -18,12 +19,16 @@ use adapters::Place;
 use answers::Answer;
 use values::Reply;
 use words::AdapterId;
+use words::QUEUES;
+use words::ROOM;
+use words::SINGLES_BYTES;
+use words::SLOT_BYTES;
 
 // Group 10: an adapter interrupt.
 fn inject(
-    slots: &mut [u8; 18432],
-    order: &mut [u8; 256],
-    counts: &mut [usize; 9],
+    slots: &mut [u8; SLOT_BYTES],
+    order: &mut [u8; ROOM],
+    counts: &mut [usize; QUEUES],
     places: u64,
     room: usize,
     ais: bool,
@@ -31,7 +36,7 @@ fn inject(
     place: Place,
     id: AdapterId,
 ) -> Reply
-    requires { ⌜ (room ≤ 256) × Held (now order) (now counts) × Canonical place ⌝ }
+    requires { ⌜ (room ≤ slotCount) × Held (now order) (now counts) × Canonical place ⌝ }
     ensures answer { λ r. ⌜ ((singles b : List ℕ) → Replies places room ais device place (id .0) b (λ L s. request L s airqInject (id .0) b) (pendingOf (now (order .entry)) (now (counts .entry)) (now (slots .entry)) singles) (pendingOf (now (order .exit)) (now (counts .exit)) (now (slots .exit)) singles) r) ⌝ }
     ensures held { λ r. ⌜ Held (now (order .exit)) (now (counts .exit)) × Canonical (r .place) ⌝ }
     ensures kept { λ r. ⌜ ((r .answer .code ≡ 0 → ⊥) → (r .device ≡ device) × (r .place ≡ place) × (now (slots .exit) ≡ now (slots .entry)) × (now (order .exit) ≡ now (order .entry)) × (now (counts .exit) ≡ now (counts .entry))) ⌝ }
@@ -58,10 +63,10 @@ fn inject(
 
 // A request that sets.
 pub fn set_request(
-    slots: &mut [u8; 18432],
-    order: &mut [u8; 256],
-    counts: &mut [usize; 9],
-    singles: &mut [u8; 146],
+    slots: &mut [u8; SLOT_BYTES],
+    order: &mut [u8; ROOM],
+    counts: &mut [usize; QUEUES],
+    singles: &mut [u8; SINGLES_BYTES],
     places: u64,
     room: usize,
     ais: bool,
@@ -71,7 +76,7 @@ pub fn set_request(
     attr: u64,
     payload: &[u8],
 ) -> Reply
-    requires { ⌜ (room ≤ 256) × Held (now order) (now counts) × Canonical place ⌝ }
+    requires { ⌜ (room ≤ slotCount) × Held (now order) (now counts) × Canonical place ⌝ }
     ensures answer { λ r. ⌜ Replies places room ais device place (aboutOf group attr (now (payload .entry))) (now (payload .entry)) (λ L s. request L s (setRequest group) attr (now (payload .entry))) (pendingOf (now (order .entry)) (now (counts .entry)) (now (slots .entry)) (now (singles .entry))) (pendingOf (now (order .exit)) (now (counts .exit)) (now (slots .exit)) (now (singles .exit))) r ⌝ }
     ensures held { λ r. ⌜ Held (now (order .exit)) (now (counts .exit)) × Canonical (r .place) ⌝ }
     ensures kept { λ r. ⌜ ((r .answer .code ≡ 0 → ⊥) → (r .device ≡ device) × (r .place ≡ place) × (now (slots .exit) ≡ now (slots .entry)) × (now (order .exit) ≡ now (order .entry)) × (now (counts .exit) ≡ now (counts .entry)) × (now (singles .exit) ≡ now (singles .entry))) ⌝ }
@@ -109,10 +114,10 @@ pub fn set_request(
 
 // A request that gets.
 pub fn get_request(
-    slots: &[u8; 18432],
-    order: &[u8; 256],
-    counts: &[usize; 9],
-    singles: &[u8; 146],
+    slots: &[u8; SLOT_BYTES],
+    order: &[u8; ROOM],
+    counts: &[usize; QUEUES],
+    singles: &[u8; SINGLES_BYTES],
     ais: bool,
     device: Device,
     group: u32,

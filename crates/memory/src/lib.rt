@@ -7,6 +7,9 @@ ghost use Rattle.rules.specs.State.{nothing};
 ghost use Rattle.queues.specs.Queues.{Held};
 ghost use Rattle.records.specs.Memory.{pendingOf};
 ghost use Rattle.memory.specs.Order.{upFrom};
+use words::QUEUES;
+use words::ROOM;
+use words::SINGLES_BYTES;
 
 // Writes each index as its own entry.
 fn number(order: &mut [u8])
@@ -21,7 +24,11 @@ fn number(order: &mut [u8])
 }
 
 // Every slot is free, and nothing is pending. The slots themselves may hold anything.
-pub fn fresh(order: &mut [u8; 256], counts: &mut [usize; 9], singles: &mut [u8; 146])
+pub fn fresh(
+    order: &mut [u8; ROOM],
+    counts: &mut [usize; QUEUES],
+    singles: &mut [u8; SINGLES_BYTES],
+)
     ensures held { λ _. ⌜ Held (now (order .exit)) (now (counts .exit)) ⌝ }
     ensures pending { λ _. ⌜ ((slots : List ℕ) → pendingOf (now (order .exit)) (now (counts .exit)) slots (now (singles .exit)) ≡ nothing) ⌝ }
 {

@@ -8,13 +8,17 @@ ghost use Rattle.rules.specs.Bytes.{choose, part};
 ghost use Rattle.rules.specs.State.{Limits, State, withPending, listing};
 ghost use Rattle.rules.specs.Requests.{clearIrqs, getAllIrqs, clearIoIrq, request};
 ghost use Rattle.rules.specs.Take.{takes};
-ghost use Rattle.slots.specs.Slots.{removeAt};
+ghost use Rattle.slots.specs.Slots.{slotCount, removeAt};
 ghost use Rattle.queues.specs.Queues.{sum, queues, Held};
 ghost use Rattle.singles.specs.Singles.{serviceOf, mchkOf};
 ghost use Rattle.answers.specs.Answers.{Answers};
 ghost use Rattle.records.specs.Memory.{pendingOf};
 use answers::Answer;
 use search::Found;
+use words::QUEUES;
+use words::ROOM;
+use words::SINGLES_BYTES;
+use words::SLOT_BYTES;
 use words::SubchannelId;
 use words::SubchannelNumber;
 use words::Subclass;
@@ -26,9 +30,9 @@ fn one_if(t: bool) -> usize
 }
 
 // How many records are pending.
-pub fn pending(counts: &[usize; 9], singles: &[u8; 146]) -> usize
-    requires { ⌜ sum (now counts) ≤ 256 ⌝ }
-    ensures { λ r. ⌜ ((order slots : List ℕ) → length order ≡ 256 → r ≡ length (listing (pendingOf order (now (counts .entry)) slots (now (singles .entry))))) × (r ≤ 258) ⌝ }
+pub fn pending(counts: &[usize; QUEUES], singles: &[u8; SINGLES_BYTES]) -> usize
+    requires { ⌜ sum (now counts) ≤ slotCount ⌝ }
+    ensures { λ r. ⌜ ((order slots : List ℕ) → length order ≡ slotCount → r ≡ length (listing (pendingOf order (now (counts .entry)) slots (now (singles .entry))))) × (r ≤ 258) ⌝ }
 {
     // As a slice: what makes one of an array says its length. So below.
     let _c: &[usize] = counts;
@@ -38,10 +42,14 @@ pub fn pending(counts: &[usize; 9], singles: &[u8; 146]) -> usize
 }
 
 // Group 3: nothing is pending any more.
-pub fn clear_irqs(counts: &mut [usize; 9], singles: &mut [u8; 146], attr: u64) -> Answer
-    requires { ⌜ sum (now counts) ≤ 256 ⌝ }
-    ensures answer { λ r. ⌜ ((L : Limits) (s : State) (order slots b : List ℕ) → length order ≡ 256 → s .pending ≡ pendingOf order (now (counts .entry)) slots (now (singles .entry)) → Answers L s b (request L s clearIrqs attr b) r (withPending (pendingOf order (now (counts .exit)) slots (now (singles .exit))) s) b) ⌝ }
-    ensures few { λ _. ⌜ sum (now (counts .exit)) ≤ 256 ⌝ }
+pub fn clear_irqs(
+    counts: &mut [usize; QUEUES],
+    singles: &mut [u8; SINGLES_BYTES],
+    attr: u64,
+) -> Answer
+    requires { ⌜ sum (now counts) ≤ slotCount ⌝ }
+    ensures answer { λ r. ⌜ ((L : Limits) (s : State) (order slots b : List ℕ) → length order ≡ slotCount → s .pending ≡ pendingOf order (now (counts .entry)) slots (now (singles .entry)) → Answers L s b (request L s clearIrqs attr b) r (withPending (pendingOf order (now (counts .exit)) slots (now (singles .exit))) s) b) ⌝ }
+    ensures few { λ _. ⌜ sum (now (counts .exit)) ≤ slotCount ⌝ }
     ensures kept { λ r. ⌜ ((r .code ≡ 0 → ⊥) → (now (counts .exit) ≡ now (counts .entry)) × (now (singles .exit) ≡ now (singles .entry))) ⌝ }
 {
     if attr != 0 {
@@ -56,10 +64,10 @@ pub fn clear_irqs(counts: &mut [usize; 9], singles: &mut [u8; 146], attr: u64) -
 
 // Writes the listing to out.
 fn list_all(
-    slots: &[u8; 18432],
-    order: &[u8; 256],
-    counts: &[usize; 9],
-    singles: &[u8; 146],
+    slots: &[u8; SLOT_BYTES],
+    order: &[u8; ROOM],
+    counts: &[usize; QUEUES],
+    singles: &[u8; SINGLES_BYTES],
     out: &mut [u8],
 )
     requires { ⌜ Held (now order) (now counts) × (72 * length (listing (pendingOf (now order) (now counts) (now slots) (now singles))) ≤ length (now out)) ⌝ }
@@ -80,10 +88,10 @@ fn list_all(
 
 // Group 1: the listing.
 pub fn get_all(
-    slots: &[u8; 18432],
-    order: &[u8; 256],
-    counts: &[usize; 9],
-    singles: &[u8; 146],
+    slots: &[u8; SLOT_BYTES],
+    order: &[u8; ROOM],
+    counts: &[usize; QUEUES],
+    singles: &[u8; SINGLES_BYTES],
     attr: u64,
     out: &mut [u8],
 ) -> Answer
@@ -109,9 +117,9 @@ pub fn get_all(
 
 // Group 8: the first I/O record in listing order for a subchannel is removed.
 pub fn clear_io(
-    slots: &[u8; 18432],
-    order: &mut [u8; 256],
-    counts: &mut [usize; 9],
+    slots: &[u8; SLOT_BYTES],
+    order: &mut [u8; ROOM],
+    counts: &mut [usize; QUEUES],
     attr: u64,
     payload: &[u8],
 ) -> Answer
@@ -148,7 +156,7 @@ fn hand(out: &mut [u8], r: [u8; 72]) -> Answer
 }
 
 // The machine check, which is there no more.
-fn take_mchk(g: &mut [u8; 146]) -> [u8; 72]
+fn take_mchk(g: &mut [u8; SINGLES_BYTES]) -> [u8; 72]
     ensures { λ r. ⌜ (r ≡ part 72 72 (now (g .entry))) × (mchkOf (now (g .exit)) ≡ none) × (serviceOf (now (g .exit)) ≡ serviceOf (now (g .entry))) ⌝ }
 {
     let r = singles::read_mchk(g);
@@ -157,7 +165,7 @@ fn take_mchk(g: &mut [u8; 146]) -> [u8; 72]
 }
 
 // The service record, which is there no more.
-fn take_service(g: &mut [u8; 146]) -> [u8; 72]
+fn take_service(g: &mut [u8; SINGLES_BYTES]) -> [u8; 72]
     ensures { λ r. ⌜ (r ≡ part 0 72 (now (g .entry))) × (serviceOf (now (g .exit)) ≡ none) × (mchkOf (now (g .exit)) ≡ mchkOf (now (g .entry))) ⌝ }
 {
     let r = singles::read_service(g);
@@ -166,7 +174,11 @@ fn take_service(g: &mut [u8; 146]) -> [u8; 72]
 }
 
 // The oldest finished page fault, out of its queue.
-fn take_done(slots: &[u8; 18432], order: &mut [u8; 256], counts: &mut [usize; 9]) -> [u8; 72]
+fn take_done(
+    slots: &[u8; SLOT_BYTES],
+    order: &mut [u8; ROOM],
+    counts: &mut [usize; QUEUES],
+) -> [u8; 72]
     requires { ⌜ (0 < getD (now counts) 8 0) × Held (now order) (now counts) ⌝ }
     ensures { λ r. ⌜ (r ≡ getD (getD (queues (now (order .entry)) (now (counts .entry)) (now (slots .entry))) 8 []) 0 []) × ((b : List ℕ) → queues (now (order .exit)) (now (counts .exit)) b ≡ set (queues (now (order .entry)) (now (counts .entry)) b) 8 (removeAt 0 (getD (queues (now (order .entry)) (now (counts .entry)) b) 8 []))) × Held (now (order .exit)) (now (counts .exit)) ⌝ }
 {
@@ -177,9 +189,9 @@ fn take_done(slots: &[u8; 18432], order: &mut [u8; 256], counts: &mut [usize; 9]
 
 // Record k of the queue of a subclass, out of that queue.
 fn take_io(
-    slots: &[u8; 18432],
-    order: &mut [u8; 256],
-    counts: &mut [usize; 9],
+    slots: &[u8; SLOT_BYTES],
+    order: &mut [u8; ROOM],
+    counts: &mut [usize; QUEUES],
     isc: Subclass,
     k: usize,
 ) -> [u8; 72]
@@ -193,10 +205,10 @@ fn take_io(
 
 // The guest take.
 pub fn take(
-    slots: &[u8; 18432],
-    order: &mut [u8; 256],
-    counts: &mut [usize; 9],
-    singles: &mut [u8; 146],
+    slots: &[u8; SLOT_BYTES],
+    order: &mut [u8; ROOM],
+    counts: &mut [usize; QUEUES],
+    singles: &mut [u8; SINGLES_BYTES],
     mask: u8,
     external: bool,
     mcheck: bool,

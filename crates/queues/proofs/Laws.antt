@@ -9,7 +9,7 @@ use lib.ListN.{length, take, drop, getD, set, replicate, length-drop, length-app
 use lib.Seq.{take-all, take-length, take-suc, append-snoc, length-take-le, take-at, drop-at, drop-drop, take-append-add, drop-append-add, take-append-le, drop-append-le, getD-take, getD-drop, paste}
 use Rattle.rules.specs.State.{Record}
 use Rattle.rules.proofs.Lists.{All, flatten-append}
-use Rattle.slots.specs.Slots.{insertAt, removeAt, listed, Apart}
+use Rattle.slots.specs.Slots.{slotCount, insertAt, removeAt, listed, Apart}
 use Rattle.slots.proofs.Laws.{length-removeAt, length-listed, every-record}
 use Rattle.queues.specs.Queues.{sum, cut, queues, Held}
 
@@ -153,9 +153,9 @@ flatten-queues o c b h = flatten-cut c (listed 72 o (sum c) b) (length-listed 72
 pub length-flatten-queues : (o c b : List ℕ) → sum c ≤ length o → length (flatten (queues o c b)) ≡ sum c
 length-flatten-queues o c b h = ap length (flatten-queues o c b h) ∙ length-listed 72 o (sum c) b h
 
-pub every-queue : (o c b : List ℕ) → ((k : ℕ) → getD o k 0 < 256) → 256 * 72 ≤ length b → All (λ q. All (λ r. length r ≡ 72) q) (queues o c b)
+pub every-queue : (o c b : List ℕ) → ((k : ℕ) → getD o k 0 < 256) → slotCount * 72 ≤ length b → All (λ q. All (λ r. length r ≡ 72) q) (queues o c b)
 unfolding queues
-every-queue o c b h g = all-cut (λ r. length r ≡ 72) c (listed 72 o (sum c) b) (every-record 72 256 o (sum c) b h g)
+every-queue o c b h g = all-cut (λ r. length r ≡ 72) c (listed 72 o (sum c) b) (every-record 72 slotCount o (sum c) b h g)
 
 pub queues-none : (o b : List ℕ) → queues o (replicate 9 0) b ≡ replicate 9 []
 unfolding queues
@@ -176,7 +176,7 @@ module _ (o c : List ℕ) (q n : ℕ) (h : q < length c) (k : sum c ≤ length o
   read-gives b j at r hj ea e = rw (e, cut-at c (listed 72 o (sum c) b) q h, getD-take, getD-drop, ea, en′)
 
   module _ (u : List ℕ) (a : Apart u) where
-    pub append-leaves : (b d r : List ℕ) (at : ℕ) → sum c < 256 → at ≡ sum (take (q + 1) c) → listed 72 u (n + 1) d ≡ insertAt at r (listed 72 o n b)
+    pub append-leaves : (b d r : List ℕ) (at : ℕ) → sum c < slotCount → at ≡ sum (take (q + 1) c) → listed 72 u (n + 1) d ≡ insertAt at r (listed 72 o n b)
         → (queues u (set c q (getD c q 0 + 1)) d ≡ set (queues o c b) q (getD (queues o c b) q [] ++ (r ∷ [])))
         × (Held u (set c q (getD c q 0 + 1)) × (sum (set c q (getD c q 0 + 1)) ≡ sum c + 1))
     unfolding queues
@@ -185,7 +185,7 @@ module _ (o c : List ℕ) (q n : ℕ) (h : q < length c) (k : sum c ≤ length o
         let e′ : listed 72 u (sum c + 1) d ≡ insertAt (sum (take (suc q) c)) r (listed 72 o (sum c) b) = rw (en′, ea, add-one q) at e in
         (rw (s, e′) (cut-insert c (listed 72 o (sum c) b) q r h (length-listed 72 o (sum c) b k)), (record { apart = a; few = omega arith }, s))
 
-    pub remove-leaves : (j at : ℕ) → j < getD c q 0 → sum c ≤ 256 → at ≡ sum (take q c) → ((b : List ℕ) → listed 72 u (n - 1) b ≡ removeAt (at + j) (listed 72 o n b))
+    pub remove-leaves : (j at : ℕ) → j < getD c q 0 → sum c ≤ slotCount → at ≡ sum (take q c) → ((b : List ℕ) → listed 72 u (n - 1) b ≡ removeAt (at + j) (listed 72 o n b))
         → ((b : List ℕ) → queues u (set c q (getD c q 0 - 1)) b ≡ set (queues o c b) q (removeAt j (getD (queues o c b) q [])))
         × (Held u (set c q (getD c q 0 - 1)) × (sum (set c q (getD c q 0 - 1)) ≡ sum c - 1))
     unfolding queues

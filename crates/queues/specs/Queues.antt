@@ -3,7 +3,7 @@ use Prim.Native.Nat.{ℕ, _+_, _≤_}
 use mathlib.Core.List.{List, [], _∷_}
 use lib.ListN.{take, drop}
 use Rattle.rules.specs.State.{Record}
-use Rattle.slots.specs.Slots.{listed, Apart}
+use Rattle.slots.specs.Slots.{slotCount, listed, Apart}
 
 unfoldable pub sum : List ℕ → ℕ
 sum [] = 0
@@ -20,4 +20,4 @@ queues order counts slots = cut counts (listed 72 order (sum counts) slots)
 -- what every call keeps of the order and the counts
 pub record Held (order counts : List ℕ) : Type 0 where
   pub apart : Apart order
-  pub few : sum counts ≤ 256
+  pub few : sum counts ≤ slotCount

@@ -4,13 +4,16 @@ ghost use mathlib.Core.Path.{_≡_};
 ghost use mathlib.Core.List.{List, [], _∷_, _++_, flatten};
 ghost use Prim.Native.Nat.{ℕ, _+_, _*_, _-_, _≤_, _<_};
 ghost use lib.ListN.{length, getD, set, take, drop, replicate};
-ghost use Rattle.slots.specs.Slots.{removeAt};
+ghost use Rattle.slots.specs.Slots.{slotCount, removeAt};
 ghost use Rattle.queues.specs.Queues.{sum, queues, Held};
+use words::QUEUES;
+use words::ROOM;
+use words::SLOT_BYTES;
 use words::Subclass;
 
 // How many records the first q queues hold.
 fn start(c: &[usize], q: usize) -> usize
-    requires { ⌜ (q ≤ length (now c)) × (sum (now c) ≤ 256) ⌝ }
+    requires { ⌜ (q ≤ length (now c)) × (sum (now c) ≤ slotCount) ⌝ }
     ensures { λ r. ⌜ r ≡ sum (take q (now (c .entry))) ⌝ }
 {
     let mut s = 0;
@@ -23,16 +26,16 @@ fn start(c: &[usize], q: usize) -> usize
 }
 
 // How many records the nine queues hold.
-pub fn queued(c: &[usize; 9]) -> usize
-    requires { ⌜ sum (now c) ≤ 256 ⌝ }
+pub fn queued(c: &[usize; QUEUES]) -> usize
+    requires { ⌜ sum (now c) ≤ slotCount ⌝ }
     ensures { λ r. ⌜ r ≡ sum (now (c .entry)) ⌝ }
 {
-    start(c, 9)
+    start(c, QUEUES)
 }
 
 // Appends r to queue q.
 fn append(b: &mut [u8], o: &mut [u8], c: &mut [usize], q: usize, r: [u8; 72])
-    requires { ⌜ (q < length (now c)) × (sum (now c) < 256) × (length (now o) ≡ 256) × (256 * 72 ≤ length (now b)) × Held (now o) (now c) ⌝ }
+    requires { ⌜ (q < length (now c)) × (sum (now c) < slotCount) × (length (now o) ≡ slotCount) × (slotCount * 72 ≤ length (now b)) × Held (now o) (now c) ⌝ }
     ensures queue { λ _. ⌜ queues (now (o .exit)) (now (c .exit)) (now (b .exit)) ≡ set (queues (now (o .entry)) (now (c .entry)) (now (b .entry))) q (getD (queues (now (o .entry)) (now (c .entry)) (now (b .entry))) q [] ++ (r ∷ [])) ⌝ }
     ensures held { λ _. ⌜ Held (now (o .exit)) (now (c .exit)) ⌝ }
     ensures count { λ _. ⌜ sum (now (c .exit)) ≡ sum (now (c .entry)) + 1 ⌝ }
@@ -45,7 +48,7 @@ fn append(b: &mut [u8], o: &mut [u8], c: &mut [usize], q: usize, r: [u8; 72])
 
 // Takes record j out of queue q.
 fn remove(o: &mut [u8], c: &mut [usize], q: usize, j: usize)
-    requires { ⌜ (q < length (now c)) × (j < getD (now c) q 0) × (length (now o) ≡ 256) × Held (now o) (now c) ⌝ }
+    requires { ⌜ (q < length (now c)) × (j < getD (now c) q 0) × (length (now o) ≡ slotCount) × Held (now o) (now c) ⌝ }
     ensures queue { λ _. ⌜ ((b : List ℕ) → queues (now (o .exit)) (now (c .exit)) b ≡ set (queues (now (o .entry)) (now (c .entry)) b) q (removeAt j (getD (queues (now (o .entry)) (now (c .entry)) b) q []))) ⌝ }
     ensures held { λ _. ⌜ Held (now (o .exit)) (now (c .exit)) ⌝ }
     ensures count { λ _. ⌜ sum (now (c .exit)) ≡ sum (now (c .entry)) - 1 ⌝ }
@@ -58,7 +61,7 @@ fn remove(o: &mut [u8], c: &mut [usize], q: usize, j: usize)
 
 // Record j of queue q.
 fn read(b: &[u8], o: &[u8], c: &[usize], q: usize, j: usize) -> [u8; 72]
-    requires { ⌜ (q < length (now c)) × (j < getD (now c) q 0) × (length (now o) ≡ 256) × (256 * 72 ≤ length (now b)) × Held (now o) (now c) ⌝ }
+    requires { ⌜ (q < length (now c)) × (j < getD (now c) q 0) × (length (now o) ≡ slotCount) × (slotCount * 72 ≤ length (now b)) × Held (now o) (now c) ⌝ }
     ensures { λ r. ⌜ r ≡ getD (getD (queues (now (o .entry)) (now (c .entry)) (now (b .entry))) q []) j [] ⌝ }
 {
     let k = start(c, q) + j;
@@ -68,13 +71,13 @@ fn read(b: &[u8], o: &[u8], c: &[usize], q: usize, j: usize) -> [u8; 72]
 
 // An I/O record joins the queue of its subclass.
 pub fn append_io(
-    b: &mut [u8; 18432],
-    o: &mut [u8; 256],
-    c: &mut [usize; 9],
+    b: &mut [u8; SLOT_BYTES],
+    o: &mut [u8; ROOM],
+    c: &mut [usize; QUEUES],
     isc: Subclass,
     r: [u8; 72],
 )
-    requires { ⌜ (isc .0 < 8) × (sum (now c) < 256) × Held (now o) (now c) ⌝ }
+    requires { ⌜ (isc .0 < 8) × (sum (now c) < slotCount) × Held (now o) (now c) ⌝ }
     ensures queue { λ _. ⌜ queues (now (o .exit)) (now (c .exit)) (now (b .exit)) ≡ set (queues (now (o .entry)) (now (c .entry)) (now (b .entry))) (isc .0) (getD (queues (now (o .entry)) (now (c .entry)) (now (b .entry))) (isc .0) [] ++ (r ∷ [])) ⌝ }
     ensures held { λ _. ⌜ Held (now (o .exit)) (now (c .exit)) ⌝ }
     ensures count { λ _. ⌜ sum (now (c .exit)) ≡ sum (now (c .entry)) + 1 ⌝ }
@@ -84,8 +87,13 @@ pub fn append_io(
 }
 
 // A finished page fault joins its queue.
-pub fn append_done(b: &mut [u8; 18432], o: &mut [u8; 256], c: &mut [usize; 9], r: [u8; 72])
-    requires { ⌜ (sum (now c) < 256) × Held (now o) (now c) ⌝ }
+pub fn append_done(
+    b: &mut [u8; SLOT_BYTES],
+    o: &mut [u8; ROOM],
+    c: &mut [usize; QUEUES],
+    r: [u8; 72],
+)
+    requires { ⌜ (sum (now c) < slotCount) × Held (now o) (now c) ⌝ }
     ensures queue { λ _. ⌜ queues (now (o .exit)) (now (c .exit)) (now (b .exit)) ≡ set (queues (now (o .entry)) (now (c .entry)) (now (b .entry))) 8 (getD (queues (now (o .entry)) (now (c .entry)) (now (b .entry))) 8 [] ++ (r ∷ [])) ⌝ }
     ensures held { λ _. ⌜ Held (now (o .exit)) (now (c .exit)) ⌝ }
     ensures count { λ _. ⌜ sum (now (c .exit)) ≡ sum (now (c .entry)) + 1 ⌝ }
@@ -94,7 +102,7 @@ pub fn append_done(b: &mut [u8; 18432], o: &mut [u8; 256], c: &mut [usize; 9], r
 }
 
 // Record j of the queue of a subclass leaves it.
-pub fn remove_io(o: &mut [u8; 256], c: &mut [usize; 9], isc: Subclass, j: usize)
+pub fn remove_io(o: &mut [u8; ROOM], c: &mut [usize; QUEUES], isc: Subclass, j: usize)
     requires { ⌜ (isc .0 < 8) × (j < getD (now c) (isc .0) 0) × Held (now o) (now c) ⌝ }
     ensures queue { λ _. ⌜ ((b : List ℕ) → queues (now (o .exit)) (now (c .exit)) b ≡ set (queues (now (o .entry)) (now (c .entry)) b) (isc .0) (removeAt j (getD (queues (now (o .entry)) (now (c .entry)) b) (isc .0) []))) ⌝ }
     ensures held { λ _. ⌜ Held (now (o .exit)) (now (c .exit)) ⌝ }
@@ -105,7 +113,7 @@ pub fn remove_io(o: &mut [u8; 256], c: &mut [usize; 9], isc: Subclass, j: usize)
 }
 
 // The oldest finished page fault leaves its queue.
-pub fn remove_done(o: &mut [u8; 256], c: &mut [usize; 9])
+pub fn remove_done(o: &mut [u8; ROOM], c: &mut [usize; QUEUES])
     requires { ⌜ (0 < getD (now c) 8 0) × Held (now o) (now c) ⌝ }
     ensures queue { λ _. ⌜ ((b : List ℕ) → queues (now (o .exit)) (now (c .exit)) b ≡ set (queues (now (o .entry)) (now (c .entry)) b) 8 (removeAt 0 (getD (queues (now (o .entry)) (now (c .entry)) b) 8 []))) ⌝ }
     ensures held { λ _. ⌜ Held (now (o .exit)) (now (c .exit)) ⌝ }
@@ -115,7 +123,13 @@ pub fn remove_done(o: &mut [u8; 256], c: &mut [usize; 9])
 }
 
 // Record j of the queue of a subclass.
-pub fn read_io(b: &[u8; 18432], o: &[u8; 256], c: &[usize; 9], isc: Subclass, j: usize) -> [u8; 72]
+pub fn read_io(
+    b: &[u8; SLOT_BYTES],
+    o: &[u8; ROOM],
+    c: &[usize; QUEUES],
+    isc: Subclass,
+    j: usize,
+) -> [u8; 72]
     requires { ⌜ (isc .0 < 8) × (j < getD (now c) (isc .0) 0) × Held (now o) (now c) ⌝ }
     ensures { λ r. ⌜ r ≡ getD (getD (queues (now (o .entry)) (now (c .entry)) (now (b .entry))) (isc .0) []) j [] ⌝ }
 {
@@ -124,7 +138,7 @@ pub fn read_io(b: &[u8; 18432], o: &[u8; 256], c: &[usize; 9], isc: Subclass, j:
 }
 
 // The oldest finished page fault.
-pub fn read_done(b: &[u8; 18432], o: &[u8; 256], c: &[usize; 9]) -> [u8; 72]
+pub fn read_done(b: &[u8; SLOT_BYTES], o: &[u8; ROOM], c: &[usize; QUEUES]) -> [u8; 72]
     requires { ⌜ (0 < getD (now c) 8 0) × Held (now o) (now c) ⌝ }
     ensures { λ r. ⌜ r ≡ getD (getD (queues (now (o .entry)) (now (c .entry)) (now (b .entry))) 8 []) 0 [] ⌝ }
 {
@@ -132,14 +146,14 @@ pub fn read_done(b: &[u8; 18432], o: &[u8; 256], c: &[usize; 9]) -> [u8; 72]
 }
 
 // How many finished page faults wait.
-pub fn done_count(c: &[usize; 9]) -> usize
+pub fn done_count(c: &[usize; QUEUES]) -> usize
     ensures { λ r. ⌜ r ≡ getD (now (c .entry)) 8 0 ⌝ }
 {
     c[8]
 }
 
 // Writes all records to out, one after the other, in listing order.
-pub fn list(b: &[u8; 18432], o: &[u8; 256], c: &[usize; 9], out: &mut [u8])
+pub fn list(b: &[u8; SLOT_BYTES], o: &[u8; ROOM], c: &[usize; QUEUES], out: &mut [u8])
     requires { ⌜ Held (now o) (now c) × (sum (now c) * 72 ≤ length (now out)) ⌝ }
     ensures { λ _. ⌜ now (out .exit) ≡ flatten (flatten (queues (now (o .entry)) (now (c .entry)) (now (b .entry)))) ++ drop (sum (now (c .entry)) * 72) (now (out .entry)) ⌝ }
 {
@@ -153,12 +167,12 @@ pub fn list(b: &[u8; 18432], o: &[u8; 256], c: &[usize; 9], out: &mut [u8])
 }
 
 // No record is left.
-pub fn clear(c: &mut [usize; 9])
+pub fn clear(c: &mut [usize; QUEUES])
     ensures { λ _. ⌜ now (c .exit) ≡ replicate 9 0 ⌝ }
 {
     let s: &mut [usize] = c;
     let mut i = 0;
-    while i < 9 {
+    while i < QUEUES {
         s[i] = 0;
         i += 1;
     }

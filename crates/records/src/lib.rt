@@ -6,11 +6,16 @@ ghost use lib.ListN.{length};
 ghost use Rattle.rules.specs.Bytes.{part};
 ghost use Rattle.rules.specs.State.{Limits, State, withPending, subclass, kind, addIo, add, addAll};
 ghost use Rattle.rules.specs.Requests.{enqueue, recordsIn, wants, allWant, adapterInterrupt, request};
+ghost use Rattle.slots.specs.Slots.{slotCount};
 ghost use Rattle.queues.specs.Queues.{sum, Held};
 ghost use Rattle.answers.specs.Answers.{Answers};
 ghost use Rattle.records.specs.Memory.{pendingOf};
 ghost use Rattle.records.specs.Cases.{kindOf, checkFrom};
 use answers::Answer;
+use words::QUEUES;
+use words::ROOM;
+use words::SINGLES_BYTES;
+use words::SLOT_BYTES;
 use words::Subclass;
 
 // What kind of record there is, with the subclass of an I/O record.
@@ -81,14 +86,14 @@ pub fn check(b: &[u8], n: usize) -> Checked
 
 // Adds the record at index at of b.
 fn add_one(
-    slots: &mut [u8; 18432],
-    order: &mut [u8; 256],
-    counts: &mut [usize; 9],
-    singles: &mut [u8; 146],
+    slots: &mut [u8; SLOT_BYTES],
+    order: &mut [u8; ROOM],
+    counts: &mut [usize; QUEUES],
+    singles: &mut [u8; SINGLES_BYTES],
     b: &[u8],
     at: usize,
 )
-    requires { ⌜ (at + 72 ≤ length (now b)) × Held (now order) (now counts) × (sum (now counts) + wants (kind (part at 72 (now b))) ≤ 256) ⌝ }
+    requires { ⌜ (at + 72 ≤ length (now b)) × Held (now order) (now counts) × (sum (now counts) + wants (kind (part at 72 (now b))) ≤ slotCount) ⌝ }
     ensures pending { λ _. ⌜ pendingOf (now (order .exit)) (now (counts .exit)) (now (slots .exit)) (now (singles .exit)) ≡ add (part at 72 (now (b .entry))) (pendingOf (now (order .entry)) (now (counts .entry)) (now (slots .entry)) (now (singles .entry))) ⌝ }
     ensures held { λ _. ⌜ Held (now (order .exit)) (now (counts .exit)) × (sum (now (counts .exit)) ≡ sum (now (counts .entry)) + wants (kind (part at 72 (now (b .entry))))) ⌝ }
 {
@@ -108,14 +113,14 @@ fn add_one(
 
 // Adds the first n records of b in order.
 fn add_all(
-    slots: &mut [u8; 18432],
-    order: &mut [u8; 256],
-    counts: &mut [usize; 9],
-    singles: &mut [u8; 146],
+    slots: &mut [u8; SLOT_BYTES],
+    order: &mut [u8; ROOM],
+    counts: &mut [usize; QUEUES],
+    singles: &mut [u8; SINGLES_BYTES],
     b: &[u8],
     n: usize,
 )
-    requires { ⌜ (n ≤ 258) × (n * 72 ≤ length (now b)) × Held (now order) (now counts) × (sum (now counts) + allWant (recordsIn n (now b)) ≤ 256) ⌝ }
+    requires { ⌜ (n ≤ 258) × (n * 72 ≤ length (now b)) × Held (now order) (now counts) × (sum (now counts) + allWant (recordsIn n (now b)) ≤ slotCount) ⌝ }
     ensures pending { λ _. ⌜ pendingOf (now (order .exit)) (now (counts .exit)) (now (slots .exit)) (now (singles .exit)) ≡ addAll (recordsIn n (now (b .entry))) (pendingOf (now (order .entry)) (now (counts .entry)) (now (slots .entry)) (now (singles .entry))) ⌝ }
     ensures held { λ _. ⌜ Held (now (order .exit)) (now (counts .exit)) ⌝ }
 {
@@ -128,15 +133,15 @@ fn add_all(
 
 // Group 2: all records are added, or none.
 pub fn enqueue_irqs(
-    slots: &mut [u8; 18432],
-    order: &mut [u8; 256],
-    counts: &mut [usize; 9],
-    singles: &mut [u8; 146],
+    slots: &mut [u8; SLOT_BYTES],
+    order: &mut [u8; ROOM],
+    counts: &mut [usize; QUEUES],
+    singles: &mut [u8; SINGLES_BYTES],
     room: usize,
     attr: u64,
     payload: &[u8],
 ) -> Answer
-    requires { ⌜ (room ≤ 256) × Held (now order) (now counts) ⌝ }
+    requires { ⌜ (room ≤ slotCount) × Held (now order) (now counts) ⌝ }
     ensures answer { λ r. ⌜ ((L : Limits) (s : State) → L .room ≡ room → s .pending ≡ pendingOf (now (order .entry)) (now (counts .entry)) (now (slots .entry)) (now (singles .entry)) → Answers L s (now (payload .entry)) (request L s enqueue attr (now (payload .entry))) r (withPending (pendingOf (now (order .exit)) (now (counts .exit)) (now (slots .exit)) (now (singles .exit))) s) (now (payload .entry))) ⌝ }
     ensures held { λ _. ⌜ Held (now (order .exit)) (now (counts .exit)) ⌝ }
     ensures kept { λ r. ⌜ ((r .code ≡ 0 → ⊥) → (now (slots .exit) ≡ now (slots .entry)) × (now (order .exit) ≡ now (order .entry)) × (now (counts .exit) ≡ now (counts .entry)) × (now (singles .exit) ≡ now (singles .entry))) ⌝ }
@@ -181,12 +186,12 @@ fn interrupt(isc: Subclass) -> [u8; 72]
 
 // Group 10, where there is room: the interrupt joins the queue of its subclass.
 pub fn append_interrupt(
-    slots: &mut [u8; 18432],
-    order: &mut [u8; 256],
-    counts: &mut [usize; 9],
+    slots: &mut [u8; SLOT_BYTES],
+    order: &mut [u8; ROOM],
+    counts: &mut [usize; QUEUES],
     isc: Subclass,
 )
-    requires { ⌜ (isc .0 ≤ 7) × (sum (now counts) < 256) × Held (now order) (now counts) ⌝ }
+    requires { ⌜ (isc .0 ≤ 7) × (sum (now counts) < slotCount) × Held (now order) (now counts) ⌝ }
     ensures pending { λ _. ⌜ ((singles : List ℕ) → pendingOf (now (order .exit)) (now (counts .exit)) (now (slots .exit)) singles ≡ addIo (isc .0) (adapterInterrupt (isc .0)) (pendingOf (now (order .entry)) (now (counts .entry)) (now (slots .entry)) singles)) ⌝ }
     ensures held { λ _. ⌜ Held (now (order .exit)) (now (counts .exit)) ⌝ }
 {

@@ -223,18 +223,18 @@ longest-bound ais cs =
     omega (arith, total-bound paperLimits movable-paper s (reachable paperLimits ais cs .sound), flag-le (s .ais))
 
 fullCall : ℕ → ℕ → List ℕ → Call
-fullCall group attr payload = record { ask = setAttr group attr; buffer = payload; table = 64 }
+fullCall group attr payload = record { ask = setAttr group attr; buffer = payload; table = paperLimits .places }
 
 forEachId : ℕ → (ℕ → Call) → List Call
 forEachId zero f = []
 forEachId (suc id) f = f id ∷ forEachId id f
 
--- every place registered and masked, 256 queued, a service record and a machine check, masks not 0, page faults on
+-- every place registered and masked, the queues full, a service record and a machine check, masks not 0, page faults on
 fullCalls : List Call
 fullCalls =
-    forEachId 64 (λ id. fullCall 6 0 (bytes 4 id ++ (7 ∷ 1 ∷ 1 ∷ 1 ∷ [])))
-    ++ (forEachId 64 (λ id. fullCall 7 0 (bytes 4 id ++ (1 ∷ 1 ∷ replicate 10 0)))
-    ++ (fullCall 2 18576 (replicate 18432 0 ++ (bytes 8 0xffff2401 ++ (replicate 64 0 ++ (bytes 8 0xfffe1000 ++ replicate 64 0))))
+    forEachId (paperLimits .places) (λ id. fullCall 6 0 (bytes 4 id ++ (7 ∷ 1 ∷ 1 ∷ 1 ∷ [])))
+    ++ (forEachId (paperLimits .places) (λ id. fullCall 7 0 (bytes 4 id ++ (1 ∷ 1 ∷ replicate 10 0)))
+    ++ (fullCall 2 18576 (replicate (recordBytes * paperLimits .room) 0 ++ (bytes 8 0xffff2401 ++ (replicate 64 0 ++ (bytes 8 0xfffe1000 ++ replicate 64 0))))
     ∷ fullCall 11 0 (255 ∷ 0 ∷ [])
     ∷ fullCall 4 0 []
     ∷ []))

@@ -1,5 +1,5 @@
 -- The requests of a move list, applied to a fresh state, give back the very state that they were written from.
-use Prim.Native.Nat.{ℕ, suc, _+_, _*_, _%_, _<_, _≤_}
+use Prim.Native.Nat.{ℕ, suc, _+_, _*_, _%_, _^_, _<_, _≤_}
 use mathlib.Core.Path.{_≡_, refl, ap, sym, _∙_, subst}
 use mathlib.Core.Bool.{Bool, true, false, not, _&&_, _||_}
 use mathlib.Core.Option.{Option, none, some}
@@ -106,7 +106,7 @@ module _ (L : Limits) (s : State) (pre post : List Place) where
       passes _ _ _ (lt-ltb _ _ w) ∙ passes _ _ _ (ap isFree (getD-at pre free post free (length pre) refl)) ∙ passes _ _ _ (le-leb _ _ k)
       ∙ ap (λ (ps : List Place). accept 0 (withAdapters ps s) []) (set-at pre free post (holds x) (length pre) refl)
 
-  register-turn : L .places ≤ 64 → (place : ℕ) (x : Adapter) → SoundAdapter x → length pre < L .places
+  register-turn : L .places ≤ 2 ^ 32 → (place : ℕ) (x : Adapter) → SoundAdapter x → length pre < L .places
       → Leads L place (withAdapters (pre ++ (free ∷ post)) s) (registerEntry (length pre) x) (withAdapters (pre ++ (holds (withMask false x) ∷ post)) s)
   unfolding registerEntry request bytes
   register-turn few place x k w =
@@ -124,7 +124,7 @@ module _ (L : Limits) (s : State) (pre post : List Place) where
       passes _ _ _ (lt-ltb _ _ w) ∙ found _ x _ _ (getD-at pre (holds x) post free (length pre) refl) ∙ passes _ _ _ refl ∙ passes _ _ _ m
       ∙ ap (λ (ps : List Place). accept 0 (withAdapters ps s) []) (set-at pre (holds x) post (holds (withMask true x)) (length pre) refl)
 
-  modify-turn : L .places ≤ 64 → (place : ℕ) (x : Adapter) → SoundAdapter x → length pre < L .places
+  modify-turn : L .places ≤ 2 ^ 32 → (place : ℕ) (x : Adapter) → SoundAdapter x → length pre < L .places
       → Leads L place (withAdapters (pre ++ (holds (withMask false x) ∷ post)) s) (modifyEntry (length pre) x) (withAdapters (pre ++ (holds x ∷ post)) s)
   unfolding modifyEntry choose request bytes
   modify-turn few place x k w = go (x .masked) refl
@@ -311,7 +311,7 @@ module _ (L : Limits) (fits : Movable L) (s : State) (h : Sound L s) where
   unfolding fresh stage unset
   fresh-is = rw (map-freed, h .table)
 
-  few : L .places ≤ 64
+  few : L .places ≤ 2 ^ 32
   few = omega (arith, fits .few-places)
 
   registered : (place : ℕ)

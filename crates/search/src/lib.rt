@@ -3,9 +3,12 @@ ghost use mathlib.Core.Path.{_≡_};
 ghost use Prim.Native.Nat.{_*_, _≤_, _<_};
 ghost use lib.ListN.{length, getD, take};
 ghost use Rattle.rules.specs.Requests.{isFor};
-ghost use Rattle.slots.specs.Slots.{slot};
+ghost use Rattle.slots.specs.Slots.{slotCount, slot};
 ghost use Rattle.queues.specs.Queues.{queues, Held};
 ghost use Rattle.search.specs.Search.{searchQueues, wanted};
+use words::QUEUES;
+use words::ROOM;
+use words::SLOT_BYTES;
 use words::SubchannelId;
 use words::SubchannelNumber;
 use words::Subclass;
@@ -18,7 +21,7 @@ pub enum Found {
 
 // Whether the record at a place of all records is for this subchannel.
 fn is_for(b: &[u8], o: &[u8], k: usize, id: SubchannelId, nr: SubchannelNumber) -> bool
-    requires { ⌜ (k < length (now o)) × (256 * 72 ≤ length (now b)) ⌝ }
+    requires { ⌜ (k < length (now o)) × (slotCount * 72 ≤ length (now b)) ⌝ }
     ensures { λ r. ⌜ r ≡ isFor (id .0) (nr .0) (slot 72 (now (b .entry)) (getD (now (o .entry)) k 0)) ⌝ }
 {
     let at = slots::place(o, k);
@@ -27,9 +30,9 @@ fn is_for(b: &[u8], o: &[u8], k: usize, id: SubchannelId, nr: SubchannelNumber) 
 
 // The first record in listing order of a subclass that the mask allows, and for the subchannel unless any will do.
 pub fn find(
-    b: &[u8; 18432],
-    o: &[u8; 256],
-    c: &[usize; 9],
+    b: &[u8; SLOT_BYTES],
+    o: &[u8; ROOM],
+    c: &[usize; QUEUES],
     mask: u8,
     any: bool,
     id: SubchannelId,

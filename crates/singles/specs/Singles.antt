@@ -1,4 +1,4 @@
--- The service record and the machine check in their 146 bytes.
+-- The service record and the machine check in their lent bytes.
 use Prim.Native.Nat.{ℕ, zero, suc}
 use mathlib.Core.Option.{Option, none, some}
 use mathlib.Core.List.{List}

@@ -4,7 +4,7 @@ ghost use mathlib.Core.List.{List, []};
 ghost use Prim.Native.Nat.{ℕ, _+_, _*_, _-_, _≤_, _<_};
 ghost use lib.ListN.{length, getD, drop};
 ghost use lib.Seq.{paste};
-ghost use Rattle.slots.specs.Slots.{insertAt, removeAt, listed, Apart};
+ghost use Rattle.slots.specs.Slots.{slotCount, insertAt, removeAt, listed, Apart};
 
 // Moves the entries from index lo + 1 up to index end + 1 down by one.
 fn move_down(o: &mut [u8], lo: usize, end: usize)
@@ -32,7 +32,7 @@ fn move_up(o: &mut [u8], lo: usize, end: usize)
 
 // Puts r in at place at of n records.
 pub fn insert(b: &mut [u8], o: &mut [u8], n: usize, at: usize, r: [u8; 72])
-    requires { ⌜ (at ≤ n) × (n < length (now o)) × (256 * 72 ≤ length (now b)) × Apart (now o) ⌝ }
+    requires { ⌜ (at ≤ n) × (n < length (now o)) × (slotCount * 72 ≤ length (now b)) × Apart (now o) ⌝ }
     ensures { λ _. ⌜ (listed 72 (now (o .exit)) (n + 1) (now (b .exit)) ≡ insertAt at r (listed 72 (now (o .entry)) n (now (b .entry)))) × Apart (now (o .exit)) ⌝ }
 {
     let s = o[n];
@@ -53,7 +53,7 @@ pub fn remove(o: &mut [u8], n: usize, at: usize)
 
 // The record at place k of n records.
 pub fn read(b: &[u8], o: &[u8], n: usize, k: usize) -> [u8; 72]
-    requires { ⌜ (k < n) × (n ≤ length (now o)) × (256 * 72 ≤ length (now b)) ⌝ }
+    requires { ⌜ (k < n) × (n ≤ length (now o)) × (slotCount * 72 ≤ length (now b)) ⌝ }
     ensures { λ r. ⌜ r ≡ getD (listed 72 (now (o .entry)) n (now (b .entry))) k [] ⌝ }
 {
     let s = o[k];
@@ -63,7 +63,7 @@ pub fn read(b: &[u8], o: &[u8], n: usize, k: usize) -> [u8; 72]
 // The byte at which the record at place k begins: for a look at a few of its bytes.
 pub fn place(o: &[u8], k: usize) -> usize
     requires { ⌜ k < length (now o) ⌝ }
-    ensures { λ r. ⌜ (r ≡ getD (now (o .entry)) k 0 * 72) × (r < 256 * 72) ⌝ }
+    ensures { λ r. ⌜ (r ≡ getD (now (o .entry)) k 0 * 72) × (r < slotCount * 72) ⌝ }
 {
     words::index(o[k]) * 72
 }

@@ -1,9 +1,23 @@
-// Inner crate: kinds of small numbers that must not be confused, big-endian numbers, and records of 72 bytes.
+// Inner crate: the limits, kinds of small numbers that must not be confused, big-endian numbers, and records of 72 bytes.
 ghost use mathlib.Core.Path.{_≡_};
 ghost use Prim.Native.Nat.{_+_, _^_, _≤_, _<_};
 ghost use lib.ListN.{length};
 ghost use lib.Seq.{paste};
 ghost use Rattle.rules.specs.Bytes.{bytes, part, field};
+
+// How many adapter places there are.
+pub const PLACES: usize = 64;
+
+// How many records the nine queues hold together, at most: the slots of the lent memory.
+pub const ROOM: usize = 256;
+
+pub const SLOT_BYTES: usize = ROOM * 72;
+
+// A queue for each subclass and one of finished page faults, with a count for each.
+pub const QUEUES: usize = 9;
+
+// The service record, the machine check, and a byte for each that says whether it is there.
+pub const SINGLES_BYTES: usize = 2 * 72 + 2;
 
 // An adapter's id: a place in the adapter table, and nothing else.
 pub struct AdapterId(pub u64);

@@ -6,6 +6,7 @@ use borrow.Author.Needs.{needs}
 use Rattle.records.proofs.Laws.{add-next, add-ends, want-next, recordsFrom, records-all}
 use Rattle.rules.specs.State.{addAll}
 use Rattle.rules.specs.Requests.{recordsIn, allWant}
+use Rattle.slots.specs.Slots.{slotCount}
 use Rattle.queues.specs.Queues.{sum, Held}
 use Rattle.records.specs.Memory.{pendingOf}
 use Rattle.records.proofs.add_all.Statement.{statement}
@@ -13,7 +14,7 @@ use Rattle.records.proofs.add_all.Tie as tie
 
 abbrev Inv-loop : tie.InvT-loop
 Inv-loop slots₀ order₀ counts₀ singles₀ b n i₀ slots order counts singles i =
-    (i ≤ n) × Held order counts × (sum counts + allWant (recordsFrom i n b) ≤ 256)
+    (i ≤ n) × Held order counts × (sum counts + allWant (recordsFrom i n b) ≤ slotCount)
     × (addAll (recordsIn n b) (pendingOf order₀ counts₀ slots₀ singles₀) ≡ addAll (recordsFrom i n b) (pendingOf order counts slots singles))
 
 abbrev μ-loop : tie.MeasureT-loop

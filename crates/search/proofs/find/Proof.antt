@@ -3,13 +3,13 @@ use mathlib.Core.Path.{_≡_, refl, sym, _∙_}
 use mathlib.Core.Bool.{Bool, true, false}
 use mathlib.Core.List.{[]}
 use mathlib.Core.Logic.{⊎-elim}
-use Prim.Native.Nat.{_+_, _-_, _≤_}
+use Prim.Native.Nat.{_+_, _*_, _-_, _≤_}
 use native.Mathlib.Omega.{arith}
 use lib.ListN.{length, take, drop, getD}
 use borrow.Author.Needs.{needs}
 use borrow.Author.Tests.{ltb-true, ltb-false}
 use Rattle.rules.specs.Bytes.{choose}
-use Rattle.slots.specs.Slots.{slot}
+use Rattle.slots.specs.Slots.{slotCount, slot}
 use Rattle.queues.specs.Queues.{sum, queues}
 use Rattle.search.specs.declared.Found.the-variants.{At, None}
 use Rattle.search.specs.Search.{wanted, searchQueue, searchQueues}
@@ -40,7 +40,7 @@ abbrev μ-search : tie.MeasureT-search
 room : (c : tie.At-loop Inv-loop μ-loop Inv-search μ-search)
     → let s = c .before .before .before .before .before in
     let a = s .before .before .before .before .args in
-    (s .search .k + getD (a .c .now) (s .search .isc) 0 ≤ 256) × (length (a .o .now) ≡ 256) × (length (a .b .now) ≡ 18432)
+    (s .search .k + getD (a .c .now) (s .search .isc) 0 ≤ slotCount) × (length (a .o .now) ≡ slotCount) × (length (a .b .now) ≡ slotCount * 72)
 room c =
     let s = c .before .before .before .before .before in
     let a = s .before .before .before .before .args in

@@ -57,16 +57,16 @@ maskedAs (rules.holds x) on =
 abbrev pub underAis : Bool → Place → ℕ → Bool
 underAis ais p mask = ais && (p .suppressible && hasBit (p .isc) mask)
 
--- 01, group 10: masked or suppressed, then room, then nimm in SINGLE mode
+-- 01, group 10: masked or suppressed, then room
 unfoldable pub injectionOf : Bool → Device → Place → Bool → Injection
 injectionOf ais d p full =
-    choose (p .used)
-    (choose (p .masked || underAis ais p (d .nimm)) Dropped
-    (choose full Full
-    (Appended (record { 0 = p .isc })
-    (record {
+    choose (p .used) (choose (p .masked || underAis ais p (d .nimm)) Dropped (choose full Full (Appended (record { 0 = p .isc })))) NoAdapter
+
+-- 01, group 10: an injection that is appended sets nimm in SINGLE mode
+unfoldable pub injectedDevice : Bool → Device → Place → Device
+injectedDevice ais d p =
+    record {
       simm = d .simm;
       nimm = choose (underAis ais p (d .simm)) (withBit (p .isc) (d .nimm)) (d .nimm);
       apf = d .apf;
-    }))))
-    NoAdapter
+    }

@@ -3,7 +3,7 @@ ghost use mathlib.Core.Path.{_≡_};
 ghost use mathlib.Core.Bool.{true, false};
 ghost use Prim.Native.Nat.{_<_, _≤_};
 ghost use Rattle.rules.specs.State.{free, holds, bit, hasBit, withBit, withoutBit};
-ghost use Rattle.adapters.specs.Values.{placeOf, deviceOf, Canonical, maskedAs, modeSet, underAis, injectionOf, withMasked};
+ghost use Rattle.adapters.specs.Values.{placeOf, deviceOf, Canonical, maskedAs, modeSet, underAis, injectionOf, injectedDevice, withMasked};
 use words::Subclass;
 
 // The masks and the page-fault flag.
@@ -177,8 +177,8 @@ pub enum Injection {
     Dropped,
     // The nine queues are full.
     Full,
-    // A record of the subclass is appended, and the device record is then this.
-    Appended(Subclass, Device),
+    // A record of the subclass is appended.
+    Appended(Subclass),
 }
 
 // Whether suppression applies to the place and its subclass's bit of the mask is set.
@@ -210,16 +210,20 @@ pub fn inject(ais: bool, d: Device, p: Place, full: bool) -> Injection
     if full {
         return Injection::Full;
     }
-    let isc = Subclass(p.isc);
+    Injection::Appended(Subclass(p.isc))
+}
+
+// The device record after an injection that is appended: in SINGLE mode the subclass's bit of nimm is set.
+pub fn after_injection(ais: bool, d: Device, p: Place) -> Device
+    requires { ⌜ p .isc ≤ 7 ⌝ }
+    ensures { λ r. ⌜ r ≡ injectedDevice ais d p ⌝ }
+{
     if under_ais(ais, p, d.simm) {
-        return Injection::Appended(
-            isc,
-            Device {
-                simm: d.simm,
-                nimm: with_bit(isc, d.nimm),
-                apf: d.apf,
-            },
-        );
+        return Device {
+            simm: d.simm,
+            nimm: with_bit(Subclass(p.isc), d.nimm),
+            apf: d.apf,
+        };
     }
-    Injection::Appended(isc, d)
+    d
 }

@@ -20,7 +20,7 @@ use Rattle.adapters.specs.declared.Device.{Device}
 use Rattle.adapters.specs.declared.Place.{Place}
 use Rattle.adapters.specs.declared.Injection.{Injection}
 use Rattle.adapters.specs.declared.Injection.the-variants.{NoAdapter, Dropped, Full, Appended}
-use Rattle.adapters.specs.Values.{placeOf, deviceOf, adapterOf, underAis, Canonical}
+use Rattle.adapters.specs.Values.{placeOf, deviceOf, adapterOf, underAis, injectedDevice, Canonical}
 use Rattle.adapters.proofs.Laws.{place-used, place-free}
 use Rattle.values.specs.declared.Reply.{Reply}
 use Rattle.values.specs.States.{aboutOf, stateWith, Replies}
@@ -71,9 +71,9 @@ module _ (places room : ℕ) (ais : Bool) (device : Device) (place : Place) (id 
       ∙ (λ i. record { code = a .code; count = a .count; next = with-values s id device place p₁ e5 e6 i; buffer = b }))
 
 -- ---- the cases of an injection
-module _ (i : Subclass) (n : Device) where
+module _ (i : Subclass) where
   abbrev pub which : Bool → Bool → Bool → Injection
-  which used drop full = choose used (choose drop Dropped (choose full Full (Appended i n))) NoAdapter
+  which used drop full = choose used (choose drop Dropped (choose full Full (Appended i))) NoAdapter
 
   pub none-there : (u m f : Bool) → which u m f ≡ NoAdapter → u ≡ false
   unfolding choose
@@ -96,21 +96,12 @@ module _ (i : Subclass) (n : Device) where
   full-there true false false e = (refl, refl, (cc))
   full-there false m f e = ((cc), (cc), (cc))
 
-  pub appended-there : (u m f : Bool) (i′ : Subclass) (n′ : Device) → which u m f ≡ Appended i′ n′ → (u ≡ true) × (m ≡ false) × (f ≡ false) × (i′ ≡ i) × (n′ ≡ n)
+  pub appended-there : (u m f : Bool) (i′ : Subclass) → which u m f ≡ Appended i′ → (u ≡ true) × (m ≡ false) × (f ≡ false) × (i′ ≡ i)
   unfolding choose
-  appended-there true true f i′ n′ e = (refl, (cc), (cc), (cc), (cc))
-  appended-there true false true i′ n′ e = (refl, refl, (cc), (cc), (cc))
-  appended-there true false false i′ n′ e = (refl, refl, refl, (cc), (cc))
-  appended-there false m f i′ n′ e = ((cc), (cc), (cc), (cc), (cc))
-
--- the device record after an accepted injection
-abbrev pub nextDevice : Bool → Device → Place → Device
-nextDevice ais device place =
-    record {
-      simm = device .simm;
-      nimm = choose (underAis ais place (device .simm)) (rules.withBit (place .isc) (device .nimm)) (device .nimm);
-      apf = device .apf;
-    }
+  appended-there true true f i′ e = (refl, (cc), (cc), (cc))
+  appended-there true false true i′ e = (refl, refl, (cc), (cc))
+  appended-there true false false i′ e = (refl, refl, refl, (cc))
+  appended-there false m f i′ e = ((cc), (cc), (cc), (cc))
 
 -- what an injection by an adapter comes to, in the rules' terms and by the code's values
 module _ (L : Limits) (s : State) (ais : Bool) (device : Device) (place : Place) (id : ℕ) (b : List ℕ) where
@@ -145,8 +136,8 @@ module _ (L : Limits) (s : State) (ais : Bool) (device : Device) (place : Place)
 
       pub injected-is : (p₀ : Pending) → s .pending ≡ p₀
           → injected s (adapterOf place)
-          ≡ stateWith s id (placeOf place) (addIo (place .isc) (adapterInterrupt (place .isc)) p₀) (deviceOf (nextDevice ais device place))
-      unfolding injected
+          ≡ stateWith s id (placeOf place) (addIo (place .isc) (adapterInterrupt (place .isc)) p₀) (deviceOf (injectedDevice ais device place))
+      unfolding injected injectedDevice
       injected-is p₀ e4 =
           λ i. record {
             ais = s .ais;

@@ -7,4 +7,4 @@ abbrev pub answerFor : Injection → Answer
 answerFor NoAdapter = record { code = 22; count = 0 }
 answerFor Dropped = record { code = 0; count = 0 }
 answerFor Full = record { code = 16; count = 0 }
-answerFor (Appended isc next) = record { code = 0; count = 1 }
+answerFor (Appended isc) = record { code = 0; count = 1 }

@@ -49,12 +49,13 @@ fn inject(
     let listed: &[u8] = order;
     let counted: &[usize] = counts;
     let full = room <= queues::queued(counts);
+    let next = adapters::after_injection(ais, device, place);
     let what = adapters::inject(ais, device, place, full);
     match what {
         Injection::NoAdapter => values::with_answer(answers::refuse(22), device, place),
         Injection::Dropped => values::with_answer(answers::accept(0), device, place),
-        Injection::Full => values::with_answer(answers::refuse(16), device, place),
-        Injection::Appended(isc, next) => {
+        Injection::Full => values::with_answer(answers::refuse(16), device, place), // nimm stays
+        Injection::Appended(isc) => {
             records::append_interrupt(slots, order, counts, isc);
             values::with_answer(answers::accept(1), next, place)
         }

@@ -11,7 +11,7 @@ use lib.ListN.{length, take, drop, getD, set, replicate, length-append}
 use lib.Seq.{take-all, take-suc, take-take, drop-drop, take-set-lt, take-set-le, getD-set-same, getD-set-other, getD-take}
 use lib.Dec.{leb}
 use denote.Enum.Declared.{tagOf}
-use borrow.Author.Tests.{eq-eqb, ne-eqb, le-leb}
+use borrow.Author.Tests.{eq-eqb, ne-eqb, le-leb, lt-leb, leb-true, leb-false}
 use Rattle.rules.specs.Bytes.{choose, number, bytes, part, field}
 use Rattle.rules.specs.State as rules
 use Rattle.rules.specs.State.{Limits, State, Record, Pending, withPending, kind, subclass, addIo, addAs, add, addAll, firstOr, mergedOr, queued}
@@ -32,7 +32,7 @@ use Rattle.records.specs.declared.Checked.{Checked}
 use Rattle.records.specs.declared.Checked.the-variants.{Good, BadAt}
 use Rattle.records.proofs.Kind.{the-type}
 use Rattle.records.specs.Memory.{pendingOf}
-use Rattle.records.specs.Cases.{asCase, kindOf, checkFrom}
+use Rattle.records.specs.Cases.{asCase, kindOf, checkFrom, answerTo}
 
 -- ---- a record within bytes
 pub field-part : (at n from : ℕ) (b : List ℕ) → at + n ≤ 72 → field at n (part from 72 b) ≡ field (from + at) n b
@@ -98,6 +98,10 @@ records-next i n b h =
 pub records-all : (n : ℕ) (b : List ℕ) → recordsFrom 0 n b ≡ recordsIn n b
 records-all n b = ap (λ (k : ℕ). recordsIn k b) (omega arith)
 
+pub add-none : (b : List ℕ) (p : Pending) → addAll (recordsIn 0 b) p ≡ p
+unfolding recordsIn addAll
+add-none b p = refl
+
 pub records-none : (i n : ℕ) (b : List ℕ) → n ≤ i → recordsFrom i n b ≡ []
 unfolding recordsIn
 records-none i n b h =
@@ -134,6 +138,50 @@ check-bad [] place n j e = let z : _≡_ {A = ℕ} 0 1 = cc in absurd (omega ari
 check-bad (r ∷ rs) place n j e =
     step-bad (taken (kind r)) (allTaken rs) (checkFrom (suc place) (n + wants (kind r)) rs) place j e
     (check-bad rs (suc place) (n + wants (kind r)) j)
+
+-- what the answer to checked records tells
+module _ (rs : List Record) (n q room : ℕ) (a : Answer) where
+  pub answer-good : a ≡ answerTo (checkFrom 0 0 rs) n q room → a .code ≡ 0
+      → (a ≡ record { code = 0; count = n }) × (allTaken rs ≡ true) × (q + allWant rs ≤ room)
+  unfolding choose answerTo
+  answer-good e h = go (checkFrom 0 0 rs) refl e
+    where
+      roomy : (w : ℕ) → Good w ≡ checkFrom 0 0 rs → (t : Bool) → leb (q + w) room ≡ t
+          → a ≡ choose t (record { code = 0; count = n }) (record { code = 16; count = 0 })
+          → (a ≡ record { code = 0; count = n }) × (allTaken rs ≡ true) × (q + allWant rs ≤ room)
+      roomy w c true r e =
+          let g = check-good rs 0 0 w c in
+          (e, g .0, omega (arith, g .1, leb-true (q + w) room r))
+      roomy w c false r e = let z : ⊥ = omega (arith, h, ap (λ (x : Answer). x .code) e) in absurd z
+
+      go : (x : Checked) → x ≡ checkFrom 0 0 rs → a ≡ answerTo x n q room
+          → (a ≡ record { code = 0; count = n }) × (allTaken rs ≡ true) × (q + allWant rs ≤ room)
+      go (Good w) c e = roomy w c (leb (q + w) room) refl e
+      go (BadAt j) c e = let z : ⊥ = omega (arith, h, ap (λ (x : Answer). x .code) e) in absurd z
+
+  pub answer-bad : a ≡ answerTo (checkFrom 0 0 rs) n q room → (a .code ≡ 0 → ⊥) → (L : Limits) (s : State) → queued (s .pending) ≡ q → L .room ≡ room
+      → (a ≡ record { code = a .code; count = 0 }) × (enqueues L s rs ≡ refuse (a .code))
+  unfolding choose answerTo enqueues
+  answer-bad e h L s eq er = go (checkFrom 0 0 rs) refl e
+    where
+      with-code : (k : ℕ) → a ≡ record { code = k; count = 0 } → enqueues L s rs ≡ refuse k
+          → (a ≡ record { code = a .code; count = 0 }) × (enqueues L s rs ≡ refuse (a .code))
+      with-code k e f =
+          let c : a .code ≡ k = ap (λ (x : Answer). x .code) e in
+          (e ∙ (λ i. record { code = sym c i; count = 0 }), f ∙ ap refuse (sym c))
+
+      full : (w : ℕ) → Good w ≡ checkFrom 0 0 rs → (t : Bool) → leb (q + w) room ≡ t
+          → a ≡ choose t (record { code = 0; count = n }) (record { code = 16; count = 0 })
+          → (a ≡ record { code = a .code; count = 0 }) × (enqueues L s rs ≡ refuse (a .code))
+      full w c true r e = absurd (h (ap (λ (x : Answer). x .code) e))
+      full w c false r e =
+          let g = check-good rs 0 0 w c in
+          with-code 16 e (passes _ _ _ (g .0) ∙ fails _ _ _ (lt-leb _ (L .room) (omega (arith, eq, er, g .1, leb-false (q + w) room r))))
+
+      go : (x : Checked) → x ≡ checkFrom 0 0 rs → a ≡ answerTo x n q room
+          → (a ≡ record { code = a .code; count = 0 }) × (enqueues L s rs ≡ refuse (a .code))
+      go (Good w) c e = full w c (leb (q + w) room) refl e
+      go (BadAt j) c e = with-code 22 e (fails _ _ _ (check-bad rs 0 0 j c))
 
 -- a record wants at most one place
 wants-few : (k : rules.Kind) → wants k ≤ 1
@@ -264,18 +312,20 @@ module _ (L : Limits) (s : State) (attr : ℕ) (b : List ℕ) (h : attr ≡ 0 �
   unfolding request
   enqueuing = passes _ _ _ (rw (ne-eqb attr 0 h, le-leb attr 18576 k, eq-eqb (attr % 72) 0 e))
 
-  module _ (f : attr ≤ length b) where
-    pub enqueue-bad : (j : ℕ) → BadAt j ≡ checkFrom 0 0 (recordsIn (attr / 72) b) → request L s enqueue attr b ≡ refuse 22
-    unfolding enqueues
-    enqueue-bad j c = enqueuing ∙ passes _ _ _ (le-leb attr (length b) f) ∙ fails _ _ _ (check-bad (recordsIn (attr / 72) b) 0 0 j c)
+  -- the answer to the records of the payload, where q are queued
+  module _ (f : attr ≤ length b) (q : ℕ) (eq : queued (s .pending) ≡ q) (a : Answer)
+      (ea : a ≡ answerTo (checkFrom 0 0 (recordsIn (attr / 72) b)) (attr / 72) q (L .room)) (p : Pending) where
+    checking : request L s enqueue attr b ≡ enqueues L s (recordsIn (attr / 72) b)
+    checking = enqueuing ∙ passes _ _ _ (le-leb attr (length b) f)
 
-    module _ (w : ℕ) (c : Good w ≡ checkFrom 0 0 (recordsIn (attr / 72) b)) where
-      pub enqueue-good : request L s enqueue attr b ≡ (
-          need leb (queued (s .pending) + w) (L .room) else 16 ⨾
-          accept (attr / 72) (withPending (addAll (recordsIn (attr / 72) b) (s .pending)) s) []
-          )
-      unfolding enqueues
-      enqueue-good =
-          let g = check-good (recordsIn (attr / 72) b) 0 0 w c in
-          let z : allWant (recordsIn (attr / 72) b) ≡ w = omega arith in
-          enqueuing ∙ passes _ _ _ (le-leb attr (length b) f) ∙ passes _ _ _ (g .0) ∙ rw (z, length-records (attr / 72) b)
+    pub enqueue-good : a .code ≡ 0 → p ≡ addAll (recordsIn (attr / 72) b) (s .pending) → Answers L s b (request L s enqueue attr b) a (withPending p s) b
+    unfolding enqueues
+    enqueue-good h ep =
+        let g = answer-good (recordsIn (attr / 72) b) (attr / 72) q (L .room) a ea h in
+        accepted L s _ b _ a (attr / 72) (g .0)
+        (checking ∙ passes _ _ _ (g .1) ∙ passes _ _ _ (le-leb _ (L .room) (omega (arith, eq, g .2))) ∙ rw (length-records (attr / 72) b, ep))
+
+    pub enqueue-bad : (a .code ≡ 0 → ⊥) → p ≡ s .pending → Answers L s b (request L s enqueue attr b) a (withPending p s) b
+    enqueue-bad h ep =
+        let g = answer-bad (recordsIn (attr / 72) b) (attr / 72) q (L .room) a ea h L s eq refl in
+        refused L s b p _ a (a .code) (sym ep) (g .0) (checking ∙ g .1)

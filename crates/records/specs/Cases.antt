@@ -1,10 +1,13 @@
 -- What each case of the code's enums stands for.
 use Prim.Native.Nat.{ℕ, suc, _+_}
 use mathlib.Core.List.{List, [], _∷_}
+use lib.Dec.{leb}
 use Rattle.rules.specs.Bytes.{choose}
 use Rattle.rules.specs.State as rules
 use Rattle.rules.specs.State.{Record, kind, subclass}
+use Rattle.rules.specs.Outcome.{EINVAL, EBUSY}
 use Rattle.rules.specs.Requests.{taken, wants}
+use Rattle.answers.specs.declared.Answer.{Answer}
 use Rattle.records.specs.declared.Kind.{Kind}
 use Rattle.records.specs.declared.Kind.the-variants.{Io, Done, Service, MachineCheck, Other}
 use Rattle.records.specs.declared.Checked.{Checked}
@@ -25,3 +28,9 @@ kindOf r = asCase (kind r) (subclass r)
 unfoldable pub checkFrom : ℕ → ℕ → List Record → Checked
 checkFrom place n [] = Good n
 checkFrom place n (r ∷ rs) = choose (taken (kind r)) (checkFrom (suc place) (n + wants (kind r)) rs) (BadAt place)
+
+-- 01, group 2 and 'Codes and the order of checks': the answer to n checked records, by the types, then by the room
+unfoldable pub answerTo : Checked → (n queued room : ℕ) → Answer
+answerTo (BadAt place) n queued room = record { code = EINVAL; count = 0 }
+answerTo (Good wanted) n queued room =
+    choose (leb (queued + wanted) room) (record { code = 0; count = n }) (record { code = EBUSY; count = 0 })

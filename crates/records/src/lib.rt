@@ -10,7 +10,7 @@ ghost use Rattle.slots.specs.Slots.{slotCount};
 ghost use Rattle.queues.specs.Queues.{sum, Held};
 ghost use Rattle.answers.specs.Answers.{Answers};
 ghost use Rattle.records.specs.Memory.{pendingOf};
-ghost use Rattle.records.specs.Cases.{kindOf, checkFrom};
+ghost use Rattle.records.specs.Cases.{kindOf, checkFrom, answerTo};
 use answers::Answer;
 use words::QUEUES;
 use words::ROOM;
@@ -84,6 +84,20 @@ pub fn check(b: &[u8], n: usize) -> Checked
     Checked::Good(wanted)
 }
 
+// The answer to the first n records of b, where so many are queued.
+fn answer_to(b: &[u8], n: usize, queued: usize, room: usize) -> Answer
+    requires { ⌜ (n ≤ 258) × (n * 72 ≤ length (now b)) × (queued ≤ slotCount) ⌝ }
+    ensures { λ r. ⌜ r ≡ answerTo (checkFrom 0 0 (recordsIn n (now (b .entry)))) n queued room ⌝ }
+{
+    let Checked::Good(wanted) = check(b, n) else {
+        return answers::refuse(22);
+    };
+    if room < queued + wanted {
+        return answers::refuse(16);
+    }
+    answers::accept(n as u64)
+}
+
 // Adds the record at index at of b.
 fn add_one(
     slots: &mut [u8; SLOT_BYTES],
@@ -123,6 +137,7 @@ fn add_all(
     requires { ⌜ (n ≤ 258) × (n * 72 ≤ length (now b)) × Held (now order) (now counts) × (sum (now counts) + allWant (recordsIn n (now b)) ≤ slotCount) ⌝ }
     ensures pending { λ _. ⌜ pendingOf (now (order .exit)) (now (counts .exit)) (now (slots .exit)) (now (singles .exit)) ≡ addAll (recordsIn n (now (b .entry))) (pendingOf (now (order .entry)) (now (counts .entry)) (now (slots .entry)) (now (singles .entry))) ⌝ }
     ensures held { λ _. ⌜ Held (now (order .exit)) (now (counts .exit)) ⌝ }
+    ensures kept { λ _. ⌜ (n ≡ 0 → (now (slots .exit) ≡ now (slots .entry)) × (now (order .exit) ≡ now (order .entry)) × (now (counts .exit) ≡ now (counts .entry)) × (now (singles .exit) ≡ now (singles .entry))) ⌝ }
 {
     let mut i = 0;
     while i < n {
@@ -131,7 +146,7 @@ fn add_all(
     }
 }
 
-// Group 2: all records are added, or none.
+// Group 2: all records are added where the answer is 0, and none otherwise.
 pub fn enqueue_irqs(
     slots: &mut [u8; SLOT_BYTES],
     order: &mut [u8; ROOM],
@@ -160,17 +175,13 @@ pub fn enqueue_irqs(
         return answers::refuse(14);
     }
     let n = bytes / 72;
-    let Checked::Good(wanted) = check(payload, n) else {
-        return answers::refuse(22);
-    };
     // slices' lengths are known to the proof
     let listed: &[u8] = order;
     let counted: &[usize] = counts;
-    if room < queues::queued(counts) + wanted {
-        return answers::refuse(16);
-    }
-    add_all(slots, order, counts, singles, payload, n);
-    answers::accept(n as u64)
+    let answer = answer_to(payload, n, queues::queued(counts), room);
+    let added = if answer.code == 0 { n } else { 0 };
+    add_all(slots, order, counts, singles, payload, added);
+    answer
 }
 
 // The record of an adapter interrupt.

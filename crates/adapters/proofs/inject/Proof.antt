@@ -37,23 +37,11 @@ returns-4 c =
     let p = passed (c .before) in
     rw (p .0, p .1, p .2, c .if4 .taken)
 
-under-ais-requires-2 : tie.Need-under-ais-requires-2
-under-ais-requires-2 c κs = search needs
-
-with-bit-requires : tie.Need-with-bit-requires
-with-bit-requires c κs = search needs
-
 returns-5 : tie.Need-returns-5
 unfolding injectionOf choose
 returns-5 c =
-    let p = passed (c .before .before .before .before) in
-    rw (p .0, p .1, p .2, c .before .before .before .if4 .left, sym (c .before .before .under-ais2 .ensures) ∙ c .before .if5 .taken, c .with-bit .ensures)
-
-returns-6 : tie.Need-returns-6
-unfolding injectionOf choose
-returns-6 c =
-    let p = passed (c .before .before .before) in
-    rw (p .0, p .1, p .2, c .before .before .if4 .left, sym (c .before .under-ais2 .ensures) ∙ c .if5 .left)
+    let p = passed (c .before) in
+    rw (p .0, p .1, p .2, c .if4 .left)
 
 pub inject-spec : {M : Type 1} → statement M
-inject-spec = tie.close (tie.spec returns returns-2 under-ais-requires returns-3 returns-4 under-ais-requires-2 with-bit-requires returns-5 returns-6)
+inject-spec = tie.close (tie.spec returns returns-2 under-ais-requires returns-3 returns-4 returns-5)

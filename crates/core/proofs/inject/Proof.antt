@@ -1,13 +1,16 @@
 -- `core::inject` meets its contract. Assumes nothing.
-use Prim.Native.Nat.{ℕ}
-use mathlib.Core.Path.{refl, ap, sym, _∙_}
+use Prim.Native.Nat.{ℕ, _<_}
+use mathlib.Core.Path.{_≡_, refl, ap, sym, _∙_}
+use mathlib.Core.List.{List}
 use native.Mathlib.Omega.{arith}
 use lib.Dec.{leb}
 use borrow.Author.Tests.{leb-true, leb-false}
 use Rattle.rules.specs.Requests.{adapterInterrupt}
 use Rattle.rules.specs.State.{queued, addIo}
+use Rattle.queues.specs.Queues.{sum}
 use Rattle.records.specs.Memory.{pendingOf}
 use Rattle.records.proofs.Laws.{queued-sum}
+use Rattle.adapters.specs.declared.Injection.{Injection}
 use Rattle.adapters.specs.Values.{injectionOf, placeOf, deviceOf}
 use Rattle.words.specs.declared.Subclass.{Subclass}
 use Rattle.answers.specs.declared.Answer.{Answer}
@@ -27,19 +30,26 @@ with-answer-requires c κs = search needs
 
 returns : tie.Need-returns
 unfolding injectionOf
-returns c = (
-  λ g b. replies _ _ _ _ _ _ _ _ _ _ (c .with-answer .ensures) (λ L s e1 e2 e3 e4 e5 e6. told-refuse L s _ 22 (out-of-range L s (c .before .before .before .before .args .ais) (c .before .before .before .before .args .device) (c .before .before .before .before .args .place) (c .before .before .before .before .args .id .0) b (omega (arith, e1, c .before .before .if1 .taken))) (c .before .refuse .ensures) (as-it-was s _ _ _ _ e4 e5 e6)),
-  (
-    (c .before .before .before .before .pre .1, place-of (c .with-answer .ensures) (c .before .before .before .before .pre .2)),
-    (
-      λ n. (ap (λ (x : Reply). x .device) (c .with-answer .ensures), ap (λ (x : Reply). x .place) (c .with-answer .ensures), refl, refl, refl),
-      λ h. let z : ⊥ = omega (arith, h, c .before .before .if1 .taken) in absurd z,
-    ),
-  ),
-)
+returns c =
+    let f = c .before .before .before .before in
+    let a = f .args in (
+      λ g b. replies _ _ _ _ _ _ _ _ _ _ (c .with-answer .ensures) (λ L s e1 e2 e3 e4 e5 e6.
+          told-refuse L s _ 22 (out-of-range L s (a .ais) (a .device) (a .place) (a .id .0) b (omega (arith, e1, c .before .before .if1 .taken)))
+          (c .before .refuse .ensures) (as-it-was s _ _ _ _ e4 e5 e6)),
+      (
+        (f .pre .1, place-of (c .with-answer .ensures) (f .pre .2)),
+        (
+          λ n. (ap (λ (x : Reply). x .device) (c .with-answer .ensures), ap (λ (x : Reply). x .place) (c .with-answer .ensures), refl, refl, refl),
+          λ h. let z : ⊥ = omega (arith, h, c .before .before .if1 .taken) in absurd z,
+        ),
+      ),
+    )
 
 queued-requires : tie.Need-queued-requires
 queued-requires c κs = search needs
+
+after-injection-requires : tie.Need-after-injection-requires
+after-injection-requires c κs = search needs
 
 inject-requires : tie.Need-inject-requires
 inject-requires c κs = search needs
@@ -74,13 +84,37 @@ with-answer-requires-4 c κs = search needs
 enum-known-what : tie.Need-enum-known-what
 enum-known-what c = search needs
 
+-- what is known once `adapters::inject` was called
+abbrev start : tie.After-inject → tie.Start
+start j = j .before .before .before .before .before .before .before .before .before .before
+
+in-range : (j : tie.After-inject) → start j .args .id .0 < start j .args .places
+in-range j = omega (arith, j .before .before .before .before .before .before .before .before .if1 .left)
+
+all-counted : (j : tie.After-inject) (g : List ℕ)
+    → queued (pendingOf (start j .args .order .now) (start j .args .counts .now) (start j .args .slots .now) g) ≡ j .before .before .queued .result
+all-counted j g =
+    let a = start j .args in
+    queued-sum (a .order .now) (a .counts .now) (a .slots .now) g
+    (omega (arith, start j .pre .1 .few, j .before .before .before .before .before .before .listed2 .given .0)) (j .before .before .before .before .counted2 .given .0)
+    ∙ sym (j .before .before .queued .ensures)
+
+case-told : (j : tie.After-inject) {x : Injection} → j .inject .result ≡ x
+    → answerFor x ≡ answerFor (injectionOf (start j .args .ais) (start j .args .device) (start j .args .place) (leb (start j .args .room) (sum (start j .args .counts .now))))
+case-told j e =
+    let a = start j .args in
+    ap answerFor (sym e ∙ j .inject .ensures ∙ ap (λ (n : ℕ). injectionOf (a .ais) (a .device) (a .place) (leb (a .room) n)) (j .before .before .queued .ensures))
+
 append-interrupt-requires : tie.Need-append-interrupt-requires
 unfolding injectionOf
-append-interrupt-requires c κs = let d = appended-there _ _ _ _ _ _ _ (sym (c .before .before .before .before .before .before .inject .ensures) ∙ c .before .before .before .before .what .given .1) in (
-  omega (arith, ap (λ (x : Subclass). x .0) (d .3), c .before .before .before .before .before .before .before .before .before .before .before .before .before .before .before .pre .2 .iscSmall),
-  omega (arith, leb-false (c .before .before .before .before .before .before .before .before .before .before .before .before .before .before .before .args .room) (c .before .before .before .before .before .before .before .queued .result) (d .2), c .before .before .before .before .before .before .before .queued .ensures, c .before .before .before .before .before .before .before .before .before .before .before .before .before .before .before .pre .0),
-  c .before .before .before .before .before .before .before .before .before .before .before .before .before .before .before .pre .1,
-)
+append-interrupt-requires c κs =
+    let j = c .before .before .before .before .before .before in
+    let f = start j in
+    let d = appended-there _ _ _ _ _ (sym (j .inject .ensures) ∙ c .before .before .before .before .what .given .1) in (
+      omega (arith, ap (λ (x : Subclass). x .0) (d .3), f .pre .2 .iscSmall),
+      omega (arith, leb-false (f .args .room) (j .before .before .queued .result) (d .2), j .before .before .queued .ensures, f .pre .0),
+      f .pre .1,
+    )
 
 accept-requires-2 : tie.Need-accept-requires-2
 accept-requires-2 c κs = search needs
@@ -90,57 +124,87 @@ with-answer-requires-5 c κs = search needs
 
 returns-2 : tie.Need-returns-2
 unfolding injectionOf
-returns-2 c = (
-  λ g b. replies _ _ _ _ _ _ _ _ _ _ (c .with-answer2 .ensures) (λ L s e1 e2 e3 e4 e5 e6. told-refuse L s _ 22 (nobody-there L s (c .before .before .before .before .before .before .before .before .before .before .before .before .before .args .ais) (c .before .before .before .before .before .before .before .before .before .before .before .before .before .args .device) (c .before .before .before .before .before .before .before .before .before .before .before .before .before .args .place) (c .before .before .before .before .before .before .before .before .before .before .before .before .before .args .id .0) b (omega (arith, e1, c .before .before .before .before .before .before .before .before .before .before .before .if1 .left)) e6 (none-there _ _ _ _ _ (sym (c .before .before .before .before .inject .ensures) ∙ c .before .before .enum-told .given .1))) (c .before .refuse2 .ensures) (as-it-was s _ _ _ _ e4 e5 e6)),
-  (
-    (c .before .before .before .before .before .before .before .before .before .before .before .before .before .pre .1, place-of (c .with-answer2 .ensures) (c .before .before .before .before .before .before .before .before .before .before .before .before .before .pre .2)),
-    (
-      λ n. (ap (λ (x : Reply). x .device) (c .with-answer2 .ensures), ap (λ (x : Reply). x .place) (c .with-answer2 .ensures), refl, refl, refl),
-      λ h. ap (λ (x : Reply). x .answer) (c .with-answer2 .ensures) ∙ c .before .refuse2 .ensures ∙ ap answerFor (sym (c .before .before .enum-told .given .1) ∙ c .before .before .before .before .inject .ensures ∙ ap (λ (n : ℕ). injectionOf (c .before .before .before .before .before .before .before .before .before .before .before .before .before .args .ais) (c .before .before .before .before .before .before .before .before .before .before .before .before .before .args .device) (c .before .before .before .before .before .before .before .before .before .before .before .before .before .args .place) (leb (c .before .before .before .before .before .before .before .before .before .before .before .before .before .args .room) n)) (c .before .before .before .before .before .queued .ensures)),
-    ),
-  ),
-)
+returns-2 c =
+    let j = c .before .before .before .before in
+    let f = start j in
+    let a = f .args in (
+      λ g b. replies _ _ _ _ _ _ _ _ _ _ (c .with-answer2 .ensures) (λ L s e1 e2 e3 e4 e5 e6.
+          told-refuse L s _ 22 (nobody-there L s (a .ais) (a .device) (a .place) (a .id .0) b (omega (arith, e1, in-range j)) e6
+          (none-there _ _ _ _ (sym (j .inject .ensures) ∙ c .before .before .enum-told .given .1)))
+          (c .before .refuse2 .ensures) (as-it-was s _ _ _ _ e4 e5 e6)),
+      (
+        (f .pre .1, place-of (c .with-answer2 .ensures) (f .pre .2)),
+        (
+          λ n. (ap (λ (x : Reply). x .device) (c .with-answer2 .ensures), ap (λ (x : Reply). x .place) (c .with-answer2 .ensures), refl, refl, refl),
+          λ h. ap (λ (x : Reply). x .answer) (c .with-answer2 .ensures) ∙ c .before .refuse2 .ensures ∙ case-told j (c .before .before .enum-told .given .1),
+        ),
+      ),
+    )
 
 returns-3 : tie.Need-returns-3
 unfolding injectionOf
-returns-3 c = (
-  λ g b. replies _ _ _ _ _ _ _ _ _ _ (c .with-answer3 .ensures) (λ L s e1 e2 e3 e4 e5 e6. let d = dropped-there _ _ _ _ _ (sym (c .before .before .before .before .inject .ensures) ∙ c .before .before .enum-told2 .given .1) in told-accept L s _ 0 s (is-dropped L s (c .before .before .before .before .before .before .before .before .before .before .before .before .before .args .ais) (c .before .before .before .before .before .before .before .before .before .before .before .before .before .args .device) (c .before .before .before .before .before .before .before .before .before .before .before .before .before .args .place) (c .before .before .before .before .before .before .before .before .before .before .before .before .before .args .id .0) b (omega (arith, e1, c .before .before .before .before .before .before .before .before .before .before .before .if1 .left)) e6 (d .0) e3 e5 (d .1)) (c .before .accept .ensures) (as-it-was s _ _ _ _ e4 e5 e6)),
-  (
-    (c .before .before .before .before .before .before .before .before .before .before .before .before .before .pre .1, place-of (c .with-answer3 .ensures) (c .before .before .before .before .before .before .before .before .before .before .before .before .before .pre .2)),
-    (
-      λ n. (ap (λ (x : Reply). x .device) (c .with-answer3 .ensures), ap (λ (x : Reply). x .place) (c .with-answer3 .ensures), refl, refl, refl),
-      λ h. ap (λ (x : Reply). x .answer) (c .with-answer3 .ensures) ∙ c .before .accept .ensures ∙ ap answerFor (sym (c .before .before .enum-told2 .given .1) ∙ c .before .before .before .before .inject .ensures ∙ ap (λ (n : ℕ). injectionOf (c .before .before .before .before .before .before .before .before .before .before .before .before .before .args .ais) (c .before .before .before .before .before .before .before .before .before .before .before .before .before .args .device) (c .before .before .before .before .before .before .before .before .before .before .before .before .before .args .place) (leb (c .before .before .before .before .before .before .before .before .before .before .before .before .before .args .room) n)) (c .before .before .before .before .before .queued .ensures)),
-    ),
-  ),
-)
+returns-3 c =
+    let j = c .before .before .before .before in
+    let f = start j in
+    let a = f .args in (
+      λ g b. replies _ _ _ _ _ _ _ _ _ _ (c .with-answer3 .ensures) (λ L s e1 e2 e3 e4 e5 e6.
+          let d = dropped-there _ _ _ _ (sym (j .inject .ensures) ∙ c .before .before .enum-told2 .given .1) in
+          told-accept L s _ 0 s (is-dropped L s (a .ais) (a .device) (a .place) (a .id .0) b (omega (arith, e1, in-range j)) e6 (d .0) e3 e5 (d .1))
+          (c .before .accept .ensures) (as-it-was s _ _ _ _ e4 e5 e6)),
+      (
+        (f .pre .1, place-of (c .with-answer3 .ensures) (f .pre .2)),
+        (
+          λ n. (ap (λ (x : Reply). x .device) (c .with-answer3 .ensures), ap (λ (x : Reply). x .place) (c .with-answer3 .ensures), refl, refl, refl),
+          λ h. ap (λ (x : Reply). x .answer) (c .with-answer3 .ensures) ∙ c .before .accept .ensures ∙ case-told j (c .before .before .enum-told2 .given .1),
+        ),
+      ),
+    )
 
 returns-4 : tie.Need-returns-4
 unfolding injectionOf
-returns-4 c = (
-  λ g b. replies _ _ _ _ _ _ _ _ _ _ (c .with-answer4 .ensures) (λ L s e1 e2 e3 e4 e5 e6. let d = full-there _ _ _ _ _ (sym (c .before .before .before .before .inject .ensures) ∙ c .before .before .enum-told3 .given .1) in told-refuse L s _ 16 (is-full L s (c .before .before .before .before .before .before .before .before .before .before .before .before .before .args .ais) (c .before .before .before .before .before .before .before .before .before .before .before .before .before .args .device) (c .before .before .before .before .before .before .before .before .before .before .before .before .before .args .place) (c .before .before .before .before .before .before .before .before .before .before .before .before .before .args .id .0) b (omega (arith, e1, c .before .before .before .before .before .before .before .before .before .before .before .if1 .left)) e6 (d .0) e3 e5 (d .1) (omega (arith, e2, leb-true (c .before .before .before .before .before .before .before .before .before .before .before .before .before .args .room) (c .before .before .before .before .before .queued .result) (d .2), c .before .before .before .before .before .queued .ensures, (ap queued e4 ∙ queued-sum (c .before .before .before .before .before .before .before .before .before .before .before .before .before .args .order .now) (c .before .before .before .before .before .before .before .before .before .before .before .before .before .args .counts .now) (c .before .before .before .before .before .before .before .before .before .before .before .before .before .args .slots .now) g (omega (arith, c .before .before .before .before .before .before .before .before .before .before .before .before .before .pre .1 .few, c .before .before .before .before .before .before .before .before .before .listed2 .given .0)) (c .before .before .before .before .before .before .before .counted2 .given .0))))) (c .before .refuse3 .ensures) (as-it-was s _ _ _ _ e4 e5 e6)),
-  (
-    (c .before .before .before .before .before .before .before .before .before .before .before .before .before .pre .1, place-of (c .with-answer4 .ensures) (c .before .before .before .before .before .before .before .before .before .before .before .before .before .pre .2)),
-    (
-      λ n. (ap (λ (x : Reply). x .device) (c .with-answer4 .ensures), ap (λ (x : Reply). x .place) (c .with-answer4 .ensures), refl, refl, refl),
-      λ h. ap (λ (x : Reply). x .answer) (c .with-answer4 .ensures) ∙ c .before .refuse3 .ensures ∙ ap answerFor (sym (c .before .before .enum-told3 .given .1) ∙ c .before .before .before .before .inject .ensures ∙ ap (λ (n : ℕ). injectionOf (c .before .before .before .before .before .before .before .before .before .before .before .before .before .args .ais) (c .before .before .before .before .before .before .before .before .before .before .before .before .before .args .device) (c .before .before .before .before .before .before .before .before .before .before .before .before .before .args .place) (leb (c .before .before .before .before .before .before .before .before .before .before .before .before .before .args .room) n)) (c .before .before .before .before .before .queued .ensures)),
-    ),
-  ),
-)
+returns-4 c =
+    let j = c .before .before .before .before in
+    let f = start j in
+    let a = f .args in (
+      λ g b. replies _ _ _ _ _ _ _ _ _ _ (c .with-answer4 .ensures) (λ L s e1 e2 e3 e4 e5 e6.
+          let d = full-there _ _ _ _ (sym (j .inject .ensures) ∙ c .before .before .enum-told3 .given .1) in
+          told-refuse L s _ 16 (is-full L s (a .ais) (a .device) (a .place) (a .id .0) b (omega (arith, e1, in-range j)) e6 (d .0) e3 e5 (d .1)
+          (omega (arith, e2, leb-true (a .room) (j .before .before .queued .result) (d .2), ap queued e4, all-counted j g)))
+          (c .before .refuse3 .ensures) (as-it-was s _ _ _ _ e4 e5 e6)),
+      (
+        (f .pre .1, place-of (c .with-answer4 .ensures) (f .pre .2)),
+        (
+          λ n. (ap (λ (x : Reply). x .device) (c .with-answer4 .ensures), ap (λ (x : Reply). x .place) (c .with-answer4 .ensures), refl, refl, refl),
+          λ h. ap (λ (x : Reply). x .answer) (c .with-answer4 .ensures) ∙ c .before .refuse3 .ensures ∙ case-told j (c .before .before .enum-told3 .given .1),
+        ),
+      ),
+    )
 
 returns-5 : tie.Need-returns-5
 unfolding injectionOf
-returns-5 c = let d = appended-there _ _ _ _ _ _ _ (sym (c .before .before .before .before .before .before .before .before .before .inject .ensures) ∙ c .before .before .before .before .before .before .before .what .given .1) in (
-  λ g b. replies _ _ _ _ _ _ _ _ _ _ (c .with-answer5 .ensures) (λ L s e1 e2 e3 e4 e5 e6.
-      told-accept L s _ 1 _ (is-appended L s (c .before .before .before .before .before .before .before .before .before .before .before .before .before .before .before .before .before .before .args .ais) (c .before .before .before .before .before .before .before .before .before .before .before .before .before .before .before .before .before .before .args .device) (c .before .before .before .before .before .before .before .before .before .before .before .before .before .before .before .before .before .before .args .place) (c .before .before .before .before .before .before .before .before .before .before .before .before .before .before .before .before .before .before .args .id .0) b (omega (arith, e1, c .before .before .before .before .before .before .before .before .before .before .before .before .before .before .before .before .if1 .left)) e6 (d .0) e3 e5 (d .1) (omega (arith, e2, leb-false (c .before .before .before .before .before .before .before .before .before .before .before .before .before .before .before .before .before .before .args .room) (c .before .before .before .before .before .before .before .before .before .before .queued .result) (d .2), c .before .before .before .before .before .before .before .before .before .before .queued .ensures, (ap queued e4 ∙ queued-sum (c .before .before .before .before .before .before .before .before .before .before .before .before .before .before .before .before .before .before .args .order .now) (c .before .before .before .before .before .before .before .before .before .before .before .before .before .before .before .before .before .before .args .counts .now) (c .before .before .before .before .before .before .before .before .before .before .before .before .before .before .before .before .before .before .args .slots .now) g (omega (arith, c .before .before .before .before .before .before .before .before .before .before .before .before .before .before .before .before .before .before .pre .1 .few, c .before .before .before .before .before .before .before .before .before .before .before .before .before .before .listed2 .given .0)) (c .before .before .before .before .before .before .before .before .before .before .before .before .counted2 .given .0))))) (c .before .accept2 .ensures)
-      (injected-is L s (c .before .before .before .before .before .before .before .before .before .before .before .before .before .before .before .before .before .before .args .ais) (c .before .before .before .before .before .before .before .before .before .before .before .before .before .before .before .before .before .before .args .device) (c .before .before .before .before .before .before .before .before .before .before .before .before .before .before .before .before .before .before .args .place) (c .before .before .before .before .before .before .before .before .before .before .before .before .before .before .before .before .before .before .args .id .0) b (omega (arith, e1, c .before .before .before .before .before .before .before .before .before .before .before .before .before .before .before .before .if1 .left)) e6 (d .0) e3 e5 _ e4 ∙ (λ i. stateWith s (c .before .before .before .before .before .before .before .before .before .before .before .before .before .before .before .before .before .before .args .id .0) (placeOf (c .before .before .before .before .before .before .before .before .before .before .before .before .before .before .before .before .before .before .args .place)) (sym (c .before .before .append-interrupt .ensures .0 g ∙ ap (λ (x : Subclass). addIo (x .0) (adapterInterrupt (x .0)) (pendingOf (c .before .before .before .before .before .before .before .before .before .before .before .before .before .before .before .before .before .before .args .order .now) (c .before .before .before .before .before .before .before .before .before .before .before .before .before .before .before .before .before .before .args .counts .now) (c .before .before .before .before .before .before .before .before .before .before .before .before .before .before .before .before .before .before .args .slots .now) g)) (d .3)) i) (deviceOf (sym (d .4) i))))),
-  (
-    (c .before .before .append-interrupt .ensures .1, place-of (c .with-answer5 .ensures) (c .before .before .before .before .before .before .before .before .before .before .before .before .before .before .before .before .before .before .pre .2)),
-    (
-      λ n. absurd (code-of (c .with-answer5 .ensures) n (ap (λ (x : Answer). x .code) (c .before .accept2 .ensures))),
-      λ h. ap (λ (x : Reply). x .answer) (c .with-answer5 .ensures) ∙ c .before .accept2 .ensures ∙ ap answerFor (sym (c .before .before .before .before .before .before .before .what .given .1) ∙ c .before .before .before .before .before .before .before .before .before .inject .ensures ∙ ap (λ (n : ℕ). injectionOf (c .before .before .before .before .before .before .before .before .before .before .before .before .before .before .before .before .before .before .args .ais) (c .before .before .before .before .before .before .before .before .before .before .before .before .before .before .before .before .before .before .args .device) (c .before .before .before .before .before .before .before .before .before .before .before .before .before .before .before .before .before .before .args .place) (leb (c .before .before .before .before .before .before .before .before .before .before .before .before .before .before .before .before .before .before .args .room) n)) (c .before .before .before .before .before .before .before .before .before .before .queued .ensures)),
-    ),
-  ),
-)
+returns-5 c =
+    let k = c .before .before .before .before .before .before .before in
+    let j = k .before .before in
+    let f = start j in
+    let a = f .args in
+    let d = appended-there _ _ _ _ _ (sym (j .inject .ensures) ∙ k .what .given .1) in (
+      λ g b. replies _ _ _ _ _ _ _ _ _ _ (c .with-answer5 .ensures) (λ L s e1 e2 e3 e4 e5 e6.
+          let h : a .id .0 < L .places = omega (arith, e1, in-range j) in
+          told-accept L s _ 1 _ (is-appended L s (a .ais) (a .device) (a .place) (a .id .0) b h e6 (d .0) e3 e5 (d .1)
+          (omega (arith, e2, leb-false (a .room) (j .before .before .queued .result) (d .2), ap queued e4, all-counted j g))) (c .before .accept2 .ensures)
+          (injected-is L s (a .ais) (a .device) (a .place) (a .id .0) b h e6 (d .0) e3 e5 _ e4
+          ∙ (λ i. stateWith s (a .id .0) (placeOf (a .place))
+          (sym (c .before .before .append-interrupt .ensures .0 g
+          ∙ ap (λ (x : Subclass). addIo (x .0) (adapterInterrupt (x .0)) (pendingOf (a .order .now) (a .counts .now) (a .slots .now) g)) (d .3)) i)
+          (deviceOf (sym (j .before .after-injection .ensures) i))))),
+      (
+        (c .before .before .append-interrupt .ensures .1, place-of (c .with-answer5 .ensures) (f .pre .2)),
+        (
+          λ n. absurd (code-of (c .with-answer5 .ensures) n (ap (λ (x : Answer). x .code) (c .before .accept2 .ensures))),
+          λ h. ap (λ (x : Reply). x .answer) (c .with-answer5 .ensures) ∙ c .before .accept2 .ensures ∙ case-told j (k .what .given .1),
+        ),
+      ),
+    )
 
 pub inject-spec : {M : Type 1} → statement M
 inject-spec =
@@ -150,6 +214,7 @@ inject-spec =
     with-answer-requires
     returns
     queued-requires
+    after-injection-requires
     inject-requires
     enum-told
     refuse-requires-2

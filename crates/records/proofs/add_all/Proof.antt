@@ -1,7 +1,7 @@
 -- The invariant: what is left to add, to what is held now, comes to what all come to; and there is room for it.
 use native.Mathlib.Omega.{arith}
 use Prim.Native.Nat.{_+_, _-_, _≤_}
-use mathlib.Core.Path.{_≡_, sym, _∙_}
+use mathlib.Core.Path.{_≡_, refl, sym, _∙_}
 use borrow.Author.Needs.{needs}
 use Rattle.records.proofs.Laws.{add-next, add-ends, want-next, recordsFrom, records-all}
 use Rattle.rules.specs.State.{addAll}
@@ -16,12 +16,13 @@ abbrev Inv-loop : tie.InvT-loop
 Inv-loop slots₀ order₀ counts₀ singles₀ b n i₀ slots order counts singles i =
     (i ≤ n) × Held order counts × (sum counts + allWant (recordsFrom i n b) ≤ slotCount)
     × (addAll (recordsIn n b) (pendingOf order₀ counts₀ slots₀ singles₀) ≡ addAll (recordsFrom i n b) (pendingOf order counts slots singles))
+    × (n ≡ 0 → (slots ≡ slots₀) × (order ≡ order₀) × (counts ≡ counts₀) × (singles ≡ singles₀))
 
 abbrev μ-loop : tie.MeasureT-loop
 μ-loop slots₀ order₀ counts₀ singles₀ b n i₀ slots order counts singles i = n - i
 
 loop-holds : tie.Need-loop-holds Inv-loop μ-loop
-loop-holds c = (omega arith, c .before .pre .2, rw records-all (c .before .pre .3), rw records-all)
+loop-holds c = (omega arith, c .before .pre .2, rw records-all (c .before .pre .3), rw records-all, λ z. (refl, refl, refl, refl))
 
 mul-add-one : tie.Need-mul-add-one Inv-loop μ-loop
 mul-add-one c = search needs
@@ -50,12 +51,14 @@ loop-again c =
       c .add-one .ensures .1 .0,
       omega (arith, v .2, c .add-one .ensures .1 .1, want-next (m .loop .i) (a .n) (a .b .now) (j .loop-test .taken)),
       v .3 ∙ add-next (m .loop .i) (a .n) (a .b .now) _ _ (j .loop-test .taken) (c .add-one .ensures .0),
+      λ z. let u : ⊥ = omega (arith, z, j .loop-test .taken) in absurd u,
     )
 
 returns : tie.Need-returns Inv-loop μ-loop
 returns c =
     let f = c .before .before .before in
-    (sym (c .before .loop .inv .3 ∙ add-ends (c .before .loop .i) (f .args .n) (f .args .b .now) _ (c .loop-test .left)), c .before .loop .inv .1)
+    let v = c .before .loop .inv in
+    (sym (v .3 ∙ add-ends (c .before .loop .i) (f .args .n) (f .args .b .now) _ (c .loop-test .left)), (v .1, v .4))
 
 pub add-all-spec : {M : Type 1} → statement M
 add-all-spec =

@@ -1,17 +1,19 @@
 -- The checks of the rules, in their order; a refusal comes before anything is added.
-use Prim.Native.Nat.{_+_, _/_, _%_}
-use mathlib.Core.Path.{refl, sym, ap, _∙_}
-use mathlib.Core.List.{[]}
+use Prim.Native.Nat.{ℕ, _+_, _*_, _/_, _%_, _≤_}
+use mathlib.Core.Path.{_≡_, refl, sym, ap, _∙_}
+use mathlib.Core.Logic.{⊎-elim}
 use native.Mathlib.Omega.{arith}
 use lib.ListN.{length}
 use borrow.Author.Tests.{eq-eqb, ne-eqb, le-leb, lt-leb}
 use borrow.Author.Needs.{needs}
-use Rattle.rules.specs.State.{Pending, withPending, addAll, queued}
-use Rattle.rules.specs.Outcome.{accept}
-use Rattle.rules.specs.Requests.{recordsIn, request}
-use Rattle.rules.proofs.Checks.{passes, fails}
-use Rattle.answers.specs.declared.Answer.{Answer}
-use Rattle.records.proofs.Laws.{check-good, good-few, queued-sum, refused, accepted, enqueuing, enqueue-bad, enqueue-good}
+use Rattle.rules.specs.State.{Pending, addAll, queued}
+use Rattle.rules.specs.Requests.{recordsIn, allWant, request}
+use Rattle.rules.proofs.Checks.{fails}
+use Rattle.slots.specs.Slots.{slotCount}
+use Rattle.queues.specs.Queues.{sum}
+use Rattle.records.specs.Memory.{pendingOf}
+use Rattle.records.specs.Cases.{checkFrom, answerTo}
+use Rattle.records.proofs.Laws.{queued-sum, add-none, answer-good, refused, enqueuing, enqueue-bad, enqueue-good}
 use Rattle.records.proofs.enqueue_irqs.Statement.{statement}
 use Rattle.records.proofs.enqueue_irqs.Tie as tie
 
@@ -69,100 +71,67 @@ returns-4 c =
       (f .pre .1, λ k. (refl, refl, refl, refl)),
     )
 
-check-requires : tie.Need-check-requires
-check-requires c κs = search needs
+queued-requires : tie.Need-queued-requires
+queued-requires c κs = search needs
 
-enum-known-wanted : tie.Need-enum-known-wanted
-enum-known-wanted c = search needs
+answer-to-requires : tie.Need-answer-to-requires
+answer-to-requires c κs =
+    let f = c .before .before .before .before .before .before .before .before .before .before .before in
+    (omega arith, omega arith, omega (arith, c .queued .ensures, f .pre .1 .few))
 
-enum-told : tie.Need-enum-told
-enum-told c = search needs
+-- what is known once it is decided how many records are added
+abbrev start : tie.Joined5 → tie.Start
+start j = j .before .before .before .before .before .before .before .before .before .before .before .before .before .before
 
-refuse-requires-5 : tie.Need-refuse-requires-5
-refuse-requires-5 c κs = search needs
+all-counted : (j : tie.Joined5)
+    → queued (pendingOf (start j .args .order .now) (start j .args .counts .now) (start j .args .slots .now) (start j .args .singles .now)) ≡ j .before .before .before .queued .result
+all-counted j =
+    let a = start j .args in
+    queued-sum (a .order .now) (a .counts .now) (a .slots .now) (a .singles .now)
+    (omega (arith, start j .pre .1 .few, j .before .before .before .before .before .before .before .listed2 .given .0)) (j .before .before .before .before .before .counted2 .given .0)
+    ∙ sym (j .before .before .before .queued .ensures)
+
+added-fit : (j : tie.Joined5)
+    → let b = start j .args .payload .now in
+    ((j .if5 .added ≤ 258) × (j .if5 .added * 72 ≤ length b) × (sum (start j .args .counts .now) + allWant (recordsIn (j .if5 .added) b) ≤ slotCount))
+unfolding recordsIn allWant
+added-fit j =
+    let f = start j in
+    let n = f .args .attr / 72 in
+    let b = f .args .payload .now in
+    let q = j .before .before .before .queued in
+    let l = j .before .before .before .before .before .before .before .before .before .if4 .left in
+    ⊎-elim
+    (λ t.
+    let g = answer-good (recordsIn n b) n (q .result) (f .args .room) _ (j .before .before .answer-to .ensures) (t .0 .taken) in
+    (omega arith, omega (arith, l), omega (arith, q .ensures, f .pre .0, g .2, ap (λ (n : ℕ). allWant (recordsIn n b)) (t .1))))
+    (λ t. (omega arith, omega arith, omega (arith, f .pre .1 .few, ap (λ (n : ℕ). allWant (recordsIn n b)) (t .1))))
+    (j .if5 .came)
+
+add-all-requires : tie.Need-add-all-requires
+add-all-requires c κs =
+    let j = c .before .before .before .before in
+    let e = added-fit j in
+    (e .0, e .1, start j .pre .1, e .2)
 
 returns-5 : tie.Need-returns-5
 returns-5 c =
     let j = c .before .before .before .before .before in
-    let m = j .before in
-    let n = m .before in
-    let f = n .before .before in (
-      λ L s er ep. refused L s _ _ _ _ 22 ep (c .refuse5 .ensures)
-          (enqueue-bad L s (f .args .attr) (f .args .payload .now) (n .if1 .left) (m .if2 .left) (j .if3 .left) (c .before .before .before .before .if4 .left) _
-          (sym (c .before .enum-told .given .1) ∙ c .before .before .before .check .ensures)),
-      (f .pre .1, λ k. (refl, refl, refl, refl)),
-    )
-
-queued-requires : tie.Need-queued-requires
-queued-requires c κs = search needs
-
-add-if5 : tie.Need-add-if5
-add-if5 c =
-    let j = c .before .before .before .before .before .before .before in
-    let m = j .before .before in
-    let f = m .before .before .before .before .before .before in
-    omega (arith, c .queued .ensures, f .pre .1 .few, good-few (f .args .attr / 72) _ (f .args .payload .now) (sym (j .wanted .given .1) ∙ m .check .ensures))
-
-refuse-requires-6 : tie.Need-refuse-requires-6
-refuse-requires-6 c κs = search needs
-
-returns-6 : tie.Need-returns-6
-returns-6 c =
-    let j = c .before .before .before .before .before .before in
-    let m = j .before .before .before in
-    let n = m .before .before in
-    let p = n .before in
-    let q = p .before in
-    let t = q .before in
-    let u = t .before in
-    let f = u .before .before in
-    let a = f .args in
-    let z = queued-sum (a .order .now) (a .counts .now) (a .slots .now) (a .singles .now)
-    (omega (arith, j .listed2 .given .0, f .pre .1 .few)) (c .before .before .before .before .counted2 .given .0) in (
-      λ L s er ep. refused L s _ _ _ _ 16 ep (c .refuse6 .ensures)
-          (enqueue-good L s (a .attr) (a .payload .now) (u .if1 .left) (t .if2 .left) (q .if3 .left) (p .if4 .left) (m .wanted .given .0 .0)
-          (sym (m .wanted .given .1) ∙ n .check .ensures)
-          ∙ fails _ _ _ (lt-leb (queued (s .pending) + m .wanted .given .0 .0) (L .room)
-          (omega (arith, er, ap (λ (p : Pending). queued p) ep, z, c .before .before .queued .ensures, c .before .if5 .taken)))),
-      (f .pre .1, λ k. (refl, refl, refl, refl)),
-    )
-
-add-all-requires : tie.Need-add-all-requires
-add-all-requires c κs =
-    let j = c .before .before .before .before .before in
-    let m = j .before .before .before .before .before .before .before in
-    let n = m .before .before in
-    let f = n .before .before .before .before .before .before in
-    let w = check-good (recordsIn (f .args .attr / 72) (f .args .payload .now)) 0 0 _ (sym (m .wanted .given .1) ∙ n .check .ensures) in
-    (omega arith, omega arith, f .pre .1, omega (arith, j .queued .ensures, f .pre .0, c .before .before .before .before .if5 .left))
-
-accept-requires : tie.Need-accept-requires
-accept-requires c κs = search needs
-
-returns-7 : tie.Need-returns-7
-returns-7 c =
-    let j = c .before .before .before .before .before .before in
-    let m = j .before in
-    let n = m .before .before in
-    let p = n .before .before in
-    let q = p .before .before .before in
-    let t = q .before .before in
-    let u = t .before in
-    let v = u .before in
-    let x = v .before in
-    let y = x .before in
-    let f = y .before .before in
-    let a = f .args in
-    let z = queued-sum (a .order .now) (a .counts .now) (a .slots .now) (a .singles .now)
-    (omega (arith, p .listed2 .given .0, f .pre .1 .few)) (n .counted2 .given .0) in (
-      λ L s er ep. accepted L s _ _ _ _ _ (c .accept .ensures)
-          (enqueue-good L s (a .attr) (a .payload .now) (y .if1 .left) (x .if2 .left) (v .if3 .left) (u .if4 .left) (q .wanted .given .0 .0)
-          (sym (q .wanted .given .1) ∙ t .check .ensures)
-          ∙ passes _ _ _ (le-leb (queued (s .pending) + q .wanted .given .0 .0) (L .room)
-          (omega (arith, er, ap (λ (p : Pending). queued p) ep, z, m .queued .ensures, j .if5 .left)))
-          ∙ ap (λ (p : Pending). accept (a .attr / 72) (withPending p s) [])
-          (ap (addAll (recordsIn (a .attr / 72) (a .payload .now))) ep ∙ sym (c .before .add-all .ensures .0))),
-      (c .before .add-all .ensures .1, λ k. absurd (k (ap (λ (x : Answer). x .code) (c .accept .ensures)))),
+    let a = start j .args in
+    let b = a .payload .now in
+    let u = j .before .before .before .before .before .before .before .before .before in
+    let p = c .add-all .ensures .0 in
+    let add : ℕ → Pending = λ (n : ℕ). addAll (recordsIn n b) (pendingOf (a .order .now) (a .counts .now) (a .slots .now) (a .singles .now)) in (
+      λ L s er ep.
+          let eq : queued (s .pending) ≡ j .before .before .before .queued .result = ap (λ (p : Pending). queued p) ep ∙ all-counted j in
+          let ea = j .before .before .answer-to .ensures ∙ ap (answerTo (checkFrom 0 0 (recordsIn (a .attr / 72) b)) (a .attr / 72) (j .before .before .before .queued .result)) (sym er) in
+          ⊎-elim
+          (λ t. enqueue-good L s (a .attr) b (u .before .before .before .if1 .left) (u .before .before .if2 .left) (u .before .if3 .left) (u .if4 .left) _ eq _ ea _
+          (t .0 .taken) (p ∙ ap add (t .1) ∙ ap (addAll (recordsIn (a .attr / 72) b)) (sym ep)))
+          (λ t. enqueue-bad L s (a .attr) b (u .before .before .before .if1 .left) (u .before .before .if2 .left) (u .before .if3 .left) (u .if4 .left) _ eq _ ea _
+          (t .0 .left) (p ∙ ap add (t .1) ∙ add-none b _ ∙ sym ep))
+          (j .if5 .came),
+      (c .add-all .ensures .1 .0, λ k. c .add-all .ensures .1 .1 (⊎-elim (λ t. absurd (k (t .0 .taken))) (λ t. t .1) (j .if5 .came))),
     )
 
 pub enqueue-irqs-spec : {M : Type 1} → statement M
@@ -177,15 +146,7 @@ enqueue-irqs-spec =
     returns-3
     refuse-requires-4
     returns-4
-    check-requires
-    enum-known-wanted
-    enum-told
-    refuse-requires-5
-    returns-5
     queued-requires
-    add-if5
-    refuse-requires-6
-    returns-6
+    answer-to-requires
     add-all-requires
-    accept-requires
-    returns-7)
+    returns-5)

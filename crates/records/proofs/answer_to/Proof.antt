@@ -1,0 +1,75 @@
+-- `records::answer_to` meets its contract, by the check and the room.
+use Prim.Native.Nat.{_+_}
+use mathlib.Core.Path.{sym, ap, _∙_}
+use native.Mathlib.Omega.{arith}
+use borrow.Author.Tests.{le-leb, lt-leb}
+use borrow.Author.Needs.{needs}
+use Rattle.rules.proofs.Checks.{chosen, passed}
+use Rattle.records.specs.declared.Checked.{Checked}
+use Rattle.records.specs.Cases.{answerTo}
+use Rattle.records.proofs.Laws.{good-few}
+use Rattle.records.proofs.answer_to.Statement.{statement}
+use Rattle.records.proofs.answer_to.Tie as tie
+
+check-requires : tie.Need-check-requires
+check-requires c κs = search needs
+
+enum-known-wanted : tie.Need-enum-known-wanted
+enum-known-wanted c = search needs
+
+enum-told : tie.Need-enum-told
+enum-told c = search needs
+
+refuse-requires : tie.Need-refuse-requires
+refuse-requires c κs = search needs
+
+returns : tie.Need-returns
+unfolding answerTo
+returns c =
+    let f = c .before .before .before .before .before in
+    c .refuse .ensures
+    ∙ ap (λ (x : Checked). answerTo x (f .args .n) (f .args .queued) (f .args .room)) (sym (c .before .enum-told .given .1) ∙ c .before .before .before .check .ensures)
+
+add-if1 : tie.Need-add-if1
+add-if1 c =
+    let f = c .before .before .before .before .before in
+    omega (arith, f .pre .2, good-few (f .args .n) _ (f .args .b .now) (sym (c .before .wanted .given .1) ∙ c .before .before .before .check .ensures))
+
+refuse-requires-2 : tie.Need-refuse-requires-2
+refuse-requires-2 c κs = search needs
+
+returns-2 : tie.Need-returns-2
+unfolding answerTo
+returns-2 c =
+    let k = c .before .before .before in
+    let f = k .before .before .before .before in
+    let w = k .wanted .given .0 .0 in
+    c .refuse2 .ensures ∙ sym (passed _ _ _ (lt-leb (f .args .queued + w) (f .args .room) (c .before .if1 .taken)))
+    ∙ ap (λ (x : Checked). answerTo x (f .args .n) (f .args .queued) (f .args .room)) (sym (k .wanted .given .1) ∙ k .before .before .check .ensures)
+
+accept-requires : tie.Need-accept-requires
+accept-requires c κs = search needs
+
+returns-3 : tie.Need-returns-3
+unfolding answerTo
+returns-3 c =
+    let k = c .before .before .before in
+    let f = k .before .before .before .before in
+    let w = k .wanted .given .0 .0 in
+    c .accept .ensures ∙ sym (chosen _ _ _ (le-leb (f .args .queued + w) (f .args .room) (c .before .if1 .left)))
+    ∙ ap (λ (x : Checked). answerTo x (f .args .n) (f .args .queued) (f .args .room)) (sym (k .wanted .given .1) ∙ k .before .before .check .ensures)
+
+pub answer-to-spec : {M : Type 1} → statement M
+answer-to-spec =
+    tie.close
+    (tie.spec
+    check-requires
+    enum-known-wanted
+    enum-told
+    refuse-requires
+    returns
+    add-if1
+    refuse-requires-2
+    returns-2
+    accept-requires
+    returns-3)

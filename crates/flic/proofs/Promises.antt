@@ -1,33 +1,38 @@
 -- From what the inner functions promise to what the public calls promise.
-use Prim.Native.Nat.{ℕ}
+use Prim.Native.Nat.{ℕ, zero, suc}
 use mathlib.Core.Path.{_≡_, refl, ap, sym, _∙_, subst}
 use mathlib.Core.Bool.{Bool, true, false}
-use mathlib.Core.List.{List}
+use mathlib.Core.List.{List, [], _∷_, map}
 use native.Mathlib.Omega.{arith}
-use lib.ListN.{length, getD, set}
+use lib.ListN.{length, getD, set, replicate, length-replicate}
 use lib.Seq.{set-getD}
 use lib.Dec.{eqb}
 use borrow.Author.Tests.{eq-eqb, ne-eqb, eqb-true, eqb-false}
 use Rattle.rules.specs.Bytes.{choose}
-use Rattle.rules.specs.State.{State, Pending, Place as RulesPlace, free, paperLimits}
+use Rattle.rules.specs.State.{State, Pending, Place as RulesPlace, free, fresh, paperLimits}
 use Rattle.rules.specs.Outcome.{Outcome, refuse, need_else_⨾_, result}
 use Rattle.rules.specs.Outcome.{Answer as Told}
 use Rattle.rules.specs.Requests.{setRequest, getRequest, request}
 use Rattle.rules.specs.Machine.{Ask, Call, setAttr, getAttr, outcome, step}
 use Rattle.rules.proofs.Checks.{passes, fails}
-use Rattle.rules.proofs.Lists.{All, all-set, all-get}
-use Rattle.rules.proofs.Reachable.{Sound, kept-step}
+use Rattle.rules.proofs.Lists.{All, all-set, all-get, all-replicate}
+use Rattle.rules.proofs.Reachable.{Sound, kept-step, fresh-sound}
 use Rattle.answers.specs.declared.Answer.{Answer}
 use Rattle.adapters.specs.declared.Device.{Device}
 use Rattle.adapters.specs.declared.Place.{Place}
 use Rattle.adapters.specs.Values.{placeOf, deviceOf, unused, Canonical, withMasked}
 use Rattle.queues.specs.Queues.{Held}
 use Rattle.records.specs.Memory.{pendingOf}
+use Rattle.image.specs.Image.{unpacked}
+use Rattle.image.proofs.Laws.{unpacked-zero}
+use Rattle.table.specs.Table.{restored}
+use Rattle.table.proofs.Tables.{restored-none, restored-whole}
 use Rattle.values.specs.States.{aboutOf, stateWith}
 use Rattle.flic.specs.declared.Controller.{Controller}
 use Rattle.flic.specs.declared.Decision.{Decision}
-use Rattle.flic.specs.Surface.{stateOf, Ready, Valid, Steps, Requested}
-use Rattle.flic.specs.Inner.{placeAfter, Decided, Got}
+use Rattle.flic.specs.declared.Started.{Started}
+use Rattle.flic.specs.Surface.{stateOf, Ready, Valid, Steps, Made, Requested}
+use Rattle.flic.specs.Inner.{Began, placeAfter, Decided, Got}
 use Rattle.flic.proofs.Tables.{map-set, getD-map, put-and-change}
 
 canonical-unused : Canonical unused
@@ -136,3 +141,48 @@ pub place-named : (a : Answer) (s : State) (id : ℕ) (b : List ℕ) (q : Pendin
     → x ≡ record { code = a .code; count = a .count; next = stateWith s id (placeOf p′) q (deviceOf d); buffer = b }
     → x ≡ record { code = a .code; count = a .count; next = stateWith s id (placeOf p) q (deviceOf d); buffer = b }
 place-named a s id b q d e f = f ∙ (λ i. record { code = a .code; count = a .count; next = stateWith s id (placeOf ((sym e) i)) q (deviceOf d); buffer = b })
+
+-- ---- a fresh controller
+map-replicate {ℓ} : {A B : Type ℓ} (f : A → B) (n : ℕ) (x : A) → map f (replicate n x) ≡ replicate n (f x)
+map-replicate f zero x = refl
+map-replicate f (suc n) x = ap (λ l. f x ∷ l) (map-replicate f n x)
+
+-- a table that is restored from an image of zeros
+module _ (t : List Place) (e : length t ≡ paperLimits .places) where
+  cleared : restored t (replicate (paperLimits .places) 0) (paperLimits .places) ≡ replicate (paperLimits .places) unused
+  cleared =
+      restored-whole t (replicate (paperLimits .places) 0) (paperLimits .places) e (length-replicate {A = ℕ} (paperLimits .places) 0)
+      ∙ map-replicate unpacked (paperLimits .places) 0 ∙ ap (replicate (paperLimits .places)) unpacked-zero
+
+unused-free : placeOf unused ≡ free
+unfolding placeOf choose
+unused-free = refl
+
+module _ (ais : Bool) (c c′ : Controller) (d : Device) (t : List Place) (r : Started) (a : c′ .ais ≡ r .ais) (f : Began (length t) ais c c′ d r) where
+  abbrev pub started : List Place
+  started = restored t (r .image) (r .restored)
+
+  module _ (e : length t ≡ paperLimits .places) where
+    table-cleared : started ≡ replicate (paperLimits .places) unused
+    table-cleared = (λ i. restored t (f .right e .0 i .image) (f .right e .0 i .restored)) ∙ cleared t e
+
+    started-fresh : stateOf c′ (r .device) started ≡ fresh paperLimits ais
+    unfolding stateOf fresh
+    started-fresh =
+        λ i. record {
+          ais = (a ∙ ap (λ (x : Started). x .ais) (f .right e .0)) i;
+          adapters = (ap (map placeOf) table-cleared ∙ map-replicate placeOf (paperLimits .places) unused ∙ ap (replicate (paperLimits .places)) unused-free) i;
+          pending = f .right e .1 i;
+          device = deviceOf (f .right e .0 i .device);
+        }
+
+  pub make-promises : Made ais c c′ d (r .device) t started (r .answer)
+  make-promises =
+      record {
+        right = λ e. (ap (λ (x : Started). x .answer) (f .right e .0), started-fresh e, record {
+          ready = f .right e .2;
+          places = subst (All Canonical) (sym (table-cleared e)) (all-replicate Canonical (paperLimits .places) unused canonical-unused);
+          sound = subst (Sound paperLimits) (sym (started-fresh e)) (fresh-sound paperLimits ais);
+        });
+        wrong = λ w. let g = f .wrong w in (g .0, g .3, g .1, ap (restored t (r .image)) (g .2) ∙ restored-none t (r .image));
+      }

@@ -1,9 +1,10 @@
 -- What the inner functions of the public calls promise, on the controller's arrays and with one adapter place by value.
 use Prim.Native.Nat.{ℕ}
 use mathlib.Core.Path.{_≡_}
-use mathlib.Core.Bool.{Bool}
+use mathlib.Core.Bool.{Bool, false}
 use mathlib.Core.List.{List}
-use Rattle.rules.specs.State.{State, paperLimits}
+use lib.ListN.{replicate}
+use Rattle.rules.specs.State.{State, nothing, paperLimits}
 use Rattle.rules.specs.Requests.{setRequest, getRequest, request}
 use Rattle.answers.specs.declared.Answer.{Answer}
 use Rattle.answers.specs.Answers.{Answers}
@@ -14,11 +15,26 @@ use Rattle.records.specs.Memory.{pendingOf}
 use Rattle.values.specs.States.{Replies, aboutOf}
 use Rattle.flic.specs.declared.Controller.{Controller}
 use Rattle.flic.specs.declared.Decision.{Decision}
+use Rattle.flic.specs.declared.Started.{Started}
 use Rattle.flic.specs.Surface.{Ready}
 
 -- a controller from its arrays and its capability
 abbrev pub controller : (slots order counts singles : List ℕ) → Bool → Controller
 controller slots order counts singles ais = record { slots = slots; order = order; counts = counts; singles = singles; ais = ais }
+
+-- A fresh controller's arrays, with a table of so many places.
+pub record Began (table : ℕ) (ais : Bool) (c c′ : Controller) (d : Device) (r : Started) : Type 0 where
+  pub right : table ≡ paperLimits .places
+      → (r ≡ record {
+        answer = record { code = 0; count = 0 };
+        ais = ais;
+        device = record { simm = 0; nimm = 0; apf = false };
+        restored = paperLimits .places;
+        image = replicate (paperLimits .places) 0;
+      })
+      × (pendingOf (c′ .order) (c′ .counts) (c′ .slots) (c′ .singles) ≡ nothing) × Ready c′
+  pub wrong : (table ≡ paperLimits .places → ⊥)
+      → (r .answer ≡ record { code = 14; count = 0 }) × (r .device ≡ d) × (r .restored ≡ 0) × (c′ ≡ c)
 
 -- the adapter place after a set request
 abbrev pub placeAfter : Decision → Place

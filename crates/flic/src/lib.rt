@@ -7,23 +7,24 @@ ghost use Rattle.rules.specs.Machine.{setAttr, getAttr};
 ghost use Rattle.rules.specs.Take.{takes};
 ghost use Rattle.adapters.specs.Values.{Canonical, withMasked};
 ghost use Rattle.queues.specs.Queues.{Held};
-ghost use Rattle.flic.specs.Surface.{Ready, Valid, Requested, Taken};
-ghost use Rattle.flic.specs.Inner.{controller, Decided, Got};
+ghost use Rattle.flic.specs.Surface.{Ready, Valid, Made, Requested, Taken};
+ghost use Rattle.flic.specs.Inner.{controller, Began, Decided, Got};
 use adapters::Device;
 use adapters::Place;
 use answers::Answer;
-
-// The paper's limits: adapter places, and records that the nine queues hold together.
-const PLACES: u64 = 64;
-const ROOM: usize = 256;
+use words::PLACES;
+use words::QUEUES;
+use words::ROOM;
+use words::SINGLES_BYTES;
+use words::SLOT_BYTES;
 
 // A controller: the memory of its pending records, and its AIS capability.
 #[repr(C)]
 pub struct Controller {
-    pub slots: [u8; 18432],
-    pub order: [u8; 256],
-    pub counts: [usize; 9],
-    pub singles: [u8; 146],
+    pub slots: [u8; SLOT_BYTES],
+    pub order: [u8; ROOM],
+    pub counts: [usize; QUEUES],
+    pub singles: [u8; SINGLES_BYTES],
     pub ais: bool,
 }
 
@@ -47,12 +48,54 @@ fn entered(group: u32, before: Place, after: Place) -> Place
     after
 }
 
+// What a call that makes a controller fresh comes to: the first `restored` places of its table are those of the image.
+pub struct Started {
+    pub answer: Answer,
+    pub ais: bool,
+    pub device: Device,
+    pub restored: u64,
+    pub image: [u8; PLACES],
+}
+
+// The arrays of a fresh controller, where the table is right.
+fn start(
+    slots: &mut [u8; SLOT_BYTES],
+    order: &mut [u8; ROOM],
+    counts: &mut [usize; QUEUES],
+    singles: &mut [u8; SINGLES_BYTES],
+    table: usize,
+    was: bool,
+    device: Device,
+    ais: bool,
+) -> Started
+    ensures { λ r. ⌜ Began table ais (controller (now (slots .entry)) (now (order .entry)) (now (counts .entry)) (now (singles .entry)) was) (controller (now (slots .exit)) (now (order .exit)) (now (counts .exit)) (now (singles .exit)) (r .ais)) device r ⌝ }
+{
+    let image = image::empty();
+    if table != PLACES {
+        return Started {
+            answer: answers::refuse(14),
+            ais: was,
+            device,
+            restored: 0,
+            image,
+        };
+    }
+    memory::fresh(order, counts, singles);
+    Started {
+        answer: answers::accept(0),
+        ais,
+        device: adapters::fresh_device(),
+        restored: PLACES as u64,
+        image,
+    }
+}
+
 // A set request on the controller's arrays, the device record and the adapter's place by value.
 fn decide(
-    slots: &mut [u8; 18432],
-    order: &mut [u8; 256],
-    counts: &mut [usize; 9],
-    singles: &mut [u8; 146],
+    slots: &mut [u8; SLOT_BYTES],
+    order: &mut [u8; ROOM],
+    counts: &mut [usize; QUEUES],
+    singles: &mut [u8; SINGLES_BYTES],
     table: usize,
     ais: bool,
     device: Device,
@@ -64,7 +107,7 @@ fn decide(
     requires { ⌜ (table ≡ paperLimits .places → Held (now order) (now counts) × Canonical place) ⌝ }
     ensures { λ r. ⌜ Decided table group attr (controller (now (slots .entry)) (now (order .entry)) (now (counts .entry)) (now (singles .entry)) ais) (controller (now (slots .exit)) (now (order .exit)) (now (counts .exit)) (now (singles .exit)) ais) device place (now (payload .entry)) r ⌝ }
 {
-    if table as u64 != PLACES {
+    if table != PLACES {
         return Decision {
             answer: answers::refuse(14),
             device,
@@ -73,7 +116,18 @@ fn decide(
         };
     }
     let r = core::set_request(
-        slots, order, counts, singles, PLACES, ROOM, ais, device, place, group, attr, payload,
+        slots,
+        order,
+        counts,
+        singles,
+        PLACES as u64,
+        ROOM,
+        ais,
+        device,
+        place,
+        group,
+        attr,
+        payload,
     );
     let answer = r.answer;
     let next = r.device;
@@ -88,10 +142,10 @@ fn decide(
 
 // A get request on the controller's arrays and the device record by value.
 fn answer_get(
-    slots: &[u8; 18432],
-    order: &[u8; 256],
-    counts: &[usize; 9],
-    singles: &[u8; 146],
+    slots: &[u8; SLOT_BYTES],
+    order: &[u8; ROOM],
+    counts: &[usize; QUEUES],
+    singles: &[u8; SINGLES_BYTES],
     table: usize,
     ais: bool,
     device: Device,
@@ -102,7 +156,7 @@ fn answer_get(
     requires { ⌜ (table ≡ paperLimits .places → Held (now order) (now counts)) ⌝ }
     ensures { λ r. ⌜ Got table group attr (controller (now (slots .entry)) (now (order .entry)) (now (counts .entry)) (now (singles .entry)) ais) device (now (out .entry)) (now (out .exit)) r ⌝ }
 {
-    if table as u64 != PLACES {
+    if table != PLACES {
         return answers::refuse(14);
     }
     core::get_request(slots, order, counts, singles, ais, device, group, attr, out)
@@ -110,10 +164,10 @@ fn answer_get(
 
 // A take on the controller's arrays.
 fn hand_out(
-    slots: &mut [u8; 18432],
-    order: &mut [u8; 256],
-    counts: &mut [usize; 9],
-    singles: &mut [u8; 146],
+    slots: &mut [u8; SLOT_BYTES],
+    order: &mut [u8; ROOM],
+    counts: &mut [usize; QUEUES],
+    singles: &mut [u8; SINGLES_BYTES],
     subclasses: u8,
     external: bool,
     mcheck: bool,
@@ -123,6 +177,33 @@ fn hand_out(
     ensures { λ r. ⌜ ((ais : Bool) → Taken subclasses external mcheck (controller (now (slots .entry)) (now (order .entry)) (now (counts .entry)) (now (singles .entry)) ais) (controller (now (slots .exit)) (now (order .exit)) (now (counts .exit)) (now (singles .exit)) ais) (now (out .entry)) (now (out .exit)) r) ⌝ }
 {
     outgoing::take(slots, order, counts, singles, subclasses, external, mcheck, out)
+}
+
+// A fresh controller with this capability. Its memory holds any values of its types before, for example zeros.
+#[no_mangle]
+pub extern "C" fn flic_make(
+    c: &mut Controller,
+    d: &mut Device,
+    t: &mut [Place],
+    ais: bool,
+) -> Answer
+    ensures { λ r. ⌜ Made ais (now (c .entry)) (now (c .exit)) (now (d .entry)) (now (d .exit)) (now (t .entry)) (now (t .exit)) r ⌝ }
+{
+    let device = table::read_device(d);
+    let r = start(
+        &mut c.slots,
+        &mut c.order,
+        &mut c.counts,
+        &mut c.singles,
+        t.len(),
+        c.ais,
+        device,
+        ais,
+    );
+    c.ais = r.ais;
+    table::store_device(d, r.device);
+    table::restore(t, r.restored, r.image);
+    r.answer
 }
 
 // A request that sets.

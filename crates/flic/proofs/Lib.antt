@@ -4,3 +4,4 @@ pub mod Follows
 pub mod Claim
 pub mod Represent
 pub mod Runs
+pub mod Pins

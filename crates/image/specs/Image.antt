@@ -4,8 +4,13 @@ use mathlib.Core.Bool.{true}
 use lib.Dec.{eqb, ltb}
 use Rattle.rules.specs.Bytes.{choose}
 use Rattle.rules.specs.MoveList.{flag}
+use Rattle.rules.specs.State.{paperLimits}
 use Rattle.adapters.specs.declared.Place.{Place}
 use Rattle.adapters.specs.Values.{unused}
+
+-- an image has a byte for each place
+abbrev pub imageSize : ℕ
+imageSize = paperLimits .places
 
 unfoldable pub packed : Place → ℕ
 packed p =

@@ -1,10 +1,11 @@
-// Inner crate: an adapter place as one byte, and a table of 64 places as an array of bytes.
+// Inner crate: an adapter place as one byte, and a table as an array of them.
 ghost use mathlib.Core.Path.{_≡_};
 ghost use Prim.Native.Nat.{_≤_};
 ghost use lib.ListN.{getD, set, replicate};
 ghost use Rattle.rules.specs.MoveList.{flag};
-ghost use Rattle.image.specs.Image.{packed, unpacked};
+ghost use Rattle.image.specs.Image.{imageSize, packed, unpacked};
 use adapters::Place;
+use words::PLACES;
 
 // 1 where it holds, else 0.
 fn flag(on: bool) -> u8
@@ -48,19 +49,19 @@ pub fn unpack(b: u8) -> Place
     }
 }
 
-// 64 unused places.
-pub fn empty() -> [u8; 64]
-    ensures { λ r. ⌜ r ≡ replicate 64 0 ⌝ }
+// An image of unused places.
+pub fn empty() -> [u8; PLACES]
+    ensures { λ r. ⌜ r ≡ replicate imageSize 0 ⌝ }
 {
-    [0u8; 64]
+    [0u8; PLACES]
 }
 
 // The image with this place at an index; an index past the end changes nothing.
-pub fn with_place(image: [u8; 64], i: u64, p: Place) -> [u8; 64]
+pub fn with_place(image: [u8; PLACES], i: u64, p: Place) -> [u8; PLACES]
     ensures { λ r. ⌜ r ≡ set image i (packed p) ⌝ }
 {
     let mut r = image;
-    if i < 64 {
+    if i < PLACES as u64 {
         let at = i as usize;
         r[at] = pack(p);
     }
@@ -68,10 +69,10 @@ pub fn with_place(image: [u8; 64], i: u64, p: Place) -> [u8; 64]
 }
 
 // The place at an index; past the end it is unused.
-pub fn place_at(image: [u8; 64], i: u64) -> Place
+pub fn place_at(image: [u8; PLACES], i: u64) -> Place
     ensures { λ r. ⌜ r ≡ unpacked (getD image i 0) ⌝ }
 {
-    if i < 64 {
+    if i < PLACES as u64 {
         let at = i as usize;
         return unpack(image[at]);
     }

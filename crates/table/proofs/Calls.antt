@@ -10,10 +10,10 @@ use Rattle.words.specs.declared.AdapterId.{AdapterId}
 use Rattle.words.proofs.AdapterId as I
 use Rattle.words.proofs.AdapterId.Laws as I′
 use Rattle.adapters.specs.declared.Place.{Place}
-use Rattle.adapters.specs.Values.{unused}
+use Rattle.adapters.specs.Values.{unused, withMasked}
 use Rattle.adapters.proofs.Place as T
 use Rattle.adapters.proofs.Place.Laws as T′
-use Rattle.table.specs.Table.{withMasked, snapTo, restored}
+use Rattle.table.specs.Table.{snapTo, restored}
 use Rattle.table.proofs.Places.{R, low, Fits, FitsId, makes, makes-id}
 use Rattle.table.proofs.Images.{Image, low-image, FitsImage, image-tells, image-makes}
 use Rattle.table.proofs.Gives.{at-list, Gives, Shared, Lent, gives-row, gives-shared, changes-row}
@@ -27,6 +27,7 @@ use Rattle.table.proofs.mask as mask
 use Rattle.table.proofs.mask.Symbol.{name as #mask}
 use Rattle.table.proofs.restore as restore
 use Rattle.table.proofs.restore.Symbol.{name as #restore}
+use Rattle.image.specs.Image.{imageSize}
 
 -- two parameters that a callee cannot change leave nothing
 abbrev Two : Type 0
@@ -79,7 +80,7 @@ module _ {M : Type 1} (𝓤 : URA M) (H : Heap 𝓤) (A : Atoms 𝓤) (mem′ : 
       goes-snap : ent 𝓤 (sep 𝓤 (A .lft κ q) (sem 𝓤 H A (Shared R ys b o κ γ))) (Snapshot .pre to-snap)
       goes-snap = qed W (‵ (flft κ q) ∷ ‵ (Shared R ys b o κ γ) ∷ []) ∵ nothing ! $ move ! (1 ∷ 0 ∷ []) $ join ! $ nothing ! $ move ! (2 ∷ 0 ∷ []) $ fjoin ! $ move ! (1 ∷ 0 ∷ []) $ join ! $ frame ! $ done !
 
-      snapped : Gives 𝓤 H A Snapshot to-snap (‵ (flft κ q) ⊛ ‵ ftrue) Image (λ l. low-image l ∷ []) (snapTo ys 64)
+      snapped : Gives 𝓤 H A Snapshot to-snap (‵ (flft κ q) ⊛ ‵ ftrue) Image (λ l. low-image l ∷ []) (snapTo ys imageSize)
       snapped =
           record {
             tells = image-tells;
@@ -134,19 +135,19 @@ module _ {M : Type 1} {𝓤 : URA M} {H : Heap 𝓤} {A : Atoms 𝓤} {K : Type 
   pub snapshots : K → (mem′ : Memory → SProp 𝓤) (run : Routine → Fun 𝓤) → FmC 𝓤 H (W .laws) C → Triple 𝓤 (C #snapshot) (Snapshot 𝓤 H A mem′ run)
       → (ys : List Place) (b o : ℕ) → Room R (length ys)
       → ((i j : Item 𝓤) → Opds K W (i ∷ j ∷ Γ) E xs (sliceVal (b, o) (length ys) ∷ []))
-      → (FitsImage (snapTo ys 64) → Seq K W (‵ (row R fullShare ys b o) ∷ Γ) (lands C Λ E d (low-image (snapTo ys 64)) rest p))
+      → (FitsImage (snapTo ys imageSize) → Seq K W (‵ (row R fullShare ys b o) ∷ Γ) (lands C Λ E d (low-image (snapTo ys imageSize)) rest p))
       → Seq K W (‵ (row R fullShare ys b o) ∷ Γ) (runs C Λ E (seq (call #snapshot xs d) rest) p)
   snapshots t mem′ run fm known ys b o room os k =
       gives-row R ys b o t fm (Snapshot 𝓤 H A mem′ run) known room (λ ν δ. to-snap 𝓤 H A mem′ run W b o ys (ν ∷ []) fullShare δ) (λ ν δ. goes-snap 𝓤 H A mem′ run W b o ys (ν ∷ []) fullShare δ)
-      Image (λ l. low-image l ∷ []) (snapTo ys 64) (λ ν δ. snapped 𝓤 H A mem′ run W b o ys (ν ∷ []) fullShare δ) (λ ν δ. os) k
+      Image (λ l. low-image l ∷ []) (snapTo ys imageSize) (λ ν δ. snapped 𝓤 H A mem′ run W b o ys (ν ∷ []) fullShare δ) (λ ν δ. os) k
 
   pub snapshots-shared : K → (mem′ : Memory → SProp 𝓤) (run : Routine → Fun 𝓤) → FmC 𝓤 H (W .laws) C → Triple 𝓤 (C #snapshot) (Snapshot 𝓤 H A mem′ run)
       → (ys : List Place) (b o : ℕ) (κ : Lft) (q : Share) (γ : GName)
       → ((i j : Item 𝓤) → Opds K W (i ∷ j ∷ Γ) E xs (sliceVal (b, o) (length ys) ∷ []))
-      → (FitsImage (snapTo ys 64) → Seq K W (‵ (flft κ q) ∷ ‵ (Shared R ys b o κ γ) ∷ Γ) (lands C Λ E d (low-image (snapTo ys 64)) rest p))
+      → (FitsImage (snapTo ys imageSize) → Seq K W (‵ (flft κ q) ∷ ‵ (Shared R ys b o κ γ) ∷ Γ) (lands C Λ E d (low-image (snapTo ys imageSize)) rest p))
       → Seq K W (‵ (flft κ q) ∷ ‵ (Shared R ys b o κ γ) ∷ Γ) (runs C Λ E (seq (call #snapshot xs d) rest) p)
   snapshots-shared t mem′ run fm known ys b o κ q γ os k =
-      gives-shared R ys b o t fm (Snapshot 𝓤 H A mem′ run) known κ q γ (to-snap 𝓤 H A mem′ run W b o ys κ q γ) (goes-snap 𝓤 H A mem′ run W b o ys κ q γ) Image (λ l. low-image l ∷ []) (snapTo ys 64) (snapped 𝓤 H A mem′ run W b o ys κ q γ) os k
+      gives-shared R ys b o t fm (Snapshot 𝓤 H A mem′ run) known κ q γ (to-snap 𝓤 H A mem′ run W b o ys κ q γ) (goes-snap 𝓤 H A mem′ run W b o ys κ q γ) Image (λ l. low-image l ∷ []) (snapTo ys imageSize) (snapped 𝓤 H A mem′ run W b o ys κ q γ) os k
 
   pub registers : K → (mem′ : Memory → SProp 𝓤) (run : Routine → Fun 𝓤) → FmC 𝓤 H (W .laws) C → Triple 𝓤 (C #register) (Register 𝓤 H A mem′ run)
       → (ys : List Place) (id : AdapterId) (a : Place) (b o : ℕ) → Room R (length ys) → FitsId id → Fits a

@@ -16,7 +16,7 @@ use denote.Struct.Laws as LL
 use Rattle.adapters.specs.declared.Place.{Place}
 use Rattle.adapters.proofs.Place as P
 use Rattle.adapters.proofs.Place.Laws as P′
-use Rattle.image.specs.Image.{packed, unpacked}
+use Rattle.image.specs.Image.{imageSize, packed, unpacked}
 use Rattle.image.proofs.empty as empty
 use Rattle.image.proofs.empty.Symbol.{name as #empty}
 use Rattle.image.proofs.with_place as with-place
@@ -28,10 +28,10 @@ use Rattle.table.proofs.Gives.{gives}
 
 -- the type of an image, its machine value, and that it is one
 abbrev pub Image : RattleType
-Image = Array u8 tt 64
+Image = Array u8 tt imageSize
 
 abbrev pub imageTy : Ty
-imageTy = tyArray (tyInt w8) 64
+imageTy = tyArray (tyInt w8) imageSize
 
 abbrev pub low-image : List ℕ → Val
 low-image l = only (array-vals (uint-vals w8) l)
@@ -40,7 +40,7 @@ abbrev pub FitsImage : List ℕ → Type 0
 FitsImage l = Is Image l (low-image l ∷ [])
 
 pub image-tells : Tells Image (Is Image) (λ l. low-image l ∷ [])
-image-tells = array-tells u8 (uint-vals w8) (uint-tells w8) 64
+image-tells = array-tells u8 (uint-vals w8) (uint-tells w8) imageSize
 
 -- an image as a field of a struct has it, which is the same
 pub image-of-field : (l : List ℕ) (vs : List Val) → Is Image (map (λ v. v) l) vs → FitsImage l
@@ -51,10 +51,10 @@ field-of-image l g = subst (λ (m : List ℕ). Is Image m (low-image l ∷ [])) 
 
 module _ {M : Type 1} (𝓤 : URA M) (H : Heap 𝓤) (A : Atoms 𝓤) (W : Given 𝓤 H A) where
   pub image-makes : Makes 𝓤 H A Image (Is Image)
-  image-makes = array-makes 𝓤 H A W u8 (uint-makes 𝓤 H A W w8) 64
+  image-makes = array-makes 𝓤 H A W u8 (uint-makes 𝓤 H A W w8) imageSize
 
   pub image-typed : (l : List ℕ) → FitsImage l → Holds (hasTy imageTy (low-image l)) × WT (low-image l)
-  image-typed l g = array-lawful 𝓤 H A W u8 (uint-lawful 𝓤 H A W w8) 64 .typed l _ g .0
+  image-typed l g = array-lawful 𝓤 H A W u8 (uint-lawful 𝓤 H A W w8) imageSize .typed l _ g .0
 
 module _ {M : Type 1} (𝓤 : URA M) (H : Heap 𝓤) (A : Atoms 𝓤) (mem′ : Memory → SProp 𝓤) (run : Routine → Fun 𝓤) where
   abbrev pub Empty : Contract 𝓤
@@ -84,9 +84,9 @@ module _ {M : Type 1} (𝓤 : URA M) (H : Heap 𝓤) (A : Atoms 𝓤) (mem′ : 
 
 module _ {M : Type 1} {𝓤 : URA M} {H : Heap 𝓤} {A : Atoms 𝓤} {K : Type 0} {W : Given 𝓤 H A} {Γ : List (Item 𝓤)} {E : Env 𝓤 H} {C : Calls 𝓤 H} {Λ : Loops 𝓤 H} {p : Kit.Post 𝓤 H} {d : Where} {rest : Code} where
   pub takes-empty : K → (mem′ : Memory → SProp 𝓤) (run : Routine → Fun 𝓤) → FmC 𝓤 H (W .laws) C → Triple 𝓤 (C #empty) (Empty 𝓤 H A mem′ run)
-      → (FitsImage (replicate 64 0) → Seq K W Γ (lands C Λ E d (low-image (replicate 64 0)) rest p)) → Seq K W Γ (runs C Λ E (seq (call #empty [] d) rest) p)
+      → (FitsImage (replicate imageSize 0) → Seq K W Γ (lands C Λ E d (low-image (replicate imageSize 0)) rest p)) → Seq K W Γ (runs C Λ E (seq (call #empty [] d) rest) p)
   takes-empty t mem′ run fm known k =
-      gives t fm (Empty 𝓤 H A mem′ run) known ((tt, tt, tt, tt, tt), tt) (qed W [] ∵ nothing ! $ nothing ! $ join ! $ frame ! $ done !) Image (λ l. low-image l ∷ []) (replicate 64 0)
+      gives t fm (Empty 𝓤 H A mem′ run) known ((tt, tt, tt, tt, tt), tt) (qed W [] ∵ nothing ! $ nothing ! $ join ! $ frame ! $ done !) Image (λ l. low-image l ∷ []) (replicate imageSize 0)
       (record {
         tells = image-tells;
         Said = ensured 𝓤 H A empty.ended (empty.clauses 𝓤 H A mem′ run) tt tt tt;

@@ -11,14 +11,14 @@ use lib.Seq.{getD-set-same, getD-set-other, getD-take, length-take-le, take-all,
 use Rattle.rules.proofs.Lists.{All}
 use Rattle.adapters.specs.declared.Place.{Place}
 use Rattle.adapters.specs.Values.{unused, Canonical}
-use Rattle.image.specs.Image.{packed, unpacked}
+use Rattle.image.specs.Image.{imageSize, packed, unpacked}
 use Rattle.image.proofs.Laws.{unpacked-table}
 use Rattle.table.specs.Table.{snapTo, restored}
 
 pub one-more : (i : ℕ) → suc i ≡ i + 1
 one-more i = omega arith
 
-pub snap-none : (t : List Place) → replicate 64 0 ≡ snapTo t 0
+pub snap-none : (t : List Place) → replicate imageSize 0 ≡ snapTo t 0
 unfolding snapTo
 snap-none t = refl
 
@@ -26,9 +26,9 @@ pub snap-next : (t : List Place) (i : ℕ) → set (snapTo t i) i (packed (getD 
 unfolding snapTo
 snap-next t i = ap (snapTo t) (one-more i)
 
-pub length-snap : (t : List Place) (n : ℕ) → length (snapTo t n) ≡ 64
+pub length-snap : (t : List Place) (n : ℕ) → length (snapTo t n) ≡ imageSize
 unfolding snapTo
-length-snap t zero = length-replicate {A = ℕ} 64 0
+length-snap t zero = length-replicate {A = ℕ} imageSize 0
 length-snap t (suc n) = length-set (snapTo t n) n _ ∙ length-snap t n
 
 pub restored-next : (t : List Place) (all : List ℕ) (i : ℕ) → set (restored t all i) i (unpacked (getD all i 0)) ≡ restored t all (i + 1)
@@ -53,17 +53,17 @@ set-below l n i a d x h below here there = go (eqb i n) refl
     go false e = let is = eqb-false i n e in getD-set-other l n i a d is ∙ there (omega arith)
 
 -- the first n bytes of an image are those of the places
-pub snap-at : (t : List Place) (n i d : ℕ) → i < n → n ≤ 64 → getD (snapTo t n) i d ≡ packed (getD t i unused)
+pub snap-at : (t : List Place) (n i d : ℕ) → i < n → n ≤ imageSize → getD (snapTo t n) i d ≡ packed (getD t i unused)
 unfolding snapTo
 snap-at t zero i d h m = absurd (omega arith)
 snap-at t (suc n) i d h m =
     set-below (snapTo t n) n i _ d _ (omega (arith, length-snap t n)) h (λ e. rw e) (λ l. snap-at t n i d l (omega arith))
 
 -- the image of a table of 64 places has the byte of each
-pub snap-all : (t : List Place) → length t ≡ 64 → snapTo t 64 ≡ map packed t
+pub snap-all : (t : List Place) → length t ≡ imageSize → snapTo t imageSize ≡ map packed t
 snap-all t e =
-    ext-getD (packed unused) (snapTo t 64) (map packed t) (length-snap t 64 ∙ sym e ∙ sym (length-map t packed))
-    (λ i h. snap-at t 64 i (packed unused) (omega (arith, length-snap t 64)) (omega arith) ∙ sym (List·getD-map packed t i unused))
+    ext-getD (packed unused) (snapTo t imageSize) (map packed t) (length-snap t imageSize ∙ sym e ∙ sym (length-map t packed))
+    (λ i h. snap-at t imageSize i (packed unused) (omega (arith, length-snap t imageSize)) (omega arith) ∙ sym (List·getD-map packed t i unused))
 
 -- the first n places are those of the image, and the rest stays
 pub restored-at : (t : List Place) (all : List ℕ) (n i : ℕ) (d : Place) → i < n → n ≤ length t → getD (restored t all n) i d ≡ unpacked (getD all i 0)
@@ -88,5 +88,5 @@ pub restored-whole : (t : List Place) (all : List ℕ) (n : ℕ) → length t �
 restored-whole t all n e h = restored-all t all n e (omega arith) ∙ ap (map unpacked) (take-all n all (omega arith))
 
 -- a table of 64 places that is restored from the image of another is the other
-pub restored-snap : (t u : List Place) → length t ≡ 64 → length u ≡ 64 → All Canonical u → restored t (snapTo u 64) 64 ≡ u
-restored-snap t u e h k = restored-whole t (snapTo u 64) 64 e (length-snap u 64) ∙ ap (map unpacked) (snap-all u h) ∙ unpacked-table u k
+pub restored-snap : (t u : List Place) → length t ≡ imageSize → length u ≡ imageSize → All Canonical u → restored t (snapTo u imageSize) imageSize ≡ u
+restored-snap t u e h k = restored-whole t (snapTo u imageSize) imageSize e (length-snap u imageSize) ∙ ap (map unpacked) (snap-all u h) ∙ unpacked-table u k

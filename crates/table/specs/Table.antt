@@ -1,26 +1,14 @@
--- A place with its masked field set; a table as an image, and from one.
+-- A table as an image, and from one.
 use Prim.Native.Nat.{ℕ, zero, suc}
-use mathlib.Core.Bool.{Bool}
 use mathlib.Core.List.{List}
 use lib.ListN.{getD, set, replicate}
 use Rattle.adapters.specs.declared.Place.{Place}
 use Rattle.adapters.specs.Values.{unused}
-use Rattle.image.specs.Image.{packed, unpacked}
-
-abbrev pub withMasked : Bool → Place → Place
-withMasked on p =
-    record {
-      used = p .used;
-      isc = p .isc;
-      maskable = p .maskable;
-      swap = p .swap;
-      suppressible = p .suppressible;
-      masked = on;
-    }
+use Rattle.image.specs.Image.{imageSize, packed, unpacked}
 
 -- an image that has the first n places of a table, then unused ones
 unfoldable pub snapTo : List Place → ℕ → List ℕ
-snapTo t zero = replicate 64 0
+snapTo t zero = replicate imageSize 0
 snapTo t (suc n) = set (snapTo t n) n (packed (getD t n unused))
 
 -- a table whose first n places are those of an image; the rest stays

@@ -1,11 +1,16 @@
 // Inner crate: the adapter table as a lent slice of places, and the device record behind a reference. Few and thin functions, proved by hand.
 ghost use mathlib.Core.Path.{_≡_};
 ghost use lib.ListN.{getD, set};
-ghost use Rattle.adapters.specs.Values.{unused};
-ghost use Rattle.table.specs.Table.{withMasked, snapTo, restored};
+ghost use Rattle.adapters.specs.Values.{unused, withMasked};
+ghost use Rattle.image.specs.Image.{imageSize};
+ghost use Rattle.table.specs.Table.{snapTo, restored};
 use adapters::Device;
 use adapters::Place;
 use words::AdapterId;
+use words::PLACES;
+
+// The ids of an image's places are those below it.
+const IDS: u64 = PLACES as u64;
 
 // The place of an id; an id without a place reads as free.
 pub fn look_up(t: &[Place], id: AdapterId) -> Place
@@ -53,12 +58,12 @@ pub fn store_device(d: &mut Device, m: Device)
 }
 
 // The places as an image; a place that is not there reads as free.
-pub fn snapshot(t: &[Place]) -> [u8; 64]
-    ensures { λ r. ⌜ r ≡ snapTo (now (t .entry)) 64 ⌝ }
+pub fn snapshot(t: &[Place]) -> [u8; PLACES]
+    ensures { λ r. ⌜ r ≡ snapTo (now (t .entry)) imageSize ⌝ }
 {
     let mut all = image::empty();
     let mut i = 0;
-    while i < 64 {
+    while i < IDS {
         let p = look_up(t, AdapterId(i));
         all = image::with_place(all, i, p);
         i += 1;
@@ -67,7 +72,7 @@ pub fn snapshot(t: &[Place]) -> [u8; 64]
 }
 
 // The first n places are those of the image.
-pub fn restore(t: &mut [Place], n: u64, all: [u8; 64])
+pub fn restore(t: &mut [Place], n: u64, all: [u8; PLACES])
     ensures { λ _. ⌜ now (t .exit) ≡ restored (now (t .entry)) all n ⌝ }
 {
     let mut i = 0;

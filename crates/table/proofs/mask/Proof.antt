@@ -8,8 +8,7 @@ use Rattle.words.proofs.AdapterId.Laws as I′
 use Rattle.adapters.specs.declared.Place.{Place}
 use Rattle.adapters.proofs.Place as P
 use Rattle.adapters.proofs.Place.Laws as P′
-use Rattle.adapters.specs.Values.{unused}
-use Rattle.table.specs.Table.{withMasked}
+use Rattle.adapters.specs.Values.{unused, withMasked}
 use Rattle.table.proofs.Places.{R, Fits, FitsId, typed-id, makes-id}
 use Rattle.table.proofs.Slot.{Have, tests}
 use Rattle.table.proofs.mask.Key.{name as #key}

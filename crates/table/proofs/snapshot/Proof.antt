@@ -18,7 +18,7 @@ use Rattle.image.proofs.empty.Met as empty-thm
 use Rattle.image.proofs.with_place.Symbol as with-place-def
 use Rattle.image.proofs.with_place.Symbol.{name as #with-place}
 use Rattle.image.proofs.with_place.Met as with-place-thm
-use Rattle.image.specs.Image.{packed}
+use Rattle.image.specs.Image.{imageSize, packed}
 use Rattle.table.specs.Table.{snapTo}
 use Rattle.table.proofs.Tables.{snap-none, snap-next}
 use Rattle.table.proofs.Count.{Upto, Nearer, Nearer-wf, fits-upto, after}
@@ -53,7 +53,7 @@ module _ {M : Type 1} (𝓤 : URA M) (H : Heap 𝓤) (A : Atoms 𝓤) (W : Given
   abbrev Have : List (Item 𝓤) → List (Item 𝓤)
   Have Γ = ‵ (flft κ q) ∷ ‵ (Shared R ys b o κ γ) ∷ Γ
 
-  exits : (r : List ℕ) → FitsImage r → r ≡ snapTo ys 64 → ent 𝓤 (⋆ 𝓤 H A (Have [])) (Post (low-image r))
+  exits : (r : List ℕ) → FitsImage r → r ≡ snapTo ys imageSize → ent 𝓤 (⋆ 𝓤 H A (Have [])) (Post (low-image r))
   exits r g e =
       qed W (Have []) ∵ suffices ! _ (ends-at 𝓤 H A f.ended stayed (f.clauses 𝓤 H A mem run) W bound (low-image r) r (tt, tt) (tt, tt)) $ says ! e $
       nothing ! $ move ! (1 ∷ 0 ∷ []) $ join ! $ frame ! $ nothing ! $ move ! (1 ∷ 0 ∷ []) $ fjoin ! $ frame ! $ owned ! Image (Is Image) (image-makes 𝓤 H A W) r _ g $ done !
@@ -74,10 +74,10 @@ module _ {M : Type 1} (𝓤 : URA M) (H : Heap 𝓤) (A : Atoms 𝓤) (W : Given
 
       -- a turn: the image so far is one
       abbrev Turn : Type 0
-      Turn = Upto 64 (λ i. FitsImage (snapTo ys i))
+      Turn = Upto imageSize (λ i. FitsImage (snapTo ys i))
 
       abbrev Before : Turn → Turn → Type 0
-      Before = Nearer 64 (λ i. FitsImage (snapTo ys i))
+      Before = Nearer imageSize (λ i. FitsImage (snapTo ys i))
 
       -- the locals from the count on, then the parameter and the result
       abbrev Counted : ℕ → List (Item 𝓤)
@@ -87,19 +87,19 @@ module _ {M : Type 1} (𝓤 : URA M) (H : Heap 𝓤) (A : Atoms 𝓤) (W : Given
       At i = Have (empty I′.mir l₆ (empty tyBool l₅ (empty P′.mir l₄ (Counted (i .0)))))
 
       abbrev Tested : Turn → List (Item 𝓤)
-      Tested i = Have (empty I′.mir l₆ (filled tyBool l₅ (vbool (ltb (i .0) 64)) (empty P′.mir l₄ (Counted (i .0)))))
+      Tested i = Have (empty I′.mir l₆ (filled tyBool l₅ (vbool (ltb (i .0) imageSize)) (empty P′.mir l₄ (Counted (i .0)))))
 
       abbrev Turned : Turn → Out → SProp 𝓤
       Turned i = afterTurn 𝓤 H (Below 𝓤 H A Before At i) (afterBlock 𝓤 H (afterSeq 𝓤 H (Wp 𝓤 H C Λ E mir.t-4 (atReturn 𝓤 H E Post)) (atReturn 𝓤 H E Post)))
 
-      leaves : (i : Turn) → i .0 ≡ 64 → Sq W (Tested i) (runs C Λ E mir.t-4 (atRet E Post))
+      leaves : (i : Turn) → i .0 ≡ imageSize → Sq W (Tested i) (runs C Λ E mir.t-4 (atRet E Post))
       leaves i e =
           assigns ! (of-opd ! (load ! (from ! (stop !)) (look ! 10 refl))) (from ! (stop !)) (init ! 14 refl (image-typed 𝓤 H A W (snapTo ys (i .0)) (i .1 .1))) $ returns ! (look ! 14 refl) $
           forget ! 4 refl $ forget ! 8 refl $ forget ! 10 refl $ forget ! 12 refl $ forget ! 14 refl $
           move ! (14 ∷ 15 ∷ 12 ∷ 13 ∷ 10 ∷ 11 ∷ 8 ∷ 9 ∷ 6 ∷ 7 ∷ 4 ∷ 5 ∷ 2 ∷ 3 ∷ []) $ free1 ! $ free1 ! $ free1 ! $ free1 ! $ free1 ! $ free1 ! $ free1 ! $ free0 ! $
           by ! (exits (snapTo ys (i .0)) (i .1 .1) (ap (snapTo ys) e))
 
-      module _ (i : Turn) (less : i .0 < 64) where
+      module _ (i : Turn) (less : i .0 < imageSize) where
         abbrev k : AdapterId
         k = record { 0 = i .0 }
 
@@ -123,20 +123,20 @@ module _ {M : Type 1} (𝓤 : URA M) (H : Heap 𝓤) (A : Atoms 𝓤) (W : Given
             land ! (from ! (stop !)) (store ! 10 refl (image-typed 𝓤 H A W (set (snapTo ys (i .0)) (i .0) (packed found)) made)) $
             assigns-last ! (bin ! (load ! (from ! (stop !)) (look ! 8 refl)) (lit ! tt) (record { fits = small (add-one-le less) })) (from ! (stop !)) (store ! 8 refl (tt, record { fits = small (add-one-le less) })) $
             forget ! 6 refl $ forget ! 4 refl $ forget ! 2 refl $ rewrite ! 10 (λ (l : List ℕ). ‵ (fat fullShare imageTy l₂ 0 (low-image l))) (snap-next ys (i .0)) refl $
-            again ! Before At i (i .0 + 1, (add-one-le less, subst FitsImage (snap-next ys (i .0)) made)) (add-one-dec 64 (i .0) less)))
+            again ! Before At i (i .0 + 1, (add-one-le less, subst FitsImage (snap-next ys (i .0)) made)) (add-one-dec imageSize (i .0) less)))
 
       turns : (i : Turn) → Sq W (At i) (runs C Λ E mir.turn-1 (anyQ (Turned i)))
       unfolding afterTurn
       turns i =
           assigns ! (bin ! (load ! (from ! (stop !)) (look ! 8 refl)) (lit ! tt) tt) (from ! (stop !)) (init ! 4 refl (tt, tt)) $
           first ! $ branches ! (load ! (from ! (stop !)) (look ! 4 refl))
-          (λ less. skips ! $ exec ! C Λ E (after (after mir.turn-1)) (anyQ (Turned i)) $ body i (ltb→lt (i .0) 64 less))
-          (λ over. jumps ! $ exec ! C Λ E mir.t-4 (atRet E Post) $ leaves i (le-antisymm (i .1 .0) (nltb→le (i .0) 64 over)))
+          (λ less. skips ! $ exec ! C Λ E (after (after mir.turn-1)) (anyQ (Turned i)) $ body i (ltb→lt (i .0) imageSize less))
+          (λ over. jumps ! $ exec ! C Λ E mir.t-4 (atRet E Post) $ leaves i (le-antisymm (i .1 .0) (nltb→le (i .0) imageSize over)))
 
       starts : Sq W (Have (empty I′.mir l₆ (empty tyBool l₅ (empty P′.mir l₄ (empty (tyInt w64) l₃ (empty imageTy l₂ (filled (slice-of imm) l₁ s (empty imageTy l₀ [])))))))) (runs C Λ E mir.t-1 (atRet E Post))
       starts = takes-empty ! mem run fm known-empty (λ g.
-          land ! (from ! (stop !)) (init ! 10 refl (image-typed 𝓤 H A W (replicate 64 0) g)) $ rewrite ! 10 (λ (l : List ℕ). ‵ (fat fullShare imageTy l₂ 0 (low-image l))) (snap-none ys) refl $
-          assigns ! (of-opd ! (lit ! tt)) (from ! (stop !)) (init ! 8 refl (tt, record { fits = lit< tt })) $ first ! $ blocks ! $ loops ! 𝓣 Before (Nearer-wf 64 (λ i. FitsImage (snapTo ys i))) At turns (0, (zero-le, subst FitsImage (snap-none ys) g)))
+          land ! (from ! (stop !)) (init ! 10 refl (image-typed 𝓤 H A W (replicate imageSize 0) g)) $ rewrite ! 10 (λ (l : List ℕ). ‵ (fat fullShare imageTy l₂ 0 (low-image l))) (snap-none ys) refl $
+          assigns ! (of-opd ! (lit ! tt)) (from ! (stop !)) (init ! 8 refl (tt, record { fits = lit< tt })) $ first ! $ blocks ! $ loops ! 𝓣 Before (Nearer-wf imageSize (λ i. FitsImage (snapTo ys i))) At turns (0, (zero-le, subst FitsImage (snap-none ys) g)))
 
     walk : ent 𝓤 (onEntry 𝓤 H A f.signature (κ, tt) (q, tt) (at-list b o γ ys, tt) (s ∷ [], tt)) (WpFn 𝓤 H C Λ code.function (s ∷ []) Post)
     walk =

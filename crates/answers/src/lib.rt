@@ -1,5 +1,18 @@
-// Inner crate: an answer, and how it is held to the rules.
+// Inner crate: the codes of refusals, an answer, and how it is held to the rules.
 ghost use mathlib.Core.Path.{_≡_};
+
+// Codes, named and numbered as in errno.
+pub const EINVAL: u32 = 22;
+
+pub const EOPNOTSUPP: u32 = 95;
+
+pub const EFAULT: u32 = 14;
+
+pub const ENOMEM: u32 = 12;
+
+pub const EBUSY: u32 = 16;
+
+pub const E2BIG: u32 = 7;
 
 // A code, 0 if accepted, and a count.
 #[repr(C)]

@@ -1,10 +1,11 @@
 -- 01, group 10 and 'Codes and the order of checks': the code and count for each case of an injection.
+use Rattle.rules.specs.Outcome.{EINVAL, EBUSY}
 use Rattle.answers.specs.declared.Answer.{Answer}
 use Rattle.adapters.specs.declared.Injection.{Injection}
 use Rattle.adapters.specs.declared.Injection.the-variants.{NoAdapter, Dropped, Full, Appended}
 
 abbrev pub answerFor : Injection → Answer
-answerFor NoAdapter = record { code = 22; count = 0 }
+answerFor NoAdapter = record { code = EINVAL; count = 0 }
 answerFor Dropped = record { code = 0; count = 0 }
-answerFor Full = record { code = 16; count = 0 }
+answerFor Full = record { code = EBUSY; count = 0 }
 answerFor (Appended isc) = record { code = 0; count = 1 }

@@ -17,8 +17,16 @@ use adapters::Device;
 use adapters::Injection;
 use adapters::Place;
 use answers::Answer;
+use answers::EBUSY;
+use answers::EINVAL;
 use values::Reply;
+use words::AIRQ_INJECT;
+use words::AISM_ALL;
 use words::AdapterId;
+use words::CLEAR_IO_IRQ;
+use words::CLEAR_IRQS;
+use words::ENQUEUE;
+use words::GET_ALL_IRQS;
 use words::QUEUES;
 use words::ROOM;
 use words::SINGLES_BYTES;
@@ -43,7 +51,7 @@ fn inject(
     ensures told { λ r. ⌜ (id .0 < places → r .answer ≡ answerFor (injectionOf ais device place (leb room (sum (now (counts .entry)))))) ⌝ }
 {
     if places <= id.0 {
-        return values::with_answer(answers::refuse(22), device, place);
+        return values::with_answer(answers::refuse(EINVAL), device, place);
     }
     // lent as slices so that their lengths are known
     let listed: &[u8] = order;
@@ -52,9 +60,9 @@ fn inject(
     let next = adapters::after_injection(ais, device, place);
     let what = adapters::inject(ais, device, place, full);
     match what {
-        Injection::NoAdapter => values::with_answer(answers::refuse(22), device, place),
+        Injection::NoAdapter => values::with_answer(answers::refuse(EINVAL), device, place),
         Injection::Dropped => values::with_answer(answers::accept(0), device, place),
-        Injection::Full => values::with_answer(answers::refuse(16), device, place), // nimm stays
+        Injection::Full => values::with_answer(answers::refuse(EBUSY), device, place), // nimm stays
         Injection::Appended(isc) => {
             records::append_interrupt(slots, order, counts, isc);
             values::with_answer(answers::accept(1), next, place)
@@ -83,21 +91,21 @@ pub fn set_request(
     ensures kept { λ r. ⌜ ((r .answer .code ≡ 0 → ⊥) → (r .device ≡ device) × (r .place ≡ place) × (now (slots .exit) ≡ now (slots .entry)) × (now (order .exit) ≡ now (order .entry)) × (now (counts .exit) ≡ now (counts .entry)) × (now (singles .exit) ≡ now (singles .entry))) ⌝ }
     ensures others { λ r. ⌜ (group ≡ 7 → place .used ≡ true → r .place ≡ withMasked (r .place .masked) place) ⌝ }
 {
-    if group == 2 {
+    if group == ENQUEUE {
         let a = records::enqueue_irqs(slots, order, counts, singles, room, attr, payload);
         return values::with_answer(a, device, place);
     }
-    if group == 3 {
+    if group == CLEAR_IRQS {
         // lent as a slice so that its length is known
         let listed: &[u8] = order;
         let a = outgoing::clear_irqs(counts, singles, attr);
         return values::with_answer(a, device, place);
     }
-    if group == 8 {
+    if group == CLEAR_IO_IRQ {
         let a = outgoing::clear_io(slots, order, counts, attr, payload);
         return values::with_answer(a, device, place);
     }
-    if group == 10 {
+    if group == AIRQ_INJECT {
         return inject(
             slots,
             order,
@@ -129,11 +137,11 @@ pub fn get_request(
     ensures answer { λ r. ⌜ ((L : Limits) (s : State) → s .ais ≡ ais → s .pending ≡ pendingOf (now (order .entry)) (now (counts .entry)) (now (slots .entry)) (now (singles .entry)) → s .device ≡ deviceOf device → Answers L s (now (out .entry)) (request L s (getRequest group) attr (now (out .entry))) r s (now (out .exit))) ⌝ }
     ensures kept { λ r. ⌜ ((r .code ≡ 0 → ⊥) → now (out .exit) ≡ now (out .entry)) ⌝ }
 {
-    if group == 1 {
+    if group == GET_ALL_IRQS {
         return outgoing::get_all(slots, order, counts, singles, attr, out);
     }
-    if group == 11 {
+    if group == AISM_ALL {
         return values::get_masks(ais, device, attr, out);
     }
-    answers::refuse(22)
+    answers::refuse(EINVAL)
 }

@@ -14,6 +14,9 @@ ghost use Rattle.singles.specs.Singles.{serviceOf, mchkOf};
 ghost use Rattle.answers.specs.Answers.{Answers};
 ghost use Rattle.records.specs.Memory.{pendingOf};
 use answers::Answer;
+use answers::EFAULT;
+use answers::EINVAL;
+use answers::ENOMEM;
 use search::Found;
 use words::QUEUES;
 use words::ROOM;
@@ -53,7 +56,7 @@ pub fn clear_irqs(
     ensures kept { λ r. ⌜ ((r .code ≡ 0 → ⊥) → (now (counts .exit) ≡ now (counts .entry)) × (now (singles .exit) ≡ now (singles .entry))) ⌝ }
 {
     if attr != 0 {
-        return answers::refuse(22);
+        return answers::refuse(EINVAL);
     }
     let n = pending(counts, singles);
     queues::clear(counts);
@@ -100,16 +103,16 @@ pub fn get_all(
     ensures kept { λ r. ⌜ ((r .code ≡ 0 → ⊥) → now (out .exit) ≡ now (out .entry)) ⌝ }
 {
     if attr == 0 {
-        return answers::refuse(22);
+        return answers::refuse(EINVAL);
     }
     let lent = out.len() as u64;
     if lent < attr {
-        return answers::refuse(14);
+        return answers::refuse(EFAULT);
     }
     let _o: &[u8] = order;
     let n = pending(counts, singles);
     if attr < (n * 72) as u64 {
-        return answers::refuse(12);
+        return answers::refuse(ENOMEM);
     }
     list_all(slots, order, counts, singles, out);
     answers::accept(n as u64)
@@ -129,15 +132,15 @@ pub fn clear_io(
     ensures kept { λ r. ⌜ ((r .code ≡ 0 → ⊥) → (now (order .exit) ≡ now (order .entry)) × (now (counts .exit) ≡ now (counts .entry))) ⌝ }
 {
     if attr < 4 {
-        return answers::refuse(22);
+        return answers::refuse(EINVAL);
     }
     if payload.len() < 4 {
-        return answers::refuse(14);
+        return answers::refuse(EFAULT);
     }
     let id = SubchannelId(words::read_be(payload, 0, 2));
     let nr = SubchannelNumber(words::read_be(payload, 2, 2));
     if id.0 == 0 && nr.0 == 0 {
-        return answers::refuse(22);
+        return answers::refuse(EINVAL);
     }
     let Found::At(isc, j) = search::find(slots, order, counts, 255, false, id, nr) else {
         return answers::accept(0); // no record is for it
@@ -220,7 +223,7 @@ pub fn take(
     ensures kept { λ r. ⌜ ((r .code ≡ 0 → ⊥) → (now (order .exit) ≡ now (order .entry)) × (now (counts .exit) ≡ now (counts .entry)) × (now (singles .exit) ≡ now (singles .entry)) × (now (out .exit) ≡ now (out .entry))) ⌝ }
 {
     if out.len() < 72 {
-        return answers::refuse(14);
+        return answers::refuse(EFAULT);
     }
     if mcheck && singles::has_mchk(singles) {
         let r = take_mchk(singles);

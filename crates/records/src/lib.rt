@@ -12,6 +12,9 @@ ghost use Rattle.answers.specs.Answers.{Answers};
 ghost use Rattle.records.specs.Memory.{pendingOf};
 ghost use Rattle.records.specs.Cases.{kindOf, checkFrom, answerTo};
 use answers::Answer;
+use answers::EBUSY;
+use answers::EFAULT;
+use answers::EINVAL;
 use words::QUEUES;
 use words::ROOM;
 use words::SINGLES_BYTES;
@@ -90,10 +93,10 @@ fn answer_to(b: &[u8], n: usize, queued: usize, room: usize) -> Answer
     ensures { λ r. ⌜ r ≡ answerTo (checkFrom 0 0 (recordsIn n (now (b .entry)))) n queued room ⌝ }
 {
     let Checked::Good(wanted) = check(b, n) else {
-        return answers::refuse(22);
+        return answers::refuse(EINVAL);
     };
     if room < queued + wanted {
-        return answers::refuse(16);
+        return answers::refuse(EBUSY);
     }
     answers::accept(n as u64)
 }
@@ -162,17 +165,17 @@ pub fn enqueue_irqs(
     ensures kept { λ r. ⌜ ((r .code ≡ 0 → ⊥) → (now (slots .exit) ≡ now (slots .entry)) × (now (order .exit) ≡ now (order .entry)) × (now (counts .exit) ≡ now (counts .entry)) × (now (singles .exit) ≡ now (singles .entry))) ⌝ }
 {
     if attr == 0 {
-        return answers::refuse(22);
+        return answers::refuse(EINVAL);
     }
     if 18576 < attr {
-        return answers::refuse(22);
+        return answers::refuse(EINVAL);
     }
     if attr % 72 != 0 {
-        return answers::refuse(22);
+        return answers::refuse(EINVAL);
     }
     let bytes = attr as usize;
     if payload.len() < bytes {
-        return answers::refuse(14);
+        return answers::refuse(EFAULT);
     }
     let n = bytes / 72;
     // slices' lengths are known to the proof

@@ -13,6 +13,16 @@ ghost use Rattle.values.specs.States.{payloadId, aboutOf, Replied};
 use adapters::Device;
 use adapters::Place;
 use answers::Answer;
+use answers::EFAULT;
+use answers::EINVAL;
+use answers::EOPNOTSUPP;
+use words::ADAPTER_MODIFY;
+use words::ADAPTER_REGISTER;
+use words::AIRQ_INJECT;
+use words::AISM;
+use words::AISM_ALL;
+use words::APF_DISABLE_WAIT;
+use words::APF_ENABLE;
 use words::AdapterId;
 use words::Subclass;
 
@@ -47,13 +57,13 @@ fn payload_id(payload: &[u8]) -> AdapterId
 pub fn about(group: u32, attr: u64, payload: &[u8]) -> AdapterId
     ensures { λ r. ⌜ r .0 ≡ aboutOf group attr (now (payload .entry)) ⌝ }
 {
-    if group == 10 {
+    if group == AIRQ_INJECT {
         return AdapterId(attr);
     }
-    if group == 6 {
+    if group == ADAPTER_REGISTER {
         return payload_id(payload);
     }
-    if group == 7 {
+    if group == ADAPTER_MODIFY {
         return payload_id(payload);
     }
     AdapterId(4294967296)
@@ -65,7 +75,7 @@ fn set_flag(device: Device, place: Place, attr: u64, on: bool) -> Reply
 {
     let next = adapters::apf_set(device, on);
     if attr != 0 {
-        return with_answer(answers::refuse(22), device, place); // the flag stays
+        return with_answer(answers::refuse(EINVAL), device, place); // the flag stays
     }
     with_answer(answers::accept(0), next, place)
 }
@@ -75,20 +85,20 @@ fn register(places: u64, device: Device, place: Place, attr: u64, payload: &[u8]
     ensures { λ r. ⌜ ((room : ℕ) (ais : Bool) → Replied places room ais device place (payloadId (now (payload .entry))) (now (payload .entry)) (λ L s. request L s adapterRegister attr (now (payload .entry))) r) ⌝ }
 {
     if attr != 0 {
-        return with_answer(answers::refuse(22), device, place);
+        return with_answer(answers::refuse(EINVAL), device, place);
     }
     if payload.len() < 8 {
-        return with_answer(answers::refuse(14), device, place);
+        return with_answer(answers::refuse(EFAULT), device, place);
     }
     if places <= words::read_be(payload, 0, 4) {
-        return with_answer(answers::refuse(22), device, place);
+        return with_answer(answers::refuse(EINVAL), device, place);
     }
     if place.used {
-        return with_answer(answers::refuse(22), device, place);
+        return with_answer(answers::refuse(EINVAL), device, place);
     }
     let isc = payload[4];
     if 7 < isc {
-        return with_answer(answers::refuse(22), device, place);
+        return with_answer(answers::refuse(EINVAL), device, place);
     }
     let next = adapters::registered(
         Subclass(isc),
@@ -104,29 +114,29 @@ fn modify(places: u64, device: Device, place: Place, attr: u64, payload: &[u8]) 
     ensures { λ r. ⌜ ((room : ℕ) (ais : Bool) → Replied places room ais device place (payloadId (now (payload .entry))) (now (payload .entry)) (λ L s. request L s adapterModify attr (now (payload .entry))) r) ⌝ }
 {
     if attr != 0 {
-        return with_answer(answers::refuse(22), device, place);
+        return with_answer(answers::refuse(EINVAL), device, place);
     }
     if payload.len() < 16 {
-        return with_answer(answers::refuse(14), device, place);
+        return with_answer(answers::refuse(EFAULT), device, place);
     }
     if places <= words::read_be(payload, 0, 4) {
-        return with_answer(answers::refuse(22), device, place);
+        return with_answer(answers::refuse(EINVAL), device, place);
     }
     if !place.used {
-        return with_answer(answers::refuse(22), device, place);
+        return with_answer(answers::refuse(EINVAL), device, place);
     }
     let kind = payload[4];
     if kind == 0 {
-        return with_answer(answers::refuse(22), device, place);
+        return with_answer(answers::refuse(EINVAL), device, place);
     }
     if 3 < kind {
-        return with_answer(answers::refuse(22), device, place);
+        return with_answer(answers::refuse(EINVAL), device, place);
     }
     if kind != 1 {
         return with_answer(answers::accept(0), device, place);
     }
     if !place.maskable {
-        return with_answer(answers::refuse(22), device, place);
+        return with_answer(answers::refuse(EINVAL), device, place);
     }
     with_answer(
         answers::accept(0),
@@ -140,21 +150,21 @@ fn set_mode(ais: bool, device: Device, place: Place, attr: u64, payload: &[u8]) 
     ensures { λ r. ⌜ ((id : ℕ) (places : ℕ) (room : ℕ) → Replied places room ais device place id (now (payload .entry)) (λ L s. request L s aism attr (now (payload .entry))) r) ⌝ }
 {
     if attr != 0 {
-        return with_answer(answers::refuse(22), device, place);
+        return with_answer(answers::refuse(EINVAL), device, place);
     }
     if !ais {
-        return with_answer(answers::refuse(95), device, place);
+        return with_answer(answers::refuse(EOPNOTSUPP), device, place);
     }
     if payload.len() < 4 {
-        return with_answer(answers::refuse(14), device, place);
+        return with_answer(answers::refuse(EFAULT), device, place);
     }
     let isc = payload[0];
     if 7 < isc {
-        return with_answer(answers::refuse(22), device, place);
+        return with_answer(answers::refuse(EINVAL), device, place);
     }
     let mode = words::read_be(payload, 2, 2);
     if 1 < mode {
-        return with_answer(answers::refuse(22), device, place);
+        return with_answer(answers::refuse(EINVAL), device, place);
     }
     with_answer(
         answers::accept(0),
@@ -168,13 +178,13 @@ fn set_masks(ais: bool, device: Device, place: Place, attr: u64, payload: &[u8])
     ensures { λ r. ⌜ ((id : ℕ) (places : ℕ) (room : ℕ) → Replied places room ais device place id (now (payload .entry)) (λ L s. request L s setAismAll attr (now (payload .entry))) r) ⌝ }
 {
     if attr != 0 {
-        return with_answer(answers::refuse(22), device, place);
+        return with_answer(answers::refuse(EINVAL), device, place);
     }
     if !ais {
-        return with_answer(answers::refuse(95), device, place);
+        return with_answer(answers::refuse(EOPNOTSUPP), device, place);
     }
     if payload.len() < 2 {
-        return with_answer(answers::refuse(14), device, place);
+        return with_answer(answers::refuse(EFAULT), device, place);
     }
     with_answer(
         answers::accept(0),
@@ -189,13 +199,13 @@ pub fn get_masks(ais: bool, device: Device, attr: u64, out: &mut [u8]) -> Answer
     ensures kept { λ r. ⌜ ((r .code ≡ 0 → ⊥) → now (out .exit) ≡ now (out .entry)) ⌝ }
 {
     if attr != 0 {
-        return answers::refuse(22);
+        return answers::refuse(EINVAL);
     }
     if !ais {
-        return answers::refuse(95);
+        return answers::refuse(EOPNOTSUPP);
     }
     if out.len() < 2 {
-        return answers::refuse(14);
+        return answers::refuse(EFAULT);
     }
     out[0] = device.simm;
     out[1] = device.nimm;
@@ -215,23 +225,23 @@ pub fn set_values(
     requires { ⌜ (group ≡ 2 → ⊥) × (group ≡ 3 → ⊥) × (group ≡ 8 → ⊥) × (group ≡ 10 → ⊥) ⌝ }
     ensures { λ r. ⌜ ((room : ℕ) → Replied places room ais device place (aboutOf group attr (now (payload .entry))) (now (payload .entry)) (λ L s. request L s (setRequest group) attr (now (payload .entry))) r) ⌝ }
 {
-    if group == 4 {
+    if group == APF_ENABLE {
         return set_flag(device, place, attr, true);
     }
-    if group == 5 {
+    if group == APF_DISABLE_WAIT {
         return set_flag(device, place, attr, false);
     }
-    if group == 6 {
+    if group == ADAPTER_REGISTER {
         return register(places, device, place, attr, payload);
     }
-    if group == 7 {
+    if group == ADAPTER_MODIFY {
         return modify(places, device, place, attr, payload);
     }
-    if group == 9 {
+    if group == AISM {
         return set_mode(ais, device, place, attr, payload);
     }
-    if group == 11 {
+    if group == AISM_ALL {
         return set_masks(ais, device, place, attr, payload);
     }
-    with_answer(answers::refuse(22), device, place)
+    with_answer(answers::refuse(EINVAL), device, place)
 }

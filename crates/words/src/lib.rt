@@ -1,9 +1,32 @@
-// Inner crate: the limits, kinds of small numbers that must not be confused, big-endian numbers, and records of 72 bytes.
+// Inner crate: group numbers, the limits, kinds of small numbers that must not be confused, big-endian numbers, and records of 72 bytes.
 ghost use mathlib.Core.Path.{_≡_};
 ghost use Prim.Native.Nat.{_+_, _^_, _≤_, _<_};
 ghost use lib.ListN.{length};
 ghost use lib.Seq.{paste};
 ghost use Rattle.rules.specs.Bytes.{bytes, part, field};
+
+// Group numbers, named and numbered as in kvm.h, without KVM_DEV_FLIC_ before the names.
+pub const GET_ALL_IRQS: u32 = 1;
+
+pub const ENQUEUE: u32 = 2;
+
+pub const CLEAR_IRQS: u32 = 3;
+
+pub const APF_ENABLE: u32 = 4;
+
+pub const APF_DISABLE_WAIT: u32 = 5;
+
+pub const ADAPTER_REGISTER: u32 = 6;
+
+pub const ADAPTER_MODIFY: u32 = 7;
+
+pub const CLEAR_IO_IRQ: u32 = 8;
+
+pub const AISM: u32 = 9;
+
+pub const AIRQ_INJECT: u32 = 10;
+
+pub const AISM_ALL: u32 = 11;
 
 // How many adapter places there are.
 pub const PLACES: usize = 64;

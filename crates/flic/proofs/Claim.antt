@@ -102,13 +102,15 @@ claim ais cs ss h b b′ w g k p m =
           (λ i. ran-seen (m .fresh₁) (m .ran₁) i ++ (seen ((sym wrote-is) i) ∷ []))
           ∙ sym (answers-append (fresh paperLimits ais) cs (asked writeList b (paperLimits .places) ∷ []));
       written = (sym (ap (λ (a : Told). a .code) wrote-is) ∙ v .write-accepted, sym (ap (λ (a : Told). a .count) wrote-is) ∙ v .write-count, ap length (sym list-is) ∙ v .write-length ∙ ap (λ (a : Told). a .count) wrote-is);
-      accepted =
-          (sym (ap (λ (a : Told). a .code) played-is) ∙ v .play-accepted,
-          sym (ap (λ (a : Told). a .count) played-is) ∙ v .play-count ∙ ap countIn list-is,
-          subst (λ (n : ℕ). n ≤ mostRequests) (ap (λ (a : Told). a .count) played-is) (v .play-few));
-      alike = λ ds xs ys h′ k′ r₁ r₂.
-          (follows (ran-good (m .fresh₁) (m .ran₁)) r₁ .seen ∙ ap (λ (s : State). answers paperLimits s ds) (first-is ∙ sym then-is),
-          follows (play-step .good) r₂ .seen ∙ ap (λ (s : State). answers paperLimits s ds) (second-is ∙ sym then-is));
+      accepted = (
+        sym (ap (λ (a : Told). a .code) played-is) ∙ v .play-accepted,
+        sym (ap (λ (a : Told). a .count) played-is) ∙ v .play-count ∙ ap countIn list-is,
+        subst (λ (n : ℕ). n ≤ mostRequests) (ap (λ (a : Told). a .count) played-is) (v .play-few),
+      );
+      alike = λ ds xs ys h′ k′ r₁ r₂. (
+        follows (ran-good (m .fresh₁) (m .ran₁)) r₁ .seen ∙ ap (λ (s : State). answers paperLimits s ds) (first-is ∙ sym then-is),
+        follows (play-step .good) r₂ .seen ∙ ap (λ (s : State). answers paperLimits s ds) (second-is ∙ sym then-is),
+      );
     }
   where
     first-is : hostState h ≡ after paperLimits (fresh paperLimits ais) cs

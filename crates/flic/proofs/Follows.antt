@@ -136,13 +136,13 @@ follows {h} g (set group attr b c′ d′ t t′ u r l f rest) =
     let s = requested h g (setAttr group attr) tt b b c′ d′ t t′ u r l f in onward _ _ s (follows (s .good) rest)
 follows {h} g (get group attr b b′ t u r l f rest) =
     let s = subst (λ (x : List Place). Stepped h (asked (getAttr group attr) b (length t)) (saw r b′) (record { ctl = h .ctl; dev = h .dev; tab = x })) (same-own l)
-        (requested h g (getAttr group attr) tt b b′ (h .ctl) (h .dev) t t u r l f) in
+    (requested h g (getAttr group attr) tt b b′ (h .ctl) (h .dev) t t u r l f) in
     onward _ _ s (follows g rest)
 follows {h} g (take subclasses external mcheck b b′ c′ n r f rest) =
     let s = taken h g subclasses external mcheck b b′ c′ n r f in onward _ _ s (follows (s .good) rest)
 follows {h} g (write b b′ t u r l f rest) =
     let s = subst (λ (x : List Place). Stepped h (asked writeList b (length t)) (saw r b′) (record { ctl = h .ctl; dev = h .dev; tab = x })) (same-own l)
-        (requested h g writeList tt b b′ (h .ctl) (h .dev) t t u r l f) in
+    (requested h g writeList tt b b′ (h .ctl) (h .dev) t t u r l f) in
     onward _ _ s (follows g rest)
 follows {h} g (play b c′ d′ t t′ u r l f rest) =
     let s = played h g b c′ d′ t t′ u r l f in onward _ _ s (follows (s .good) rest)

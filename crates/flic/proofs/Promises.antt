@@ -179,10 +179,14 @@ module _ (ais : Bool) (c c′ : Controller) (d : Device) (t : List Place) (r : S
   pub make-promises : Made ais c c′ d (r .device) t started (r .answer)
   make-promises =
       record {
-        right = λ e. (ap (λ (x : Started). x .answer) (f .right e .0), started-fresh e, record {
-          ready = f .right e .2;
-          places = subst (All Canonical) (sym (table-cleared e)) (all-replicate Canonical (paperLimits .places) unused canonical-unused);
-          sound = subst (Sound paperLimits) (sym (started-fresh e)) (fresh-sound paperLimits ais);
-        });
+        right = λ e. (
+          ap (λ (x : Started). x .answer) (f .right e .0),
+          started-fresh e,
+          record {
+            ready = f .right e .2;
+            places = subst (All Canonical) (sym (table-cleared e)) (all-replicate Canonical (paperLimits .places) unused canonical-unused);
+            sound = subst (Sound paperLimits) (sym (started-fresh e)) (fresh-sound paperLimits ais);
+          },
+        );
         wrong = λ w. let g = f .wrong w in (g .0, g .3, g .1, ap (restored t (r .image)) (g .2) ∙ restored-none t (r .image));
       }

@@ -215,6 +215,7 @@ represent s h =
   where
     k : Keeps (s .pending) (s .ais)
     k = keep (s .pending) (h .pending) (h .within) (s .ais)
+
     host : Host
     host =
         record {
@@ -222,5 +223,6 @@ represent s h =
           dev = record { simm = s .device .simm; nimm = s .device .nimm; apf = s .device .apf };
           tab = map placeFor (s .adapters);
         }
+
     is : stateOf (host .ctl) (host .dev) (host .tab) ≡ s
     is = λ i. record { ais = k .same-ais i; adapters = places-back (s .adapters) i; pending = k .pending i; device = s .device }

@@ -176,7 +176,16 @@ fn hand_out(
     requires { ⌜ Held (now order) (now counts) ⌝ }
     ensures { λ r. ⌜ ((ais : Bool) → Taken subclasses external mcheck (controller (now (slots .entry)) (now (order .entry)) (now (counts .entry)) (now (singles .entry)) ais) (controller (now (slots .exit)) (now (order .exit)) (now (counts .exit)) (now (singles .exit)) ais) (now (out .entry)) (now (out .exit)) r) ⌝ }
 {
-    outgoing::take(slots, order, counts, singles, subclasses, external, mcheck, out)
+    outgoing::take(
+        slots,
+        order,
+        counts,
+        singles,
+        subclasses,
+        external,
+        mcheck,
+        out,
+    )
 }
 
 // A fresh controller with this capability. Its memory holds any values of its types before, for example zeros.

@@ -5,3 +5,12 @@ pub mod Claim
 pub mod Represent
 pub mod Runs
 pub mod Pins
+pub mod Walk
+pub mod Ints
+pub mod Fields
+pub mod Locals
+pub mod Opened
+pub mod Called
+pub mod Four
+pub mod All
+pub mod Calls

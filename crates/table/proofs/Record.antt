@@ -48,13 +48,13 @@ module _ {M : Type 1} {𝓤 : URA M} {H : Heap 𝓤} {A : Atoms 𝓤} {K : Type 
       → ((i j : Item 𝓤) → Opds K W (i ∷ j ∷ Γ) E xs (vptr b o ∷ []))
       → Seq K W (‵ (cellAt fullShare (R .mir) (D′.lowered h ∷ []) b o) ∷ Γ) (lands C Λ E d (D′.lowered h) rest p)
       → Seq K W (‵ (cellAt fullShare (R .mir) (D′.lowered h ∷ []) b o) ∷ Γ) (runs C Λ E (seq (call #read-device xs d) rest) p)
-  reads-device t mem′ run fm known h b o gh os k = owned t R (Is R) (LL.makes D.the-type D′.the-plain 𝓤 H A) h _ gh $ move t (1 ∷ 0 ∷ []) $ shares-cell t tt R h (D′.lowered h ∷ []) b o (λ ν δ.
+  reads-device t mem′ run fm known h b o gh os k = owned t R (Is R) (LL.makes D.the-type D′.the-plain 𝓤 H A) h _ gh $ move t (1 ∷ 0 ∷ []) $ shares-cell t tt R fullShare h (D′.lowered h ∷ []) b o (λ ν δ.
       use2 W (raw (ReadDevice 𝓤 H A mem′ run .pre (to-read 𝓤 H A mem′ run W b o h h ν δ))) (goes-read 𝓤 H A mem′ run W b o h h ν δ) $
       calls-at t fm (ReadDevice 𝓤 H A mem′ run) known (to-read 𝓤 H A mem′ run W b o h h ν δ) (os _ _) (λ w.
       use1 W (later (some (λ (r : Device). ((‵ (flft (ν ∷ []) fullShare) ⊛ ‵ ftrue) ⊛ ‵ (R .own r (w ∷ []))) ⊛ raw (ensured 𝓤 H A read-device.ended (read-device.clauses 𝓤 H A mem′ run) (ν ∷ [], tt) (at-rec b o δ h, tt) tt r)))) (id⊢ 𝓤 _) $ await t tt $ pick t (λ r.
       split t $ move t (1 ∷ []) $ use1 W (raw (fact 𝓤 (r ≡ h))) (taken 𝓤 H A mem′ run W b o h h ν δ r) $ heard t (r ≡ h) (λ e. split t $ move t (1 ∷ []) $
       rewrite t 0 (λ (a : Device). ‵ (R .own a (w ∷ []))) e refl $ peeks t R (Is R) (shows 𝓤 H A R) h (w ∷ []) (λ is. drop t $ split t $ move t (1 ∷ []) $ drop t $
-      cell-shared-back t tt R h b o ν (λ vs. spelt t R (Is R) (shows 𝓤 H A R) (LL.vals D.the-type D′.the-laws) (LL.tells D.the-type D′.the-laws) fullShare h vs b o $ move t (1 ∷ []) $ drop t $
+      cell-shared-back t tt R fullShare h b o ν (λ vs. spelt t R (Is R) (shows 𝓤 H A R) (LL.vals D.the-type D′.the-laws) (LL.tells D.the-type D′.the-laws) fullShare h vs b o $ move t (1 ∷ []) $ drop t $
       subst (λ (v : Val). Seq K W (‵ (cellAt fullShare (R .mir) (D′.lowered h ∷ []) b o) ∷ Γ) (lands C Λ E d v rest p)) (sym (ap only (LL.tells D.the-type D′.the-laws h (w ∷ []) is))) k))))))
 
   pub stores-device : K → (mem′ : Memory → SProp 𝓤) (run : Routine → Fun 𝓤) → FmC 𝓤 H (W .laws) C → Triple 𝓤 (C #store-device) (StoreDevice 𝓤 H A mem′ run) → (h m : Device) (b o : ℕ) → Is R h (D′.lowered h ∷ []) → Is R m (D′.lowered m ∷ [])

@@ -10,7 +10,7 @@ use borrow.Author.Tests.{lt-ltb, le-ltb}
 use Rattle.rules.specs.Bytes.{choose}
 use Rattle.rules.specs.State as rules
 use Rattle.rules.specs.State.{Limits, Pending, State, withPending, addIo, queued}
-use Rattle.rules.specs.Outcome.{Outcome, refuse, accept, need_else_⨾_, result}
+use Rattle.rules.specs.Outcome.{Outcome, refuse, accept, need_else_⨾_}
 use Rattle.rules.specs.Requests.{noRequest, airqInject, setRequest, getRequest, injected, injects, adapterInterrupt, request}
 use Rattle.rules.specs.Requests.{underAis as rules-underAis}
 use Rattle.rules.proofs.Checks.{passes, fails, found, chosen, passed}
@@ -24,35 +24,19 @@ use Rattle.adapters.specs.Values.{placeOf, deviceOf, adapterOf, underAis, injec
 use Rattle.adapters.proofs.Laws.{place-used, place-free}
 use Rattle.values.specs.declared.Reply.{Reply}
 use Rattle.values.specs.States.{aboutOf, stateWith, Replies}
-use Rattle.values.proofs.Laws.{unheld}
+use Rattle.values.proofs.Laws.{unheld, as-it-was as held-values}
 use Rattle.words.specs.declared.Subclass.{Subclass}
 
 -- the state with other pending records, as the values stand for it
 with-values : (s : State) (id : ℕ) (device : Device) (place : Place) (p : Pending) → s .device ≡ deviceOf device
     → getD (s .adapters) id rules.free ≡ placeOf place → withPending p s ≡ stateWith s id (placeOf place) p (deviceOf device)
-with-values s id device place p d e =
-    λ i. record {
-      ais = s .ais;
-      adapters = (sym (set-getD (s .adapters) id rules.free) ∙ ap (set (s .adapters) id) e) i;
-      pending = p;
-      device = d i;
-    }
+with-values s id device place p d e = held-values (withPending p s) id device place d e
 
 -- the same where the pending records are as they were
 pub as-it-was : (s : State) (id : ℕ) (device : Device) (place : Place) (p : Pending) → s .pending ≡ p → s .device ≡ deviceOf device
     → getD (s .adapters) id rules.free ≡ placeOf place → s ≡ stateWith s id (placeOf place) p (deviceOf device)
 as-it-was s id device place p q d e =
     (λ i. record { ais = s .ais; adapters = s .adapters; pending = q i; device = s .device }) ∙ with-values s id device place p d e
-
--- an outcome told
-module _ (L : Limits) (s : State) (b : List ℕ) {o : Outcome} {a : Answer} {t : State} where
-  pub told-refuse : (code : ℕ) → o ≡ refuse code → a ≡ record { code = code; count = 0 } → s ≡ t → Answers L s b o a t b
-  unfolding result
-  told-refuse code e f g = ap (result L s b) e ∙ (λ i. record { code = (sym f) i .code; count = (sym f) i .count; next = g i; buffer = b })
-
-  pub told-accept : (count : ℕ) (u : State) → o ≡ accept count u [] → a ≡ record { code = 0; count = count } → u ≡ t → Answers L s b o a t b
-  unfolding result
-  told-accept count u e f g = ap (result L s b) e ∙ (λ i. record { code = (sym f) i .code; count = (sym f) i .count; next = g i; buffer = b })
 
 module _ (places room : ℕ) (ais : Bool) (device : Device) (place : Place) (id : ℕ) (b : List ℕ) (o : Limits → State → Outcome) (p₀ p₁ : Pending) where
   -- a reply from its answer and its device record, the place as it was

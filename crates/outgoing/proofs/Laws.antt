@@ -12,12 +12,13 @@ use lib.Dec.{eqb, ltb}
 use lib.Seq.{take-all, take-suc, take-at, drop-at, drop-drop, take-set-le, getD-take, getD-set-same, getD-set-other, paste, length-paste}
 use Rattle.rules.specs.Bytes.{choose, byte, part, field}
 use Rattle.rules.specs.State.{Limits, State, Record, Pending, nothing, withPending, single, listing}
-use Rattle.rules.specs.Outcome.{Outcome, refuse, accept, result}
+use Rattle.rules.specs.Outcome.{refuse, accept}
 use Rattle.rules.specs.Requests.{isZero, isFor, request, clearIoIrq, clearsIo, removes, clears, lists}
 use Rattle.rules.specs.Take.{orElse, handMchk, handService, handDone, handIo, handed, handsOut, takes}
 use Rattle.rules.proofs.Checks.{passes, fails}
 use Rattle.rules.proofs.Lists.{flatten-append}
 use Rattle.answers.specs.Answers.{Answers}
+use Rattle.answers.proofs.Laws.{same-state, accepted}
 use Rattle.answers.specs.declared.Answer.{Answer}
 use Rattle.slots.specs.Slots.{removeAt}
 use Rattle.queues.specs.Queues.{sum, cut, queues}
@@ -169,22 +170,6 @@ module _ (o c b g d : List ℕ) where
 pub none-left : (o c b g : List ℕ) → c ≡ replicate 9 0 → serviceOf g ≡ none → mchkOf g ≡ none → pendingOf o c b g ≡ nothing
 unfolding pendingOf
 none-left o c b g e f k = rw (e, f, k, queues-none o b)
-
--- ---- answers
-pub same-state : (s : State) (p : Pending) → s .pending ≡ p → withPending p s ≡ s
-same-state s p e = ap (λ (q : Pending). withPending q s) (sym e)
-
-module _ (L : Limits) (s : State) (b : List ℕ) (o : Outcome) (a : Answer) (n : ℕ) where
-  pub refused : (p : Pending) → s .pending ≡ p → o ≡ refuse n → a ≡ record { code = n; count = 0 } → Answers L s b o a (withPending p s) b
-  unfolding result
-  refused p e f k = rw (f, k, same-state s p e)
-
-  pub accepted : (t : State) (w d : List ℕ) → o ≡ accept n t w → a ≡ record { code = 0; count = n } → d ≡ w ++ drop (length w) b → Answers L s b o a t d
-  unfolding result
-  accepted t w d e f k = rw (e, f, k)
-
-pub not-refused : {A : Type 0} (a : Answer) (n : ℕ) → a ≡ record { code = 0; count = n } → (a .code ≡ 0 → ⊥) → A
-not-refused a n e h = absurd (h (ap (λ (x : Answer). x .code) e))
 
 -- ---- where a search ends
 cut-short : {A : Type 0} (cs : List ℕ) (l : List A) (q : ℕ) → length (getD (cut cs l) q []) ≤ getD cs q 0

@@ -101,7 +101,7 @@ module _ {A : Type 0} where
   length-cut [] l = refl
   length-cut (c ∷ cs) l = ap suc (length-cut cs (drop c l))
 
-  cut-at : (cs : List ℕ) (l : List A) (q : ℕ) → q < length cs → getD (cut cs l) q [] ≡ take (getD cs q 0) (drop (sum (take q cs)) l)
+  pub cut-at : (cs : List ℕ) (l : List A) (q : ℕ) → q < length cs → getD (cut cs l) q [] ≡ take (getD cs q 0) (drop (sum (take q cs)) l)
   unfolding sum cut
   cut-at [] l q h = absurd (not-suc-le-zero h)
   cut-at (c ∷ cs) l zero h = refl

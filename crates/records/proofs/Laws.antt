@@ -15,7 +15,7 @@ use borrow.Author.Tests.{eq-eqb, ne-eqb, le-leb, lt-leb, leb-true, leb-false}
 use Rattle.rules.specs.Bytes.{choose, number, bytes, part, field}
 use Rattle.rules.specs.State as rules
 use Rattle.rules.specs.State.{Limits, State, Record, Pending, withPending, kind, subclass, addIo, addAs, add, addAll, firstOr, mergedOr, queued}
-use Rattle.rules.specs.Outcome.{Outcome, refuse, accept, need_else_⨾_, result}
+use Rattle.rules.specs.Outcome.{refuse, need_else_⨾_}
 use Rattle.rules.specs.Requests.{recordsIn, taken, allTaken, wants, allWant, enqueue, enqueues, adapterInterrupt, request}
 use Rattle.rules.proofs.Checks.{passes, fails, both}
 use Rattle.rules.proofs.Lists.{flatten-append}
@@ -26,6 +26,7 @@ use Rattle.singles.specs.Singles.{serviceOf, mchkOf}
 use Rattle.words.specs.declared.Subclass.{Subclass}
 use Rattle.answers.specs.declared.Answer.{Answer}
 use Rattle.answers.specs.Answers.{Answers}
+use Rattle.answers.proofs.Laws.{refused, accepted}
 use Rattle.records.specs.declared.Kind.{Kind}
 use Rattle.records.specs.declared.Kind.the-variants.{Io, Done, Service, MachineCheck, Other}
 use Rattle.records.specs.declared.Checked.{Checked}
@@ -296,17 +297,7 @@ interrupt-bytes isc h =
     let e0 : v / 256 ^ 0 % 256 ≡ 0 = omega arith in
     rw (e3, e2, e1, e0)
 
--- ---- answers
-pub refused : (L : Limits) (s : State) (b : List ℕ) (p : Pending) (o : Outcome) (a : Answer) (code : ℕ)
-    → s .pending ≡ p → a ≡ record { code = code; count = 0 } → o ≡ refuse code → Answers L s b o a (withPending p s) b
-unfolding result
-refused L s b p o a code ep ea eo = rw (eo, ea, ← ep)
-
-pub accepted : (L : Limits) (s t : State) (b : List ℕ) (o : Outcome) (a : Answer) (n : ℕ)
-    → a ≡ record { code = 0; count = n } → o ≡ accept n t [] → Answers L s b o a t b
-unfolding result
-accepted L s t b o a n ea eo = rw (eo, ea)
-
+-- ---- the request
 module _ (L : Limits) (s : State) (attr : ℕ) (b : List ℕ) (h : attr ≡ 0 → ⊥) (k : attr ≤ 18576) (e : attr % 72 ≡ 0) where
   pub enqueuing : request L s enqueue attr b ≡ (need leb attr (length b) else 14 ⨾ enqueues L s (recordsIn (attr / 72) b))
   unfolding request
@@ -322,10 +313,10 @@ module _ (L : Limits) (s : State) (attr : ℕ) (b : List ℕ) (h : attr ≡ 0 �
     unfolding enqueues
     enqueue-good h ep =
         let g = answer-good (recordsIn (attr / 72) b) (attr / 72) q (L .room) a ea h in
-        accepted L s _ b _ a (attr / 72) (g .0)
-        (checking ∙ passes _ _ _ (g .1) ∙ passes _ _ _ (le-leb _ (L .room) (omega (arith, eq, g .2))) ∙ rw (length-records (attr / 72) b, ep))
+        accepted L s b _ a (attr / 72) (withPending p s) [] b
+        (checking ∙ passes _ _ _ (g .1) ∙ passes _ _ _ (le-leb _ (L .room) (omega (arith, eq, g .2))) ∙ rw (length-records (attr / 72) b, ep)) (g .0) refl
 
     pub enqueue-bad : (a .code ≡ 0 → ⊥) → p ≡ s .pending → Answers L s b (request L s enqueue attr b) a (withPending p s) b
     enqueue-bad h ep =
         let g = answer-bad (recordsIn (attr / 72) b) (attr / 72) q (L .room) a ea h L s eq refl in
-        refused L s b p _ a (a .code) (sym ep) (g .0) (checking ∙ g .1)
+        refused L s b _ a (a .code) p (sym ep) (checking ∙ g .1) (g .0)

@@ -1,23 +1,23 @@
 -- Laws of the queues that the order and the counts say, of the search over them, and of what the rules do at the place that it finds. Assumes nothing.
-use mathlib.Core.Path.{_≡_, refl, ap, _∙_}
+use mathlib.Core.Path.{_≡_, refl, _∙_}
 use mathlib.Core.Bool.{Bool, true, false, _&&_}
 use mathlib.Core.Option.{none, some}
 use mathlib.Core.List.{List, [], _∷_}
 use Prim.Native.Nat.{ℕ, zero, suc, _+_, _-_, _*_, _≤_, _<_}
-use native.Mathlib.Nat.{not-suc-le-zero, le-of-suc-le-suc}
 use native.Mathlib.Numerals.{add-one}
 use native.Mathlib.Omega.{arith}
 use lib.Dec.{eqb}
-use lib.ListN.{length, take, drop, getD, length-take, length-drop, drop-of-length-le}
-use lib.Seq.{drop-cons, drop-drop, take-take, getD-take, getD-drop, length-take-le}
+use lib.ListN.{length, take, drop, getD, length-take, drop-of-length-le}
+use lib.Seq.{drop-cons, drop-drop, take-take, getD-take, getD-drop}
 use Rattle.rules.specs.Bytes.{choose, field}
 use Rattle.rules.specs.State.{Record, hasBit}
 use Rattle.rules.specs.Requests.{isFor, consTo, without, orIn, withoutFirst}
 use Rattle.rules.specs.Take.{firstAllowed, keep}
 use Rattle.words.proofs.Laws.{drop-take}
 use Rattle.slots.specs.Slots.{removeAt, slot, listed}
-use Rattle.slots.proofs.Laws.{length-listed, listed-at}
-use Rattle.queues.specs.Queues.{sum, cut, queues}
+use Rattle.slots.proofs.Laws.{listed-at}
+use Rattle.queues.specs.Queues.{sum, queues}
+use Rattle.queues.proofs.Laws.{sum-next, cut-at, length-queues, length-queue}
 use Rattle.search.specs.declared.Found.{Found}
 use Rattle.search.specs.declared.Found.the-variants.{At, None}
 use Rattle.search.specs.Search.{searchQueue, searchQueues, leftAt, handedAt}
@@ -36,48 +36,12 @@ is-for-at b s id nr p x y ep ex ey =
     rw (field-slot 8 2 72 b s (omega arith), field-slot 10 2 72 b s (omega arith), ex, ey, ep)
 
 -- ---- the queues
-sum-suc : (cs : List ℕ) (i : ℕ) → i < length cs → sum (take i cs) + getD cs i 0 ≡ sum (take (suc i) cs)
-unfolding sum
-sum-suc [] i h = absurd (not-suc-le-zero h)
-sum-suc (c ∷ cs) zero h = omega arith
-sum-suc (c ∷ cs) (suc i) h = omega (arith, sum-suc cs i (le-of-suc-le-suc h))
-
-sum-take : (cs : List ℕ) (i : ℕ) → sum (take i cs) ≤ sum cs
-unfolding sum
-sum-take cs zero = omega arith
-sum-take [] (suc i) = omega arith
-sum-take (c ∷ cs) (suc i) = omega (arith, sum-take cs i)
-
-pub sum-next : (cs : List ℕ) (i : ℕ) → i < length cs → (sum (take i cs) + getD cs i 0 ≡ sum (take (i + 1) cs)) × (sum (take i cs) + getD cs i 0 ≤ sum cs)
-sum-next cs i h = (rw add-one (sum-suc cs i h), omega (arith, sum-suc cs i h, sum-take cs (suc i)))
-
-length-cut {ℓ} : {A : Type ℓ} (cs : List ℕ) (l : List A) → length (cut cs l) ≡ length cs
-unfolding cut
-length-cut [] l = refl
-length-cut (c ∷ cs) l = ap suc (length-cut cs (drop c l))
-
-cut-at {ℓ} : {A : Type ℓ} (cs : List ℕ) (l : List A) (i : ℕ) → i < length cs → getD (cut cs l) i [] ≡ take (getD cs i 0) (drop (sum (take i cs)) l)
-unfolding cut sum
-cut-at [] l i h = absurd (not-suc-le-zero h)
-cut-at (c ∷ cs) l zero h = refl
-cut-at (c ∷ cs) l (suc i) h = rw (← drop-drop) (cut-at cs (drop c l) i (le-of-suc-le-suc h))
-
-pub length-queues : (o c b : List ℕ) → length (queues o c b) ≡ length c
+pub queue-record : (o c b : List ℕ) (i : ℕ) → i < length c → sum c ≤ length o → (j : ℕ) → j < getD c i 0
+    → getD (getD (queues o c b) i []) j [] ≡ slot 72 b (getD o (sum (take i c) + j) 0)
 unfolding queues
-length-queues o c b = length-cut c (listed 72 o (sum c) b)
-
-module _ (o c b : List ℕ) (i : ℕ) (h : i < length c) (few : sum c ≤ length o) where
-  pub length-queue : length (getD (queues o c b) i []) ≡ getD c i 0
-  unfolding queues
-  length-queue =
-      rw (cut-at c (listed 72 o (sum c) b) i h)
-      (length-take-le (getD c i 0) _ (rw (length-drop, length-listed 72 o (sum c) b few) (omega (arith, sum-next c i h))))
-
-  pub queue-record : (j : ℕ) → j < getD c i 0 → getD (getD (queues o c b) i []) j [] ≡ slot 72 b (getD o (sum (take i c) + j) 0)
-  unfolding queues
-  queue-record j k =
-      rw (cut-at c (listed 72 o (sum c) b) i h, getD-take (getD c i 0) (drop (sum (take i c)) (listed 72 o (sum c) b)) j [] k, getD-drop)
-      (listed-at 72 o (sum c) (sum (take i c) + j) b (omega (arith, sum-next c i h)) few)
+queue-record o c b i h few j k =
+    rw (cut-at c (listed 72 o (sum c) b) i h, getD-take (getD c i 0) (drop (sum (take i c)) (listed 72 o (sum c) b)) j [] k, getD-drop)
+    (listed-at 72 o (sum c) (sum (take i c) + j) b (omega (arith, sum-next c i h)) few)
 
 -- ---- the search of the first eight, turn by turn
 module _ (o c b : List ℕ) (f : Record → Bool) (mask i : ℕ) where

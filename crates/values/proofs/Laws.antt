@@ -18,12 +18,11 @@ use Rattle.adapters.specs.declared.Device.{Device}
 use Rattle.adapters.specs.declared.Place.{Place}
 use Rattle.adapters.specs.Values.{placeOf, deviceOf, Canonical, withMasked, modeSet}
 use Rattle.answers.specs.declared.Answer.{Answer}
-use Rattle.answers.specs.Answers.{Answers}
 use Rattle.values.specs.declared.Reply.{Reply}
 use Rattle.values.specs.States.{payloadId, aboutOf, stateWith, Replied}
 
 -- the state that the values stand for is the state itself
-as-it-was : (s : State) (id : ℕ) (device : Device) (place : Place) → s .device ≡ deviceOf device → getD (s .adapters) id rules.free ≡ placeOf place
+pub as-it-was : (s : State) (id : ℕ) (device : Device) (place : Place) → s .device ≡ deviceOf device → getD (s .adapters) id rules.free ≡ placeOf place
     → s ≡ stateWith s id (placeOf place) (s .pending) (deviceOf device)
 as-it-was s id device place d p =
     λ i. record {
@@ -188,18 +187,8 @@ pub as-group : {places room : ℕ} {ais : Bool} {device : Device} {place : Place
 as-group {places} {room} {ais} {device} {place} {b} {r} attr k e h =
     subst (λ (x : ℕ). Replied places room ais device place (aboutOf x attr b) b (λ L s. request L s (setRequest x) attr b) r) (sym e) h
 
--- ---- answers without a reply
--- the first two bytes written
-two-written : (l : List ℕ) (x y : ℕ) → 2 ≤ length l → set (set l 0 x) 1 y ≡ x ∷ y ∷ drop 2 l
+-- ---- the first two bytes written
+pub two-written : (l : List ℕ) (x y : ℕ) → 2 ≤ length l → set (set l 0 x) 1 y ≡ x ∷ y ∷ drop 2 l
 two-written [] x y h = let z : ⊥ = omega arith in absurd z
 two-written (a ∷ []) x y h = let z : ⊥ = omega arith in absurd z
 two-written (a ∷ c ∷ l) x y h = refl
-
-module _ (L : Limits) (s : State) (b : List ℕ) {o : Outcome} {a : Answer} where
-  pub told-refused : (code : ℕ) → o ≡ refuse code → a ≡ record { code = code; count = 0 } → Answers L s b o a s b
-  unfolding result
-  told-refused code e f = rw (e, f)
-
-  pub told-two : (x y : ℕ) → o ≡ accept 0 s (x ∷ y ∷ []) → a ≡ record { code = 0; count = 0 } → 2 ≤ length b → Answers L s b o a s (set (set b 0 x) 1 y)
-  unfolding result
-  told-two x y e f h = rw (e, f, two-written b x y h)

@@ -1,9 +1,9 @@
 // Inner crate: the requests that touch no pending record, on a device record and one adapter place by value.
 ghost use mathlib.Core.Path.{_≡_};
 ghost use mathlib.Core.Bool.{Bool, true, false};
-ghost use mathlib.Core.List.{List, []};
-ghost use Prim.Native.Nat.{ℕ, _+_, _≤_, _<_, _^_};
-ghost use lib.ListN.{length, getD, set};
+ghost use mathlib.Core.List.{List};
+ghost use Prim.Native.Nat.{ℕ, _<_};
+ghost use lib.ListN.{set};
 ghost use Rattle.rules.specs.State.{Limits, State};
 ghost use Rattle.rules.specs.Bytes.{choose};
 ghost use Rattle.rules.specs.Requests.{apfEnable, apfDisableWait, adapterRegister, adapterModify, aism, setAismAll, getAismAll, setRequest, request};

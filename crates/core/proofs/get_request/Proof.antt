@@ -1,7 +1,8 @@
 -- `core::get_request` meets its contract. Assumes nothing.
 use mathlib.Core.Path.{refl}
 use Rattle.rules.specs.Requests.{request}
-use Rattle.core.proofs.Laws.{told-refuse, no-get, as-get}
+use Rattle.answers.proofs.Laws.{refused}
+use Rattle.core.proofs.Laws.{no-get, as-get}
 use borrow.Author.Needs.{needs}
 use Rattle.core.proofs.get_request.Statement.{statement}
 use Rattle.core.proofs.get_request.Tie as tie
@@ -31,7 +32,7 @@ refuse-requires c κs = search needs
 
 returns-3 : tie.Need-returns-3
 unfolding request
-returns-3 c = (λ L s e1 e2 e3. told-refuse L s _ 22 (rw (no-get (c .before .before .before .before .args .group) (c .before .before .if1 .left) (c .before .if2 .left))) (c .refuse .ensures) refl, λ k. refl)
+returns-3 c = (λ L s e1 e2 e3. refused L s _ _ _ 22 _ refl (rw (no-get (c .before .before .before .before .args .group) (c .before .before .if1 .left) (c .before .if2 .left))) (c .refuse .ensures), λ k. refl)
 
 pub get-request-spec : {M : Type 1} → statement M
 get-request-spec =

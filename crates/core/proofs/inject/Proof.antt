@@ -1,12 +1,13 @@
 -- `core::inject` meets its contract. Assumes nothing.
 use Prim.Native.Nat.{ℕ, _<_}
 use mathlib.Core.Path.{_≡_, refl, ap, sym, _∙_}
-use mathlib.Core.List.{List}
+use mathlib.Core.List.{List, []}
 use native.Mathlib.Omega.{arith}
 use lib.Dec.{leb}
 use borrow.Author.Tests.{leb-true, leb-false}
 use Rattle.rules.specs.Requests.{adapterInterrupt}
-use Rattle.rules.specs.State.{queued, addIo}
+use Rattle.rules.specs.State.{State, queued, addIo}
+use Rattle.rules.specs.Outcome.{accept}
 use Rattle.queues.specs.Queues.{sum}
 use Rattle.records.specs.Memory.{pendingOf}
 use Rattle.records.proofs.Laws.{queued-sum}
@@ -17,7 +18,8 @@ use Rattle.answers.specs.declared.Answer.{Answer}
 use Rattle.core.specs.Cases.{answerFor}
 use Rattle.values.specs.declared.Reply.{Reply}
 use Rattle.values.specs.States.{stateWith}
-use Rattle.core.proofs.Laws.{as-it-was, told-refuse, told-accept, replies, none-there, dropped-there, full-there, appended-there, out-of-range, nobody-there, is-dropped, is-full, is-appended, injected-is, code-of, place-of}
+use Rattle.answers.proofs.Laws.{refused-as, accepted}
+use Rattle.core.proofs.Laws.{as-it-was, replies, none-there, dropped-there, full-there, appended-there, out-of-range, nobody-there, is-dropped, is-full, is-appended, injected-is, code-of, place-of}
 use borrow.Author.Needs.{needs}
 use Rattle.core.proofs.inject.Statement.{statement}
 use Rattle.core.proofs.inject.Tie as tie
@@ -34,8 +36,9 @@ returns c =
     let f = c .before .before .before .before in
     let a = f .args in (
       λ g b. replies _ _ _ _ _ _ _ _ _ _ (c .with-answer .ensures) (λ L s e1 e2 e3 e4 e5 e6.
-          told-refuse L s _ 22 (out-of-range L s (a .ais) (a .device) (a .place) (a .id .0) b (omega (arith, e1, c .before .before .if1 .taken)))
-          (c .before .refuse .ensures) (as-it-was s _ _ _ _ e4 e5 e6)),
+          refused-as L s _ _ _ 22 _ (as-it-was s _ _ _ _ e4 e5 e6)
+          (out-of-range L s (a .ais) (a .device) (a .place) (a .id .0) b (omega (arith, e1, c .before .before .if1 .taken)))
+          (c .before .refuse .ensures)),
       (
         (f .pre .1, place-of (c .with-answer .ensures) (f .pre .2)),
         (
@@ -129,9 +132,10 @@ returns-2 c =
     let f = start j in
     let a = f .args in (
       λ g b. replies _ _ _ _ _ _ _ _ _ _ (c .with-answer2 .ensures) (λ L s e1 e2 e3 e4 e5 e6.
-          told-refuse L s _ 22 (nobody-there L s (a .ais) (a .device) (a .place) (a .id .0) b (omega (arith, e1, in-range j)) e6
+          refused-as L s _ _ _ 22 _ (as-it-was s _ _ _ _ e4 e5 e6)
+          (nobody-there L s (a .ais) (a .device) (a .place) (a .id .0) b (omega (arith, e1, in-range j)) e6
           (none-there _ _ _ _ (sym (j .inject .ensures) ∙ c .before .before .enum-told .given .1)))
-          (c .before .refuse2 .ensures) (as-it-was s _ _ _ _ e4 e5 e6)),
+          (c .before .refuse2 .ensures)),
       (
         (f .pre .1, place-of (c .with-answer2 .ensures) (f .pre .2)),
         (
@@ -149,8 +153,10 @@ returns-3 c =
     let a = f .args in (
       λ g b. replies _ _ _ _ _ _ _ _ _ _ (c .with-answer3 .ensures) (λ L s e1 e2 e3 e4 e5 e6.
           let d = dropped-there _ _ _ _ (sym (j .inject .ensures) ∙ c .before .before .enum-told2 .given .1) in
-          told-accept L s _ 0 s (is-dropped L s (a .ais) (a .device) (a .place) (a .id .0) b (omega (arith, e1, in-range j)) e6 (d .0) e3 e5 (d .1))
-          (c .before .accept .ensures) (as-it-was s _ _ _ _ e4 e5 e6)),
+          accepted L s _ _ _ 0 _ [] _
+          (is-dropped L s (a .ais) (a .device) (a .place) (a .id .0) b (omega (arith, e1, in-range j)) e6 (d .0) e3 e5 (d .1)
+          ∙ ap (λ (t : State). accept 0 t []) (as-it-was s _ _ _ _ e4 e5 e6))
+          (c .before .accept .ensures) refl),
       (
         (f .pre .1, place-of (c .with-answer3 .ensures) (f .pre .2)),
         (
@@ -168,9 +174,10 @@ returns-4 c =
     let a = f .args in (
       λ g b. replies _ _ _ _ _ _ _ _ _ _ (c .with-answer4 .ensures) (λ L s e1 e2 e3 e4 e5 e6.
           let d = full-there _ _ _ _ (sym (j .inject .ensures) ∙ c .before .before .enum-told3 .given .1) in
-          told-refuse L s _ 16 (is-full L s (a .ais) (a .device) (a .place) (a .id .0) b (omega (arith, e1, in-range j)) e6 (d .0) e3 e5 (d .1)
+          refused-as L s _ _ _ 16 _ (as-it-was s _ _ _ _ e4 e5 e6)
+          (is-full L s (a .ais) (a .device) (a .place) (a .id .0) b (omega (arith, e1, in-range j)) e6 (d .0) e3 e5 (d .1)
           (omega (arith, e2, leb-true (a .room) (j .before .before .queued .result) (d .2), ap queued e4, all-counted j g)))
-          (c .before .refuse3 .ensures) (as-it-was s _ _ _ _ e4 e5 e6)),
+          (c .before .refuse3 .ensures)),
       (
         (f .pre .1, place-of (c .with-answer4 .ensures) (f .pre .2)),
         (
@@ -190,13 +197,15 @@ returns-5 c =
     let d = appended-there _ _ _ _ _ (sym (j .inject .ensures) ∙ k .what .given .1) in (
       λ g b. replies _ _ _ _ _ _ _ _ _ _ (c .with-answer5 .ensures) (λ L s e1 e2 e3 e4 e5 e6.
           let h : a .id .0 < L .places = omega (arith, e1, in-range j) in
-          told-accept L s _ 1 _ (is-appended L s (a .ais) (a .device) (a .place) (a .id .0) b h e6 (d .0) e3 e5 (d .1)
-          (omega (arith, e2, leb-false (a .room) (j .before .before .queued .result) (d .2), ap queued e4, all-counted j g))) (c .before .accept2 .ensures)
-          (injected-is L s (a .ais) (a .device) (a .place) (a .id .0) b h e6 (d .0) e3 e5 _ e4
+          accepted L s _ _ _ 1 _ [] _
+          (is-appended L s (a .ais) (a .device) (a .place) (a .id .0) b h e6 (d .0) e3 e5 (d .1)
+          (omega (arith, e2, leb-false (a .room) (j .before .before .queued .result) (d .2), ap queued e4, all-counted j g))
+          ∙ ap (λ (t : State). accept 1 t []) (injected-is L s (a .ais) (a .device) (a .place) (a .id .0) b h e6 (d .0) e3 e5 _ e4
           ∙ (λ i. stateWith s (a .id .0) (placeOf (a .place))
           (sym (c .before .before .append-interrupt .ensures .0 g
           ∙ ap (λ (x : Subclass). addIo (x .0) (adapterInterrupt (x .0)) (pendingOf (a .order .now) (a .counts .now) (a .slots .now) g)) (d .3)) i)
-          (deviceOf (sym (j .before .after-injection .ensures) i))))),
+          (deviceOf (sym (j .before .after-injection .ensures) i)))))
+          (c .before .accept2 .ensures) refl),
       (
         (c .before .before .append-interrupt .ensures .1, place-of (c .with-answer5 .ensures) (f .pre .2)),
         (

@@ -10,7 +10,8 @@ use borrow.Author.Tests.{le-leb, lt-leb}
 use Rattle.rules.specs.Bytes.{field}
 use Rattle.rules.specs.Requests.{request, clearsIo, isZero}
 use Rattle.rules.proofs.Checks.{passes, fails}
-use Rattle.outgoing.proofs.Laws.{refused, accepted, not-refused, found-at, both-zero, first-word, second-word, clears-none, clears-one}
+use Rattle.answers.proofs.Laws.{refused, accepted, not-refused}
+use Rattle.outgoing.proofs.Laws.{found-at, both-zero, first-word, second-word, clears-none, clears-one}
 use Rattle.outgoing.proofs.clear_io.Statement.{statement}
 use Rattle.outgoing.proofs.clear_io.Tie as tie
 

@@ -7,7 +7,8 @@ use borrow.Author.Tests.{eq-eqb, ne-eqb}
 use Rattle.rules.specs.Requests.{request}
 use Rattle.rules.proofs.Checks.{passes, fails}
 use Rattle.queues.proofs.Laws.{sum-none}
-use Rattle.outgoing.proofs.Laws.{none-left, refused, accepted, not-refused, clears-all}
+use Rattle.answers.proofs.Laws.{refused, accepted, not-refused}
+use Rattle.outgoing.proofs.Laws.{none-left, clears-all}
 use Rattle.outgoing.proofs.clear_irqs.Statement.{statement}
 use Rattle.outgoing.proofs.clear_irqs.Tie as tie
 

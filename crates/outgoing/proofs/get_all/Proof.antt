@@ -10,7 +10,8 @@ use Rattle.rules.specs.State.{listing}
 use Rattle.rules.specs.Requests.{request}
 use Rattle.rules.proofs.Checks.{passes, fails}
 use Rattle.records.specs.Memory.{pendingOf}
-use Rattle.outgoing.proofs.Laws.{refused, accepted, not-refused, lists-none, lists-all, wrote-long}
+use Rattle.answers.proofs.Laws.{refused, accepted, not-refused}
+use Rattle.outgoing.proofs.Laws.{lists-none, lists-all, wrote-long}
 use Rattle.outgoing.proofs.get_all.Statement.{statement}
 use Rattle.outgoing.proofs.get_all.Tie as tie
 

@@ -9,7 +9,8 @@ use borrow.Author.Tests.{lt-leb, ltb-true}
 use Rattle.rules.specs.Take.{takes}
 use Rattle.rules.proofs.Checks.{fails, passed}
 use Rattle.records.specs.Memory.{pendingOf}
-use Rattle.outgoing.proofs.Laws.{service-there, service-absent, mchk-there, mchk-absent, refused, not-refused, found-at, NoMchk, NoService, NoDone, no-mchk, no-service, no-done, hands-mchk, hands-service, hands-done, hands-nothing, hands-io, hands, hands-none}
+use Rattle.answers.proofs.Laws.{refused, not-refused}
+use Rattle.outgoing.proofs.Laws.{service-there, service-absent, mchk-there, mchk-absent, found-at, NoMchk, NoService, NoDone, no-mchk, no-service, no-done, hands-mchk, hands-service, hands-done, hands-nothing, hands-io, hands, hands-none}
 use Rattle.outgoing.proofs.take.Statement.{statement}
 use Rattle.outgoing.proofs.take.Tie as tie
 

@@ -9,11 +9,12 @@ use borrow.Author.Needs.{needs}
 use Rattle.rules.specs.State.{Pending, addAll, queued}
 use Rattle.rules.specs.Requests.{recordsIn, allWant, request}
 use Rattle.rules.proofs.Checks.{fails}
+use Rattle.answers.proofs.Laws.{refused}
 use Rattle.slots.specs.Slots.{slotCount}
 use Rattle.queues.specs.Queues.{sum}
 use Rattle.records.specs.Memory.{pendingOf}
 use Rattle.records.specs.Cases.{checkFrom, answerTo}
-use Rattle.records.proofs.Laws.{queued-sum, add-none, answer-good, refused, enqueuing, enqueue-bad, enqueue-good}
+use Rattle.records.proofs.Laws.{queued-sum, add-none, answer-good, enqueuing, enqueue-bad, enqueue-good}
 use Rattle.records.proofs.enqueue_irqs.Statement.{statement}
 use Rattle.records.proofs.enqueue_irqs.Tie as tie
 
@@ -24,8 +25,8 @@ returns : tie.Need-returns
 unfolding request
 returns c =
     let f = c .before .before .before in (
-      λ L s er ep. refused L s _ _ _ _ 22 ep (c .refuse .ensures)
-          (fails _ _ _ (rw (eq-eqb (f .args .attr) 0 (c .before .if1 .taken)))),
+      λ L s er ep. refused L s _ _ _ 22 _ ep
+          (fails _ _ _ (rw (eq-eqb (f .args .attr) 0 (c .before .if1 .taken)))) (c .refuse .ensures),
       (f .pre .1, λ k. (refl, refl, refl, refl)),
     )
 
@@ -36,8 +37,8 @@ returns-2 : tie.Need-returns-2
 unfolding request
 returns-2 c =
     let f = c .before .before .before .before in (
-      λ L s er ep. refused L s _ _ _ _ 22 ep (c .refuse2 .ensures)
-          (fails _ _ _ (rw (ne-eqb (f .args .attr) 0 (c .before .before .if1 .left), lt-leb (f .args .attr) 18576 (c .before .if2 .taken)))),
+      λ L s er ep. refused L s _ _ _ 22 _ ep
+          (fails _ _ _ (rw (ne-eqb (f .args .attr) 0 (c .before .before .if1 .left), lt-leb (f .args .attr) 18576 (c .before .if2 .taken)))) (c .refuse2 .ensures),
       (f .pre .1, λ k. (refl, refl, refl, refl)),
     )
 
@@ -49,12 +50,12 @@ unfolding request
 returns-3 c =
     let f = c .before .before .before .before .before in
     let a = f .args in (
-      λ L s er ep. refused L s _ _ _ _ 22 ep (c .refuse3 .ensures)
+      λ L s er ep. refused L s _ _ _ 22 _ ep
           (fails _ _ _ (rw (
             ne-eqb (a .attr) 0 (c .before .before .before .if1 .left),
             le-leb (a .attr) 18576 (c .before .before .if2 .left),
             ne-eqb (a .attr % 72) 0 (c .before .if3 .taken),
-          ))),
+          ))) (c .refuse3 .ensures),
       (f .pre .1, λ k. (refl, refl, refl, refl)),
     )
 
@@ -65,9 +66,9 @@ returns-4 : tie.Need-returns-4
 returns-4 c =
     let f = c .before .before .before .before .before .before in
     let a = f .args in (
-      λ L s er ep. refused L s _ _ _ _ 14 ep (c .refuse4 .ensures)
+      λ L s er ep. refused L s _ _ _ 14 _ ep
           (enqueuing L s (a .attr) (a .payload .now) (c .before .before .before .before .if1 .left) (c .before .before .before .if2 .left) (c .before .before .if3 .left)
-          ∙ fails _ _ _ (lt-leb (a .attr) (length (a .payload .now)) (c .before .if4 .taken))),
+          ∙ fails _ _ _ (lt-leb (a .attr) (length (a .payload .now)) (c .before .if4 .taken))) (c .refuse4 .ensures),
       (f .pre .1, λ k. (refl, refl, refl, refl)),
     )
 

@@ -13,7 +13,8 @@ use Rattle.slots.specs.Slots.{slotCount, slot}
 use Rattle.queues.specs.Queues.{sum, queues}
 use Rattle.search.specs.declared.Found.the-variants.{At, None}
 use Rattle.search.specs.Search.{wanted, searchQueue, searchQueues}
-use Rattle.search.proofs.Laws.{sum-next, later, search-over, search-queue, search-end, search-record}
+use Rattle.queues.proofs.Laws.{sum-next}
+use Rattle.search.proofs.Laws.{later, search-over, search-queue, search-end, search-record}
 use Rattle.search.proofs.find.Statement.{statement}
 use Rattle.search.proofs.find.Tie as tie
 

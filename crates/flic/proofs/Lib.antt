@@ -14,3 +14,4 @@ pub mod Called
 pub mod Four
 pub mod All
 pub mod Calls
+pub mod Fresh

@@ -3,7 +3,7 @@ use Prim.Native.Nat.{ℕ, _≤_}
 use mathlib.Core.Path.{_≡_, refl, ap, sym, _∙_, subst}
 use mathlib.Core.Bool.{Bool}
 use mathlib.Core.List.{List, [], _∷_, _++_}
-use lib.ListN.{length, drop}
+use lib.ListN.{length}
 use lib.ListN.{take as first}
 use Rattle.rules.specs.State.{State, paperLimits, fresh}
 use Rattle.rules.specs.Outcome.{Answer as Told}
@@ -15,9 +15,9 @@ use Rattle.answers.specs.declared.Answer.{Answer}
 use Rattle.adapters.specs.declared.Device.{Device}
 use Rattle.adapters.specs.declared.Place.{Place}
 use Rattle.flic.specs.declared.Controller.{Controller}
-use Rattle.flic.specs.Surface.{stateOf, Made, Requested, Played}
+use Rattle.flic.specs.Surface.{Made, Requested, Played}
 use Rattle.flic.specs.Chain.{Host, its-own, asked, saw, Ran}
-use Rattle.flic.proofs.Follows.{hostState, Good, own-length, Stepped, requested, played, Follows, follows}
+use Rattle.flic.proofs.Follows.{hostState, Good, own-length, Stepped, requested, played, follows}
 
 -- A host that the code made, with this capability.
 pub record Fresh (ais : Bool) (f : Host) : Type 0 where

@@ -2,8 +2,8 @@
 use Prim.Native.Nat.{ℕ}
 use mathlib.Core.Path.{_≡_, refl, ap, sym, _∙_, subst}
 use mathlib.Core.Bool.{Bool}
-use mathlib.Core.List.{List, [], _∷_}
-use lib.ListN.{length}
+use mathlib.Core.List.{List, _∷_}
+use lib.ListN.{length, length-map}
 use Rattle.rules.specs.State.{State, paperLimits}
 use Rattle.rules.specs.Outcome.{Outcome, refuse, result}
 use Rattle.rules.specs.Outcome.{Answer as Told}
@@ -15,7 +15,6 @@ use Rattle.adapters.specs.Values.{placeOf}
 use Rattle.flic.specs.declared.Controller.{Controller}
 use Rattle.flic.specs.Surface.{stateOf, Valid, Steps, Requested, Taken, Played}
 use Rattle.flic.specs.Chain.{Host, Lends, its-own, another, asked, saw, Ran, end, set, get, take, write, play}
-use Rattle.flic.proofs.Tables.{length-map}
 use Rattle.flic.proofs.Promises.{next-sound, wrong-table, not-zero}
 
 abbrev pub hostState : Host → State
@@ -27,7 +26,7 @@ Good h = Valid (h .ctl) (h .dev) (h .tab)
 
 pub own-length : (h : Host) → Good h → length (h .tab) ≡ paperLimits .places
 unfolding stateOf
-own-length h g = sym (length-map placeOf (h .tab)) ∙ g .sound .table
+own-length h g = sym (length-map (h .tab) placeOf) ∙ g .sound .table
 
 -- ---- one call
 -- what one call comes to on a host: the machine's step, and a host that stands for the machine's next state

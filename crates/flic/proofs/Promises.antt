@@ -1,19 +1,18 @@
 -- From what the inner functions promise to what the public calls promise.
-use Prim.Native.Nat.{ℕ, zero, suc}
+use Prim.Native.Nat.{ℕ}
 use mathlib.Core.Path.{_≡_, refl, ap, sym, _∙_, subst}
 use mathlib.Core.Bool.{Bool, true, false}
-use mathlib.Core.List.{List, [], _∷_, map}
+use mathlib.Core.List.{List, map}
 use native.Mathlib.Omega.{arith}
-use lib.ListN.{length, getD, set, replicate, length-replicate}
+use lib.ListN.{length, getD, set, replicate, length-replicate, List·getD-map}
 use lib.Seq.{set-getD}
 use lib.Dec.{eqb}
 use borrow.Author.Tests.{eq-eqb, ne-eqb, eqb-true, eqb-false}
 use Rattle.rules.specs.Bytes.{choose}
-use Rattle.rules.specs.State.{State, Pending, Place as RulesPlace, free, fresh, paperLimits}
+use Rattle.rules.specs.State.{State, Pending, free, fresh, paperLimits}
 use Rattle.rules.specs.Outcome.{Outcome, refuse, need_else_⨾_, result}
 use Rattle.rules.specs.Outcome.{Answer as Told}
-use Rattle.rules.specs.Requests.{setRequest, getRequest, request}
-use Rattle.rules.specs.Machine.{Ask, Call, setAttr, getAttr, outcome, step}
+use Rattle.rules.specs.Machine.{Ask, setAttr, getAttr, outcome, step}
 use Rattle.rules.proofs.Checks.{passes, fails}
 use Rattle.rules.proofs.Lists.{All, all-set, all-get, all-replicate}
 use Rattle.rules.proofs.Reachable.{Sound, kept-step, fresh-sound}
@@ -31,9 +30,9 @@ use Rattle.values.specs.States.{aboutOf, stateWith}
 use Rattle.flic.specs.declared.Controller.{Controller}
 use Rattle.flic.specs.declared.Decision.{Decision}
 use Rattle.flic.specs.declared.Started.{Started}
-use Rattle.flic.specs.Surface.{stateOf, Ready, Valid, Steps, Made, Requested}
+use Rattle.flic.specs.Surface.{stateOf, Valid, Steps, Made, Requested}
 use Rattle.flic.specs.Inner.{Began, placeAfter, Decided, Got}
-use Rattle.flic.proofs.Tables.{map-set, getD-map, put-and-change}
+use Rattle.flic.proofs.Tables.{map-set, map-replicate, put-and-change}
 
 canonical-unused : Canonical unused
 canonical-unused = record { unusedOne = λ e. refl; iscSmall = omega arith; maskedMaskable = λ e. e }
@@ -53,7 +52,7 @@ module _ (c c′ : Controller) (d : Device) (t : List Place) where
   -- a place as the rules see it
   seen-place : (id : ℕ) → getD (stateOf c d t .adapters) id free ≡ placeOf (getD t id unused)
   unfolding stateOf placeOf choose
-  seen-place id = getD-map placeOf t id unused
+  seen-place id = List·getD-map placeOf t id unused
 
   next-state : (id : ℕ) (d′ : Device) (p : Place) → c′ .ais ≡ c .ais
       → stateWith (stateOf c d t) id (placeOf p) (pendingOf (c′ .order) (c′ .counts) (c′ .slots) (c′ .singles)) (deviceOf d′) ≡ stateOf c′ d′ (set t id p)
@@ -143,10 +142,6 @@ pub place-named : (a : Answer) (s : State) (id : ℕ) (b : List ℕ) (q : Pendin
 place-named a s id b q d e f = f ∙ (λ i. record { code = a .code; count = a .count; next = stateWith s id (placeOf ((sym e) i)) q (deviceOf d); buffer = b })
 
 -- ---- a fresh controller
-map-replicate {ℓ} : {A B : Type ℓ} (f : A → B) (n : ℕ) (x : A) → map f (replicate n x) ≡ replicate n (f x)
-map-replicate f zero x = refl
-map-replicate f (suc n) x = ap (λ l. f x ∷ l) (map-replicate f n x)
-
 -- a table that is restored from an image of zeros
 module _ (t : List Place) (e : length t ≡ paperLimits .places) where
   cleared : restored t (replicate (paperLimits .places) 0) (paperLimits .places) ≡ replicate (paperLimits .places) unused

@@ -8,12 +8,11 @@ use native.Mathlib.Omega.{arith}
 use native.Mathlib.Nat.{zero-add, suc-add}
 use lib.ListN.{length, getD, take, drop, replicate, length-append, length-replicate}
 use lib.Seq.{take-at, drop-at}
-use Rattle.rules.specs.Bytes.{choose, byte, part}
+use Rattle.rules.specs.Bytes.{choose}
 use Rattle.rules.specs.State as rules
 use Rattle.rules.specs.State.{State, Pending, Record, free, holds, queued, listing, paperLimits}
-use Rattle.rules.proofs.Lists.{All, Maybe, all-append, flatten-append}
-use Rattle.rules.proofs.Reachable.{SoundPlace, Whole, IsIo, IsKind, IoQueues, SoundPending, Sound, listing-sendable}
-use Rattle.adapters.specs.declared.Device.{Device}
+use Rattle.rules.proofs.Lists.{All, Maybe, flatten-append}
+use Rattle.rules.proofs.Reachable.{SoundPlace, Whole, IsKind, SoundPending, Sound, listing-sendable}
 use Rattle.adapters.specs.declared.Place.{Place}
 use Rattle.adapters.specs.Values.{placeOf, unused, Canonical}
 use Rattle.slots.specs.Slots.{slot, listed}

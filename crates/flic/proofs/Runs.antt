@@ -5,17 +5,15 @@ use mathlib.Core.Path.{_≡_, refl, ap, sym, _∙_, subst}
 use mathlib.Core.Bool.{Bool, true, false, true≢false}
 use mathlib.Core.Option.{Option, none, some}
 use mathlib.Core.List.{List, [], _∷_, _++_, map}
-use native.Mathlib.Omega.{arith}
 use lib.ListN.{length, drop, replicate, length-replicate}
 use lib.Dec.{leb}
 use Rattle.rules.specs.State.{State, Pending, recordBytes, paperLimits, fresh, withPending}
 use Rattle.rules.specs.Outcome.{Outcome, refuse, accept, reset, result}
-use Rattle.rules.specs.Outcome.{Answer as Told}
 use Rattle.rules.specs.Machine.{Ask, setAttr, getAttr, guestTake, writeList, playList, Call, Seen, outcome, step}
 use Rattle.rules.specs.Take.{Handed, handed, handsOut, takes}
 use Rattle.rules.proofs.Checks.{passes, fails}
 use Rattle.rules.proofs.Reachable.{Sound, kept-step, fresh-sound}
-use Rattle.rules.proofs.Shapes.{Shape, Any, None, Sets, Gets, set-shape, get-shape, write-shape, take-shape, play-shape}
+use Rattle.rules.proofs.Shapes.{Shape, Any, None, Sets, Gets, set-shape, get-shape, write-shape, play-shape}
 use Rattle.answers.specs.declared.Answer.{Answer}
 use Rattle.adapters.specs.declared.Device.{Device}
 use Rattle.adapters.specs.declared.Place.{Place}
@@ -23,10 +21,10 @@ use Rattle.adapters.specs.Values.{unused, placeOf, deviceOf}
 use Rattle.records.specs.Memory.{pendingOf}
 use Rattle.flic.specs.declared.Controller.{Controller}
 use Rattle.flic.specs.Surface.{stateOf, Ready, Valid, Steps, Requested, Taken, Played}
-use Rattle.flic.specs.Chain.{Host, Lends, its-own, another, asked, saw, Ran, end, set, get, take, write, play}
+use Rattle.flic.specs.Chain.{Host, Lends, its-own, another, asked, Ran, end, set, get, take, write, play}
 use Rattle.flic.proofs.Promises.{by-length}
 use Rattle.flic.proofs.Follows.{hostState, Good, own-length, Tabled, refused-table, requested, taken, played}
-use Rattle.flic.proofs.Represent.{Keeps, keep, Represents, represent}
+use Rattle.flic.proofs.Represent.{keep, Represents, represent}
 
 -- ---- every contract has an answer
 module _ (c : Controller) (d : Device) (t : List Place) where

@@ -2,21 +2,16 @@
 use Prim.Native.Nat.{ℕ, zero, suc}
 use mathlib.Core.Path.{_≡_, refl, ap}
 use mathlib.Core.List.{List, [], _∷_, map}
-use lib.ListN.{length, getD, set}
-
-pub length-map {ℓ} : {A B : Type ℓ} (f : A → B) (t : List A) → length (map f t) ≡ length t
-length-map f [] = refl
-length-map f (x ∷ t) = ap suc (length-map f t)
+use lib.ListN.{getD, set, replicate}
 
 pub map-set {ℓ} : {A B : Type ℓ} (f : A → B) (t : List A) (i : ℕ) (x : A) → map f (set t i x) ≡ set (map f t) i (f x)
 map-set f [] i x = refl
 map-set f (y ∷ t) zero x = refl
 map-set f (y ∷ t) (suc i) x = ap (λ l. f y ∷ l) (map-set f t i x)
 
-pub getD-map {ℓ} : {A B : Type ℓ} (f : A → B) (t : List A) (i : ℕ) (d : A) → getD (map f t) i (f d) ≡ f (getD t i d)
-getD-map f [] i d = refl
-getD-map f (y ∷ t) zero d = refl
-getD-map f (y ∷ t) (suc i) d = getD-map f t i d
+pub map-replicate {ℓ} : {A B : Type ℓ} (f : A → B) (n : ℕ) (x : A) → map f (replicate n x) ≡ replicate n (f x)
+map-replicate f zero x = refl
+map-replicate f (suc n) x = ap (λ l. f x ∷ l) (map-replicate f n x)
 
 -- one that is not there is not changed either
 pub put-and-change {ℓ} : {A : Type ℓ} (f : A → A) (t : List A) (i : ℕ) (x d : A) → set (set t i x) i (f (getD (set t i x) i d)) ≡ set t i (f x)

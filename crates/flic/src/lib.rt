@@ -2,9 +2,8 @@
 ghost use mathlib.Core.Path.{_≡_};
 ghost use mathlib.Core.Bool.{Bool, true};
 ghost use lib.ListN.{length};
-ghost use Rattle.rules.specs.State.{State, paperLimits};
+ghost use Rattle.rules.specs.State.{paperLimits};
 ghost use Rattle.rules.specs.Machine.{setAttr, getAttr};
-ghost use Rattle.rules.specs.Take.{takes};
 ghost use Rattle.adapters.specs.Values.{Canonical, withMasked};
 ghost use Rattle.queues.specs.Queues.{Held};
 ghost use Rattle.flic.specs.Surface.{Ready, Valid, Made, Requested, Taken};

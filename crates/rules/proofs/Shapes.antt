@@ -1,18 +1,18 @@
 -- What the outcome of a call can be: a set request writes nothing, a get request and the writing of a list leave the state as it was, and no call
 -- but the playing of a list is refused part-way.
-use Prim.Native.Nat.{ℕ, suc, _/_}
+use Prim.Native.Nat.{ℕ, suc}
 use mathlib.Core.Path.{_≡_, refl}
 use mathlib.Core.Bool.{Bool, true, false}
 use mathlib.Core.Option.{Option, none, some}
 use mathlib.Core.List.{List, [], _∷_}
 use Rattle.rules.specs.Bytes.{choose}
-use Rattle.rules.specs.State.{Limits, Adapter, Place, free, holds, Record, recordBytes, Pending, State}
+use Rattle.rules.specs.State.{Limits, Adapter, Place, free, holds, Record, Pending, State}
 use Rattle.rules.specs.Outcome.{Outcome, refuse, accept, reset, need_else_⨾_, holder_else_⨾_}
 use Rattle.rules.specs.Requests.{Request, noRequest, getAllIrqs, enqueue, clearIrqs, apfEnable, apfDisableWait, adapterRegister, adapterModify, clearIoIrq, aism, airqInject, setAismAll, getAismAll, setGroups, getGroups, setRequest, getRequest, lists, enqueues, clears, flags, registers, modifies, removes, clearsIo, setsMode, injects, request}
 use Rattle.rules.specs.Take.{Handed, handsOut, takes}
 use Rattle.rules.specs.MoveList.{Entry, writes, onward, applies, plays}
 use Rattle.rules.specs.Machine.{setAttr, getAttr, guestTake, writeList, playList, outcome}
-use Rattle.rules.proofs.Lists.{All, all-get}
+use Rattle.rules.proofs.Lists.{all-get}
 
 -- accepted with such a next state and such bytes written; refused part-way only if
 abbrev pub Shape : (State → Type 0) → (List ℕ → Type 0) → Type 0 → Outcome → Type 0

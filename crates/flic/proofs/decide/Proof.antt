@@ -1,9 +1,6 @@
 -- `flic::decide` meets its contract. Assumes nothing.
-use mathlib.Core.Path.{refl, ap, sym, _∙_, subst}
+use mathlib.Core.Path.{refl, sym, _∙_, subst}
 use native.Mathlib.Omega.{arith}
-use Rattle.rules.specs.State.{Pending}
-use Rattle.answers.specs.declared.Answer.{Answer}
-use Rattle.adapters.specs.declared.Place.{Place}
 use Rattle.adapters.specs.Values.{Canonical}
 use Rattle.flic.proofs.Promises.{place-named}
 use borrow.Author.Needs.{needs}

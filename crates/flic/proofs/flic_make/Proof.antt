@@ -81,19 +81,19 @@ module _ {M : Type 1} (𝓤 : URA M) (H : Heap 𝓤) (A : Atoms 𝓤) (W : Given
 
   module _ (C′ : Calls 𝓤 H) (Λ : Loops 𝓤 H) (fm : FmC 𝓤 H (W .laws) C′) (known : Known 𝓤 H A mem′ run C′) (known-start : Triple 𝓤 (C′ start-def.name) (Start 𝓤 H A mem′ run)) (l₀ l₁ l₂ l₃ l₄ l₅ l₆ l₇ l₈ l₉ l₁₀ l₁₁ l₁₂ l₁₃ l₁₄ l₁₅ l₁₆ l₁₇ : ℕ) where
     abbrev E : Env 𝓤 H
-    E = Fresh.E 𝓤 H A W mem′ run a room tyBool (vbool ais) Post C′ Λ fm known [] l₀ l₁ l₂ l₃ l₄ l₅ l₆ l₇ l₈ l₉ l₁₀ l₁₁ l₁₂ l₁₃ l₁₄ l₁₅ l₁₆ l₁₇
+    E = Fresh.E 𝓤 H tyBool l₀ l₁ l₂ l₃ l₄ l₅ l₆ l₇ l₈ l₉ l₁₀ l₁₁ l₁₂ l₁₃ l₁₄ l₁₅ l₁₆ l₁₇
 
-    abbrev held : Content → Content → ℕ → List Content
-    held = Fresh.held 𝓤 H A W mem′ run a room tyBool (vbool ais) Post C′ Λ fm known [] l₀ l₁ l₂ l₃ l₄ l₅ l₆ l₇ l₈ l₉ l₁₀ l₁₁ l₁₂ l₁₃ l₁₄ l₁₅ l₁₆ l₁₇
+    abbrev held : Content → ℕ → List Content
+    held v₆ n = Fresh.held a (vbool ais) blank v₆ n
 
     -- the capability is stored
     stores-it : (z : Started) (c₁ : Controller) → Has c₁ → Is D.the-row (a .d) (D′.lowered (a .d) ∷ []) → Is St.the-row z (St′.lowered z ∷ []) → Began (length (a .t)) ais (a .c) (controller (c₁ .slots) (c₁ .order) (c₁ .counts) (c₁ .singles) (z .ais)) (a .d) z
-        → Sq W (Open H a (a .t) (a .d) c₁ (locals E (held blank (holds (St′.lowered z)) 9) [])) (runs C′ Λ E mir.t-10 (atRet E Post))
+        → Sq W (Open H a (a .t) (a .d) c₁ (locals E (held (holds (St′.lowered z)) 9) [])) (runs C′ Λ E mir.t-10 (atRet E Post))
     stores-it z c₁ g gd gz began =
         assigns ! (of-opd ! (load ! (from ! (fld ! refl (stop !))) (look-in ! 29 (sub ! 1 refl (whole !))))) (from ! (hop ! (look ! 19 refl) (fld ! refl (stop !)))) (store ! 12 refl (tt, tt)) $
         finishes 𝓤 H A W mem′ run a room tyBool (vbool ais) Post C′ Λ fm known [] l₀ l₁ l₂ l₃ l₄ l₅ l₆ l₇ l₈ l₉ l₁₀ l₁₁ l₁₂ l₁₃ l₁₄ l₁₅ l₁₆ l₁₇ z (controller (c₁ .slots) (c₁ .order) (c₁ .counts) (c₁ .singles) (z .ais)) gd g gz (λ e is. exits _ (z .device) _ (z .answer) (make-promises ais (a .c) _ (a .d) (a .t) z refl began) e is)
 
-    calls-it : Has (a .c) → Is D.the-row (a .d) (D′.lowered (a .d) ∷ []) → Sq W (Open H a (a .t) (a .d) (a .c) (locals E (held blank blank 8) [])) (runs C′ Λ E mir.t-9 (atRet E Post))
+    calls-it : Has (a .c) → Is D.the-row (a .d) (D′.lowered (a .d) ∷ []) → Sq W (Open H a (a .t) (a .d) (a .c) (locals E (held blank 8) [])) (runs C′ Λ E mir.t-9 (atRet E Post))
     calls-it gc gd =
         nothing ! $ owned ! bool (Is bool) (bool-makes 𝓤 H A W) ais _ refl $ fjoin ! $ owned ! D.the-row (Is D.the-row) (LL.makes D.the-type D′.the-plain 𝓤 H A) (a .d) _ gd $ fjoin ! $ owned ! bool (Is bool) (bool-makes 𝓤 H A W) (a .c .ais) _ refl $ fjoin ! $ owned ! usize (Is usize) (uint-makes 𝓤 H A W w64) (length (a .t)) _ (refl, room .0) $ fjoin ! $ nothing ! $
         -- [true; O; the table; the device record; what closes each; the arrays from 10; …]

@@ -1,5 +1,5 @@
 -- `flic::hand_out` meets its contract. Assumes nothing.
-use mathlib.Core.Path.{refl, ap, _∙_}
+use mathlib.Core.Path.{refl}
 use Rattle.rules.specs.State.{paperLimits}
 use Rattle.rules.specs.Machine.{step, outcome}
 use Rattle.flic.specs.Surface.{stateOf}

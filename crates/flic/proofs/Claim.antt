@@ -3,8 +3,7 @@ use Prim.Native.Nat.{ℕ, _≤_}
 use mathlib.Core.Path.{_≡_, refl, ap, sym, _∙_, subst}
 use mathlib.Core.Bool.{Bool}
 use mathlib.Core.List.{List, [], _∷_, _++_}
-use lib.ListN.{length}
-use lib.ListN.{take as first}
+use lib.ListN.{length, take}
 use Rattle.rules.specs.State.{State, paperLimits, fresh}
 use Rattle.rules.specs.Outcome.{Answer as Told}
 use Rattle.rules.specs.MoveList.{entries, total, countIn, mostRequests}
@@ -28,37 +27,56 @@ pub record Fresh (ais : Bool) (f : Host) : Type 0 where
   pub answer : Answer
   pub made : Made ais ctl (f .ctl) dev (f .dev) tab (f .tab) answer
 
--- Every list of calls cs on a fresh host, which leaves h; its move list is written into b, at least as long as the list; exactly as many bytes as
--- the count says are played on g, which any list of calls on a fresh host of the same capability left.
-module _ (ais : Bool) (cs : List Call) (ss : List Seen) (h : Host) (b b′ : List ℕ) (w : Answer) (g k : Host) (p : Answer) where
-  pub record Moves : Type 0 where
-    pub f₁ : Host
-    pub fresh₁ : Fresh ais f₁
-    pub ran₁ : Ran f₁ cs ss h
-    pub wrote : Requested writeList (h .ctl) (h .ctl) (h .dev) (h .dev) (h .tab) (h .tab) b b′ w
-    pub long : total (entries (after paperLimits (fresh paperLimits ais) cs)) ≤ length b
-    pub f₂ : Host
-    pub fresh₂ : Fresh ais f₂
-    pub others : List Call
-    pub said : List Seen
-    pub ran₂ : Ran f₂ others said g
-    pub plays : Played (g .ctl) (k .ctl) (g .dev) (k .dev) (g .tab) (k .tab) (first (w .count) b′) p
+-- The plain machine with this capability, fresh at the start: its state after a list of calls, and its answers to a further list.
+abbrev pub machine : Bool → List Call → State
+machine ais cs = after paperLimits (fresh paperLimits ais) cs
 
-  -- the calls on the first controller, the writing included
-  abbrev pub withWrite : List Call
-  withWrite = cs ++ (asked writeList b (paperLimits .places) ∷ [])
+abbrev pub machineAnswers : Bool → List Call → List Call → List Seen
+machineAnswers ais cs ds = answers paperLimits (machine ais cs) ds
 
-  pub record Claim : Type 0 where
-    -- the first controller gives the plain machine's answers, counts and bytes
-    pub first-seen : ss ++ (saw w b′ ∷ []) ≡ answers paperLimits (fresh paperLimits ais) withWrite
-    -- the written count is the list's length
-    pub written : (w .code ≡ 0) × (w .count ≡ total (entries (after paperLimits (fresh paperLimits ais) cs))) × (length (first (w .count) b′) ≡ w .count)
-    -- the second controller accepts exactly those bytes, as many requests as the list says, at most 131
-    pub accepted : (p .code ≡ 0) × (p .count ≡ countIn (first (w .count) b′)) × (p .count ≤ mostRequests)
-    -- from then on both give the plain machine's answers, counts and bytes for every further list
-    pub alike : (ds : List Call) (xs ys : List Seen) (h′ k′ : Host) → Ran h ds xs h′ → Ran k ds ys k′
-        → (xs ≡ answers paperLimits (after paperLimits (fresh paperLimits ais) withWrite) ds)
-        × (ys ≡ answers paperLimits (after paperLimits (fresh paperLimits ais) withWrite) ds)
+-- A move. Any list of calls on a fresh first host; the move list written into a buffer that is long enough; exactly as many bytes as the count says
+-- played on a second host, which any list of calls on a fresh one of the same capability left. Both calls are lent their host's own table.
+pub record Moved : Type 0 where
+  pub ais : Bool
+  pub start₁ : Host
+  pub fresh₁ : Fresh ais start₁
+  pub calls₁ : List Call
+  pub seen₁ : List Seen
+  pub first : Host
+  pub ran₁ : Ran start₁ calls₁ seen₁ first
+  pub buffer : List ℕ
+  pub left : List ℕ
+  pub wrote : Answer
+  pub writes : Requested writeList (first .ctl) (first .ctl) (first .dev) (first .dev) (first .tab) (first .tab) buffer left wrote
+  pub long : total (entries (machine ais calls₁)) ≤ length buffer
+  pub start₂ : Host
+  pub fresh₂ : Fresh ais start₂
+  pub calls₂ : List Call
+  pub seen₂ : List Seen
+  pub before : Host
+  pub ran₂ : Ran start₂ calls₂ seen₂ before
+  pub second : Host
+  pub played : Answer
+  pub plays : Played (before .ctl) (second .ctl) (before .dev) (second .dev) (before .tab) (second .tab) (take (wrote .count) left) played
+
+-- the bytes that are played; the calls on the first host, the writing included
+abbrev pub listOf : Moved → List ℕ
+listOf m = take (m .wrote .count) (m .left)
+
+abbrev pub callsOf : Moved → List Call
+callsOf m = m .calls₁ ++ (asked writeList (m .buffer) (paperLimits .places) ∷ [])
+
+-- Demand 3.
+pub record Claim (m : Moved) : Type 0 where
+  -- the first controller gives the plain machine's answers, counts and bytes, of the writing too
+  pub first-seen : m .seen₁ ++ (saw (m .wrote) (m .left) ∷ []) ≡ machineAnswers (m .ais) [] (callsOf m)
+  -- the writing is accepted, and its count is the list's length
+  pub written : (m .wrote .code ≡ 0) × (m .wrote .count ≡ total (entries (machine (m .ais) (m .calls₁)))) × (length (listOf m) ≡ m .wrote .count)
+  -- the second controller accepts exactly those bytes, whatever it held, and applies as many requests as they say, at most 131
+  pub accepted : (m .played .code ≡ 0) × (m .played .count ≡ countIn (listOf m)) × (m .played .count ≤ mostRequests)
+  -- from then on both give the plain machine's answers, counts and bytes, for every further list of calls
+  pub alike : (ds : List Call) (xs ys : List Seen) (e₁ e₂ : Host) → Ran (m .first) ds xs e₁ → Ran (m .second) ds ys e₂
+      → (xs ≡ machineAnswers (m .ais) (callsOf m) ds) × (ys ≡ machineAnswers (m .ais) (callsOf m) ds)
 
 -- what the plain machine answers to one list after another
 answers-append : (s : State) (cs ds : List Call) → answers paperLimits s (cs ++ ds) ≡ answers paperLimits s cs ++ answers paperLimits (after paperLimits s cs) ds
@@ -93,54 +111,74 @@ module _ {ais : Bool} {f h : Host} {cs : List Call} {ss : List Seen} (made : Fre
   ran-ais = ap (λ (s : State). s .ais) ran-state ∙ reachable paperLimits ais cs .same-ais ∙ fresh-ais paperLimits ais
 
 -- The claim.
-pub claim : (ais : Bool) (cs : List Call) (ss : List Seen) (h : Host) (b b′ : List ℕ) (w : Answer) (g k : Host) (p : Answer)
-    → Moves ais cs ss h b b′ w g k p → Claim ais cs ss h b b′ w g k p
-unfolding answers after
-claim ais cs ss h b b′ w g k p m =
-    record {
-      first-seen =
-          (λ i. ran-seen (m .fresh₁) (m .ran₁) i ++ (seen ((sym wrote-is) i) ∷ []))
-          ∙ sym (answers-append (fresh paperLimits ais) cs (asked writeList b (paperLimits .places) ∷ []));
-      written = (sym (ap (λ (a : Told). a .code) wrote-is) ∙ v .write-accepted, sym (ap (λ (a : Told). a .count) wrote-is) ∙ v .write-count, ap length (sym list-is) ∙ v .write-length ∙ ap (λ (a : Told). a .count) wrote-is);
-      accepted = (
-        sym (ap (λ (a : Told). a .code) played-is) ∙ v .play-accepted,
-        sym (ap (λ (a : Told). a .count) played-is) ∙ v .play-count ∙ ap countIn list-is,
-        subst (λ (n : ℕ). n ≤ mostRequests) (ap (λ (a : Told). a .count) played-is) (v .play-few),
-      );
-      alike = λ ds xs ys h′ k′ r₁ r₂. (
-        follows (ran-good (m .fresh₁) (m .ran₁)) r₁ .seen ∙ ap (λ (s : State). answers paperLimits s ds) (first-is ∙ sym then-is),
-        follows (play-step .good) r₂ .seen ∙ ap (λ (s : State). answers paperLimits s ds) (second-is ∙ sym then-is),
-      );
-    }
-  where
-    first-is : hostState h ≡ after paperLimits (fresh paperLimits ais) cs
-    first-is = ran-state (m .fresh₁) (m .ran₁)
+module _ (m : Moved) where
+  good₁ : Good (m .first)
+  good₁ = ran-good (m .fresh₁) (m .ran₁)
 
-    v : Move paperLimits ais cs b (hostState g)
-    v = move paperLimits movable-paper ais cs b (hostState g) (m .long) (ran-ais (m .fresh₂) (m .ran₂))
+  good₂ : Good (m .before)
+  good₂ = ran-good (m .fresh₂) (m .ran₂)
 
-    write-step : Stepped h (asked writeList b (length (h .tab))) (saw w b′) h
-    write-step = requested h (ran-good (m .fresh₁) (m .ran₁)) writeList tt b b′ (h .ctl) (h .dev) (h .tab) (h .tab) (h .tab) w (its-own refl) (m .wrote)
+  first-is : hostState (m .first) ≡ machine (m .ais) (m .calls₁)
+  first-is = ran-state (m .fresh₁) (m .ran₁)
 
-    wrote-is : step paperLimits (after paperLimits (fresh paperLimits ais) cs) (asked writeList b (paperLimits .places)) ≡ record { code = w .code; count = w .count; next = hostState h; buffer = b′ }
-    wrote-is =
-        (λ i. step paperLimits ((sym first-is) i) (asked writeList b ((sym (own-length h (ran-good (m .fresh₁) (m .ran₁)))) i)))
-        ∙ write-step .steps
+  moves : Move paperLimits (m .ais) (m .calls₁) (m .buffer) (hostState (m .before))
+  moves = move paperLimits movable-paper (m .ais) (m .calls₁) (m .buffer) (hostState (m .before)) (m .long) (ran-ais (m .fresh₂) (m .ran₂))
 
-    list-is : first (step paperLimits (after paperLimits (fresh paperLimits ais) cs) (asked writeList b (paperLimits .places)) .count) (step paperLimits (after paperLimits (fresh paperLimits ais) cs) (asked writeList b (paperLimits .places)) .buffer) ≡ first (w .count) b′
-    list-is = ap (λ (a : Told). first (a .count) (a .buffer)) wrote-is
+  -- the writing, as the machine's step
+  abbrev told : Told
+  told = step paperLimits (machine (m .ais) (m .calls₁)) (asked writeList (m .buffer) (paperLimits .places))
 
-    play-step : Stepped g (asked playList (first (w .count) b′) (length (g .tab))) (saw p (first (w .count) b′)) k
-    play-step = played g (ran-good (m .fresh₂) (m .ran₂)) (first (w .count) b′) (k .ctl) (k .dev) (g .tab) (k .tab) (k .tab) p (its-own refl) (m .plays)
+  write-step : Stepped (m .first) (asked writeList (m .buffer) (length (m .first .tab))) (saw (m .wrote) (m .left)) (m .first)
+  write-step =
+      requested (m .first) good₁ writeList tt (m .buffer) (m .left) (m .first .ctl) (m .first .dev) (m .first .tab) (m .first .tab) (m .first .tab) (m .wrote)
+      (its-own refl) (m .writes)
 
-    played-is : step paperLimits (hostState g) (asked playList (first (step paperLimits (after paperLimits (fresh paperLimits ais) cs) (asked writeList b (paperLimits .places)) .count) (step paperLimits (after paperLimits (fresh paperLimits ais) cs) (asked writeList b (paperLimits .places)) .buffer)) (paperLimits .places))
-        ≡ record { code = p .code; count = p .count; next = hostState k; buffer = first (w .count) b′ }
-    played-is =
-        (λ i. step paperLimits (hostState g) (asked playList (list-is i) ((sym (own-length g (ran-good (m .fresh₂) (m .ran₂)))) i)))
-        ∙ play-step .steps
+  wrote-is : told ≡ record { code = m .wrote .code; count = m .wrote .count; next = hostState (m .first); buffer = m .left }
+  wrote-is =
+      (λ i. step paperLimits ((sym first-is) i) (asked writeList (m .buffer) ((sym (own-length (m .first) good₁)) i)))
+      ∙ write-step .steps
 
-    then-is : after paperLimits (fresh paperLimits ais) (withWrite ais cs ss h b b′ w g k p) ≡ after paperLimits (fresh paperLimits ais) cs
-    then-is = after-append (fresh paperLimits ais) cs (asked writeList b (paperLimits .places) ∷ []) ∙ v .write-keeps
+  list-is : take (told .count) (told .buffer) ≡ listOf m
+  list-is = ap (λ (a : Told). take (a .count) (a .buffer)) wrote-is
 
-    second-is : hostState k ≡ after paperLimits (fresh paperLimits ais) cs
-    second-is = sym (ap (λ (a : Told). a .next) played-is) ∙ v .play-state ∙ v .write-keeps
+  -- the playing, as the machine's step
+  play-step : Stepped (m .before) (asked playList (listOf m) (length (m .before .tab))) (saw (m .played) (listOf m)) (m .second)
+  play-step =
+      played (m .before) good₂ (listOf m) (m .second .ctl) (m .second .dev) (m .before .tab) (m .second .tab) (m .second .tab) (m .played)
+      (its-own refl) (m .plays)
+
+  played-is : step paperLimits (hostState (m .before)) (asked playList (take (told .count) (told .buffer)) (paperLimits .places))
+      ≡ record { code = m .played .code; count = m .played .count; next = hostState (m .second); buffer = listOf m }
+  played-is =
+      (λ i. step paperLimits (hostState (m .before)) (asked playList (list-is i) ((sym (own-length (m .before) good₂)) i)))
+      ∙ play-step .steps
+
+  then-is : machine (m .ais) (callsOf m) ≡ machine (m .ais) (m .calls₁)
+  unfolding after
+  then-is = after-append (fresh paperLimits (m .ais)) (m .calls₁) (asked writeList (m .buffer) (paperLimits .places) ∷ []) ∙ moves .write-keeps
+
+  second-is : hostState (m .second) ≡ machine (m .ais) (m .calls₁)
+  second-is = sym (ap (λ (a : Told). a .next) played-is) ∙ moves .play-state ∙ moves .write-keeps
+
+  pub claim : Claim m
+  unfolding answers after
+  claim =
+      record {
+        first-seen =
+            (λ i. ran-seen (m .fresh₁) (m .ran₁) i ++ (seen ((sym wrote-is) i) ∷ []))
+            ∙ sym (answers-append (fresh paperLimits (m .ais)) (m .calls₁) (asked writeList (m .buffer) (paperLimits .places) ∷ []));
+        written = (
+          sym (ap (λ (a : Told). a .code) wrote-is) ∙ moves .write-accepted,
+          sym (ap (λ (a : Told). a .count) wrote-is) ∙ moves .write-count,
+          ap length (sym list-is) ∙ moves .write-length ∙ ap (λ (a : Told). a .count) wrote-is,
+        );
+        accepted = (
+          sym (ap (λ (a : Told). a .code) played-is) ∙ moves .play-accepted,
+          sym (ap (λ (a : Told). a .count) played-is) ∙ moves .play-count ∙ ap countIn list-is,
+          subst (λ (n : ℕ). n ≤ mostRequests) (ap (λ (a : Told). a .count) played-is) (moves .play-few),
+        );
+        alike = λ ds xs ys e₁ e₂ r₁ r₂. (
+          follows good₁ r₁ .seen ∙ ap (λ (s : State). answers paperLimits s ds) (first-is ∙ sym then-is),
+          follows (play-step .good) r₂ .seen ∙ ap (λ (s : State). answers paperLimits s ds) (second-is ∙ sym then-is),
+        );
+      }

@@ -15,16 +15,18 @@ use contract.Lifetimes
 use contract.Monad.{Fun, fact}
 use denote.Ref.{RefT, now}
 use Rattle.rules.specs.State.{paperLimits}
-use Rattle.rules.specs.Machine.{setAttr, getAttr}
+use Rattle.rules.specs.Machine.{setAttr, getAttr, writeList}
 use Rattle.answers.specs.declared.Answer.{Answer}
 use Rattle.adapters.specs.declared.Device.{Device}
 use Rattle.adapters.specs.declared.Place.{Place}
 use Rattle.flic.specs.declared.Controller.{Controller}
-use Rattle.flic.specs.Surface.{Ready, Valid, Made, Requested, Taken}
+use Rattle.flic.specs.Surface.{Ready, Valid, Made, Requested, Taken, Played}
 use Rattle.flic.proofs.flic_make as flic-make
 use Rattle.flic.proofs.flic_set as flic-set
 use Rattle.flic.proofs.flic_get as flic-get
 use Rattle.flic.proofs.flic_take as flic-take
+use Rattle.flic.proofs.flic_write_list as flic-write
+use Rattle.flic.proofs.flic_play_list as flic-play
 
 module _ {M : Type 1} (𝓤 : URA M) (H : Heap 𝓤) (A : Atoms 𝓤) (mem : Memory → SProp 𝓤) (run : Routine → Fun 𝓤)
     (c c′ : RefT Controller) (d d′ : RefT Device) (t t′ : RefT (List Place)) (b b′ : RefT (List ℕ)) (r : Answer) where
@@ -50,6 +52,21 @@ module _ {M : Type 1} (𝓤 : URA M) (H : Heap 𝓤) (A : Atoms 𝓤) (mem : Mem
     get-ensures : flic-get.ensures-1 𝓤 H κs A mem run c d t group attr b (record { entry = c; exit = c }) (record { entry = d; exit = d }) (record { entry = t; exit = t }) (record { entry = group; exit = group }) (record { entry = attr; exit = attr }) (record { entry = b; exit = b′ }) r
         ≡ fact 𝓤 (Requested (getAttr group attr) (now c) (now c) (now d) (now d) (now t) (now t) (now b) (now b′) r)
     get-ensures = refl
+
+  module _ (κs : Lifetimes.Lfts 4) where
+    write-requires : flic-write.requires-1 𝓤 H κs A mem run c d t b ≡ Premise
+    write-requires = refl
+
+    write-ensures : flic-write.ensures-1 𝓤 H κs A mem run c d t b (record { entry = c; exit = c }) (record { entry = d; exit = d }) (record { entry = t; exit = t }) (record { entry = b; exit = b′ }) r
+        ≡ fact 𝓤 (Requested writeList (now c) (now c) (now d) (now d) (now t) (now t) (now b) (now b′) r)
+    write-ensures = refl
+
+    play-requires : flic-play.requires-1 𝓤 H κs A mem run c d t b ≡ Premise
+    play-requires = refl
+
+    play-ensures : flic-play.ensures-1 𝓤 H κs A mem run c d t b (record { entry = c; exit = c′ }) (record { entry = d; exit = d′ }) (record { entry = t; exit = t′ }) (record { entry = b; exit = b }) r
+        ≡ fact 𝓤 (Played (now c) (now c′) (now d) (now d′) (now t) (now t′) (now b) r)
+    play-ensures = refl
 
   module _ (κs : Lifetimes.Lfts 2) (subclasses : ℕ) (external mcheck : Bool) where
     take-requires : flic-take.requires-1 𝓤 H κs A mem run c subclasses external mcheck b ≡ fact 𝓤 (Ready (now c))

@@ -1,10 +1,10 @@
 -- From what the inner functions promise to what the public calls promise.
-use Prim.Native.Nat.{ℕ}
+use Prim.Native.Nat.{ℕ, _≤_}
 use mathlib.Core.Path.{_≡_, refl, ap, sym, _∙_, subst}
 use mathlib.Core.Bool.{Bool, true, false}
 use mathlib.Core.List.{List, map}
 use native.Mathlib.Omega.{arith}
-use lib.ListN.{length, getD, set, replicate, length-replicate, List·getD-map}
+use lib.ListN.{length, getD, set, take, replicate, length-take, length-replicate, length-map, List·getD-map}
 use lib.Seq.{set-getD}
 use lib.Dec.{eqb}
 use borrow.Author.Tests.{eq-eqb, ne-eqb, eqb-true, eqb-false}
@@ -12,8 +12,8 @@ use Rattle.rules.specs.Bytes.{choose}
 use Rattle.rules.specs.State.{State, Pending, free, fresh, paperLimits}
 use Rattle.rules.specs.Outcome.{Outcome, refuse, need_else_⨾_, result}
 use Rattle.rules.specs.Outcome.{Answer as Told}
-use Rattle.rules.specs.Machine.{Ask, setAttr, getAttr, outcome, step}
-use Rattle.rules.proofs.Checks.{passes, fails}
+use Rattle.rules.specs.Machine.{Ask, setAttr, getAttr, writeList, playList, outcome, step}
+use Rattle.rules.proofs.Checks.{passes, fails, chosen, passed}
 use Rattle.rules.proofs.Lists.{All, all-set, all-get, all-replicate}
 use Rattle.rules.proofs.Reachable.{Sound, kept-step, fresh-sound}
 use Rattle.answers.specs.declared.Answer.{Answer}
@@ -22,16 +22,18 @@ use Rattle.adapters.specs.declared.Place.{Place}
 use Rattle.adapters.specs.Values.{placeOf, deviceOf, unused, Canonical, withMasked}
 use Rattle.queues.specs.Queues.{Held}
 use Rattle.records.specs.Memory.{pendingOf}
-use Rattle.image.specs.Image.{unpacked}
-use Rattle.image.proofs.Laws.{unpacked-zero}
-use Rattle.table.specs.Table.{restored}
-use Rattle.table.proofs.Tables.{restored-none, restored-whole}
+use Rattle.image.specs.Image.{imageSize, unpacked}
+use Rattle.image.proofs.Laws.{unpacked-zero, unpacked-table}
+use Rattle.image_places.proofs.Laws.{places-take}
+use Rattle.play.specs.Play.{stateOf as imageState}
+use Rattle.table.specs.Table.{snapTo, restored}
+use Rattle.table.proofs.Tables.{snap-all, restored-none, restored-all, restored-whole}
 use Rattle.values.specs.States.{aboutOf, stateWith}
 use Rattle.flic.specs.declared.Controller.{Controller}
 use Rattle.flic.specs.declared.Decision.{Decision}
 use Rattle.flic.specs.declared.Started.{Started}
-use Rattle.flic.specs.Surface.{stateOf, Valid, Steps, Made, Requested}
-use Rattle.flic.specs.Inner.{Began, placeAfter, Decided, Got}
+use Rattle.flic.specs.Surface.{stateOf, Valid, Steps, Made, Requested, Played}
+use Rattle.flic.specs.Inner.{Began, playedState, Replayed, Wrote, placeAfter, Decided, Got}
 use Rattle.flic.proofs.Tables.{map-set, map-replicate, put-and-change}
 
 canonical-unused : Canonical unused
@@ -184,4 +186,110 @@ module _ (ais : Bool) (c c′ : Controller) (d : Device) (t : List Place) (r : S
           },
         );
         wrong = λ w. let g = f .wrong w in (g .0, g .3, g .1, ap (restored t (r .image)) (g .2) ∙ restored-none t (r .image));
+      }
+
+-- ---- move lists
+pub replayed-answer : (s : State) (ais : Bool) (image b : List ℕ) (p : Pending) (device : Device) (a : Answer) (q : Bool) {x : Told}
+    → x ≡ record { code = a .code; count = a .count; next = choose q s (imageState ais (paperLimits .places) image p device); buffer = b }
+    → x ≡ record { code = a .code; count = a .count; next = choose q s (record { ais = ais; adapters = map placeOf (map unpacked (take (paperLimits .places) image)); pending = p; device = deviceOf device }); buffer = b }
+replayed-answer s ais image b p device a q e =
+    e
+    ∙ (λ i. record {
+      code = a .code;
+      count = a .count;
+      next = choose q s (record { ais = ais; adapters = places-take (paperLimits .places) image i; pending = p; device = deviceOf device });
+      buffer = b;
+    })
+
+module _ (c : Controller) (d : Device) (t : List Place) (b b′ : List ℕ) (r : Answer) (f : Wrote (length t) c d (snapTo t imageSize) b b′ r) where
+  imaged : length t ≡ paperLimits .places → All Canonical t → map placeOf t ≡ map placeOf (map unpacked (snapTo t imageSize))
+  imaged e h = sym (ap (λ (l : List ℕ). map placeOf (map unpacked l)) (snap-all t e) ∙ ap (map placeOf) (unpacked-table t h))
+
+  write-steps : (length t ≡ paperLimits .places → Valid c d t) → Steps writeList c c d d t t b b′ r
+  unfolding step outcome result stateOf
+  write-steps h =
+      by-length (length t)
+      (λ e. ap (result paperLimits (stateOf c d t) b) (right-table (length t) 14 _ e) ∙ f .answer e (stateOf c d t) refl (imaged e (h e .places)) refl refl)
+      (λ e. let w = f .wrong e in
+      ap (result paperLimits (stateOf c d t) b) (wrong-table (length t) 14 _ e)
+      ∙ (λ i. record { code = (sym w) i .code; count = (sym w) i .count; next = stateOf c d t; buffer = (sym (f .kept (not-zero w))) i }))
+
+  pub write-promises : (length t ≡ paperLimits .places → Valid c d t) → Requested writeList c c d d t t b b′ r
+  write-promises h = record { steps = write-steps h; kept = λ n. (refl, refl, refl, f .kept n); valid = h }
+
+module _ (c c′ : Controller) (d : Device) (t : List Place) (b : List ℕ) (r : Started) (a : c′ .ais ≡ c .ais) (f : Replayed (length t) c c′ d b r) where
+  abbrev after : List Place
+  after = restored t (r .image) (r .restored)
+
+  -- nothing was changed
+  unchanged : r .restored ≡ 0 → (c′ ≡ c) × (r .device ≡ d) × (after ≡ t)
+  unchanged z = (f .same z .0, f .same z .1, ap (restored t (r .image)) z ∙ restored-none t (r .image))
+
+  module _ (e : length t ≡ paperLimits .places) (h : Valid c d t) where
+    -- the machine's next state, whether the controller was made fresh or not
+    next : State
+    next = choose (eqb (r .restored) 0) (stateOf c d t) (playedState c′ r)
+
+    told : step paperLimits (stateOf c d t) (record { ask = playList; buffer = b; table = length t })
+        ≡ record { code = r .answer .code; count = r .answer .count; next = next; buffer = b }
+    unfolding step outcome stateOf next
+    told = ap (result paperLimits (stateOf c d t) b) (right-table (length t) 14 _ e) ∙ f .answer e (stateOf c d t) refl refl refl
+
+    -- made fresh: the image has all places, since the next state is sound
+    module _ (n : r .restored ≡ 0 → ⊥) where
+      next-played : next ≡ playedState c′ r
+      unfolding next
+      next-played = passed _ _ _ (ne-eqb (r .restored) 0 n)
+
+      long : paperLimits .places ≤ length (r .image)
+      long =
+          let k = subst (Sound paperLimits) (ap (λ (x : Told). x .next) told ∙ next-played) (kept-step paperLimits (stateOf c d t) (h .sound) _ .sound) in
+          let l = sym (length-map (take (paperLimits .places) (r .image)) unpacked) ∙ sym (length-map (map unpacked (take (paperLimits .places) (r .image))) placeOf) ∙ k .table in
+          omega (arith, l, length-take (paperLimits .places) (r .image))
+
+      after-is : after ≡ map unpacked (take (paperLimits .places) (r .image))
+      after-is = ap (restored t (r .image)) (f .whole n) ∙ restored-all t (r .image) (paperLimits .places) e long
+
+    next-is : next ≡ stateOf c′ (r .device) after
+    unfolding next stateOf
+    next-is = go (eqb (r .restored) 0) refl
+      where
+        go : (q : Bool) → eqb (r .restored) 0 ≡ q → next ≡ stateOf c′ (r .device) after
+        go true z =
+            let k = unchanged (eqb-true (r .restored) 0 z) in
+            chosen _ _ _ z ∙ (λ i. stateOf ((sym (k .0)) i) ((sym (k .1)) i) ((sym (k .2)) i))
+        go false z = next-played (eqb-false (r .restored) 0 z) ∙ ap (λ (l : List Place). stateOf c′ (r .device) l) (sym (after-is (eqb-false (r .restored) 0 z)))
+
+    after-canonical : All Canonical after
+    after-canonical = go (eqb (r .restored) 0) refl
+      where
+        go : (q : Bool) → eqb (r .restored) 0 ≡ q → All Canonical after
+        go true z = subst (All Canonical) (sym (unchanged (eqb-true (r .restored) 0 z) .2)) (h .places)
+        go false z = subst (All Canonical) (sym (after-is (eqb-false (r .restored) 0 z))) (f .canonical)
+
+  play-steps : (length t ≡ paperLimits .places → Valid c d t) → Steps playList c c′ d (r .device) t after b b (r .answer)
+  unfolding step outcome result
+  play-steps h =
+      by-length (length t)
+      (λ e. told e (h e) ∙ (λ i. record { code = r .answer .code; count = r .answer .count; next = next-is e (h e) i; buffer = b }))
+      (λ e. let w = f .wrong e in let k = unchanged (w .1) in
+      ap (result paperLimits (stateOf c d t) b) (wrong-table (length t) 14 _ e)
+      ∙ (λ i. record { code = (sym (w .0)) i .code; count = (sym (w .0)) i .count; next = stateOf ((sym (k .0)) i) ((sym (k .1)) i) ((sym (k .2)) i); buffer = b }))
+
+  -- a refusal of form, or of the table
+  kept-form : (code : ℕ) → outcome paperLimits (stateOf c d t) playList (length t) b ≡ refuse code → r .restored ≡ 0
+  unfolding outcome stateOf
+  kept-form code o =
+      by-length (length t) (λ e. f .form e (stateOf c d t) refl code (sym (right-table (length t) 14 _ e) ∙ o)) (λ w. f .wrong w .1)
+
+  pub play-promises : (length t ≡ paperLimits .places → Valid c d t) → Played c c′ d (r .device) t after b (r .answer)
+  play-promises h =
+      record {
+        steps = play-steps h;
+        kept = λ code o. unchanged (kept-form code o);
+        valid = λ e. record {
+          ready = f .held e;
+          places = after-canonical e (h e);
+          sound = next-sound playList c c′ d (r .device) t after b b (r .answer) (h e) (play-steps h);
+        };
       }

@@ -15,7 +15,7 @@ use Rattle.rules.proofs.Lists.{All, Maybe, flatten-append}
 use Rattle.rules.proofs.Reachable.{SoundPlace, Whole, IsKind, SoundPending, Sound, listing-sendable}
 use Rattle.adapters.specs.declared.Place.{Place}
 use Rattle.adapters.specs.Values.{placeOf, unused, Canonical}
-use Rattle.slots.specs.Slots.{slot, listed}
+use Rattle.slots.specs.Slots.{slotCount, slot, listed}
 use Rattle.queues.specs.Queues.{sum, cut, queues, Held}
 use Rattle.singles.specs.Singles.{ifThere, serviceOf, mchkOf}
 use Rattle.memory.specs.Order.{upFrom}
@@ -157,7 +157,7 @@ module _ (p : Pending) (h : SoundPending p) (few : queued p ≤ paperLimits .roo
   controllerFor : Bool → Controller
   controllerFor ais =
       record {
-        slots = flatten (flatten qs) ++ replicate (18432 - length (flatten (flatten qs))) 0;
+        slots = flatten (flatten qs) ++ replicate (slotCount * 72 - length (flatten (flatten qs))) 0;
         order = upFrom 0 (paperLimits .room);
         counts = map length qs;
         singles = singlesFor (p .service) (p .mchk);
@@ -172,7 +172,7 @@ module _ (p : Pending) (h : SoundPending p) (few : queued p ≤ paperLimits .roo
   unfolding queues controllerFor
   queues-back ais =
       ap (cut (map length qs))
-      (ap (λ (n : ℕ). listed 72 (upFrom 0 (paperLimits .room)) n (flatten (flatten qs) ++ replicate (18432 - length (flatten (flatten qs))) 0)) (sum-lengths qs)
+      (ap (λ (n : ℕ). listed 72 (upFrom 0 (paperLimits .room)) n (flatten (flatten qs) ++ replicate (slotCount * 72 - length (flatten (flatten qs))) 0)) (sum-lengths qs)
       ∙ listed-back (paperLimits .room) (flatten qs) _ fits whole)
       ∙ cut-back qs
 

@@ -1,15 +1,17 @@
 -- The claim is not empty: every list of calls has a chain, from every host that satisfies the facts, so from the one that the code makes. And every
 -- call of such a chain meets its function's premise.
-use Prim.Native.Nat.{ℕ}
+use Prim.Native.Nat.{ℕ, _≤_}
 use mathlib.Core.Path.{_≡_, refl, ap, sym, _∙_, subst}
 use mathlib.Core.Bool.{Bool, true, false, true≢false}
 use mathlib.Core.Option.{Option, none, some}
 use mathlib.Core.List.{List, [], _∷_, _++_, map}
 use lib.ListN.{length, drop, replicate, length-replicate}
+use lib.ListN.{take as first}
 use lib.Dec.{leb}
 use Rattle.rules.specs.State.{State, Pending, recordBytes, paperLimits, fresh, withPending}
 use Rattle.rules.specs.Outcome.{Outcome, refuse, accept, reset, result}
 use Rattle.rules.specs.Machine.{Ask, setAttr, getAttr, guestTake, writeList, playList, Call, Seen, outcome, step}
+use Rattle.rules.specs.MoveList.{entries, total}
 use Rattle.rules.specs.Take.{Handed, handed, handsOut, takes}
 use Rattle.rules.proofs.Checks.{passes, fails}
 use Rattle.rules.proofs.Reachable.{Sound, kept-step, fresh-sound}
@@ -23,7 +25,8 @@ use Rattle.flic.specs.declared.Controller.{Controller}
 use Rattle.flic.specs.Surface.{stateOf, Ready, Valid, Steps, Requested, Taken, Played}
 use Rattle.flic.specs.Chain.{Host, Lends, its-own, another, asked, Ran, end, set, get, take, write, play}
 use Rattle.flic.proofs.Promises.{by-length}
-use Rattle.flic.proofs.Follows.{hostState, Good, own-length, Tabled, refused-table, requested, taken, played}
+use Rattle.flic.proofs.Follows.{hostState, Good, own-length, Tabled, refused-table, requested, taken, played, follows}
+use Rattle.flic.proofs.Claim.{Fresh, fresh-good, machine, Moved}
 use Rattle.flic.proofs.Represent.{keep, Represents, represent}
 
 -- ---- every contract has an answer
@@ -310,3 +313,72 @@ premises {h} g (take subclasses external mcheck b b′ c′ n r f rest) =
     (g .ready, premises (taken h g subclasses external mcheck b b′ c′ n r f .good) rest)
 premises {h} g (write b b′ t u r l f rest) = (lent-premise g l, premises g rest)
 premises {h} g (play b c′ d′ t t′ u r l f rest) = (lent-premise g l, premises (played h g b c′ d′ t t′ u r l f .good) rest)
+
+-- ---- from the host that the code makes
+-- making one has an answer, for each capability
+pub record MadeTo (ais : Bool) : Type 0 where
+  pub host : Host
+  pub made : Fresh ais host
+
+pub make-to : (ais : Bool) → MadeTo ais
+make-to ais = record {
+  host = k .host;
+  made = record {
+    ctl = k .host .ctl;
+    dev = k .host .dev;
+    tab = k .host .tab;
+    right = n;
+    answer = record { code = 0; count = 0 };
+    made = record { right = λ e. (refl, k .state, k .good); wrong = λ w. absurd (w n) };
+  };
+}
+  where
+    k : Represents (fresh paperLimits ais)
+    k = represent (fresh paperLimits ais) (fresh-sound paperLimits ais)
+
+    n : length (k .host .tab) ≡ paperLimits .places
+    n = own-length (k .host) (k .good)
+
+pub runs-fresh : {ais : Bool} {f : Host} → Fresh ais f → (cs : List Call) → Chain f cs
+runs-fresh {f = f} h cs = runs cs f (fresh-good h)
+
+pub premises-fresh : {ais : Bool} {f e : Host} {cs : List Call} {ss : List Seen} → Fresh ais f → (r : Ran f cs ss e) → Premises r
+premises-fresh h r = premises (fresh-good h) r
+
+-- for any two fresh hosts of a capability, any two lists of calls and any buffer that is long enough there is a move
+pub moved : (ais : Bool) (f₁ f₂ : Host) → Fresh ais f₁ → Fresh ais f₂ → (cs₁ cs₂ : List Call) (b : List ℕ)
+    → total (entries (machine ais cs₁)) ≤ length b → Moved
+moved ais f₁ f₂ h₁ h₂ cs₁ cs₂ b long =
+    let x = runs-fresh h₁ cs₁ in
+    let y = runs-fresh h₂ cs₂ in
+    let g = follows (fresh-good h₁) (x .ran) .good in
+    let k = follows (fresh-good h₂) (y .ran) .good in
+    let w = get-to (x .last .ctl) (x .last .dev) (x .last .tab) (λ _. g) writeList b (write-shape paperLimits _ (length (x .last .tab)) b) in
+    let p = play-to (y .last .ctl) (y .last .dev) (y .last .tab) (λ _. k) (first (w .r .count) (w .b′)) in
+    record {
+      ais = ais;
+      start₁ = f₁;
+      fresh₁ = h₁;
+      calls₁ = cs₁;
+      seen₁ = x .seen;
+      first = x .last;
+      ran₁ = x .ran;
+      buffer = b;
+      left = w .b′;
+      wrote = w .r;
+      writes = w .said;
+      long = long;
+      start₂ = f₂;
+      fresh₂ = h₂;
+      calls₂ = cs₂;
+      seen₂ = y .seen;
+      before = y .last;
+      ran₂ = y .ran;
+      second = record { ctl = p .c′; dev = p .d′; tab = p .t′ };
+      played = p .r;
+      plays = p .said;
+    }
+
+-- and both of its calls meet their functions' premises
+pub moved-premises : (m : Moved) → Premise (m .first) (m .first .tab) × Premise (m .before) (m .before .tab)
+moved-premises m = (λ _. follows (fresh-good (m .fresh₁)) (m .ran₁) .good, λ _. follows (fresh-good (m .fresh₂)) (m .ran₂) .good)

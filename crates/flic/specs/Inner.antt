@@ -2,15 +2,21 @@
 use Prim.Native.Nat.{ℕ}
 use mathlib.Core.Path.{_≡_}
 use mathlib.Core.Bool.{Bool, false}
-use mathlib.Core.List.{List}
-use lib.ListN.{replicate}
+use mathlib.Core.List.{List, map}
+use lib.ListN.{take, replicate}
+use lib.Dec.{eqb}
+use Rattle.rules.specs.Bytes.{choose}
 use Rattle.rules.specs.State.{State, nothing, paperLimits}
 use Rattle.rules.specs.Requests.{setRequest, getRequest, request}
+use Rattle.rules.specs.Outcome.{refuse}
+use Rattle.rules.specs.MoveList.{writes, plays}
+use Rattle.rules.proofs.Lists.{All}
 use Rattle.answers.specs.declared.Answer.{Answer}
 use Rattle.answers.specs.Answers.{Answers}
 use Rattle.adapters.specs.declared.Device.{Device}
 use Rattle.adapters.specs.declared.Place.{Place}
-use Rattle.adapters.specs.Values.{deviceOf, Canonical, withMasked}
+use Rattle.adapters.specs.Values.{placeOf, deviceOf, Canonical, withMasked}
+use Rattle.image.specs.Image.{unpacked}
 use Rattle.records.specs.Memory.{pendingOf}
 use Rattle.values.specs.States.{Replies, aboutOf}
 use Rattle.flic.specs.declared.Controller.{Controller}
@@ -35,6 +41,36 @@ pub record Began (table : ℕ) (ais : Bool) (c c′ : Controller) (d : Device) (
       × (pendingOf (c′ .order) (c′ .counts) (c′ .slots) (c′ .singles) ≡ nothing) × Ready c′
   pub wrong : (table ≡ paperLimits .places → ⊥)
       → (r .answer ≡ record { code = 14; count = 0 }) × (r .device ≡ d) × (r .restored ≡ 0) × (c′ ≡ c)
+
+-- the state that a controller's arrays and an image stand for
+abbrev pub playedState : Controller → Started → State
+playedState c r =
+    record {
+      ais = c .ais;
+      adapters = map placeOf (map unpacked (take (paperLimits .places) (r .image)));
+      pending = pendingOf (c .order) (c .counts) (c .slots) (c .singles);
+      device = deviceOf (r .device);
+    }
+
+-- Playing a list with a table of so many places. Where the controller was made fresh, the image has its places.
+pub record Replayed (table : ℕ) (c c′ : Controller) (d : Device) (b : List ℕ) (r : Started) : Type 0 where
+  pub wrong : (table ≡ paperLimits .places → ⊥) → (r .answer ≡ record { code = 14; count = 0 }) × (r .restored ≡ 0)
+  pub same : r .restored ≡ 0 → (c′ ≡ c) × (r .device ≡ d)
+  pub whole : (r .restored ≡ 0 → ⊥) → r .restored ≡ paperLimits .places
+  pub held : table ≡ paperLimits .places → Ready c′
+  pub canonical : All Canonical (map unpacked (take (paperLimits .places) (r .image)))
+  pub answer : table ≡ paperLimits .places → (s : State) → s .ais ≡ c .ais → s .pending ≡ pendingOf (c .order) (c .counts) (c .slots) (c .singles)
+      → s .device ≡ deviceOf d
+      → Answers paperLimits s b (plays paperLimits s b) (r .answer) (choose (eqb (r .restored) 0) s (playedState c′ r)) b
+  pub form : table ≡ paperLimits .places → (s : State) → s .ais ≡ c .ais → (code : ℕ) → plays paperLimits s b ≡ refuse code → r .restored ≡ 0
+
+-- Writing a list with a table of so many places, from an image of it.
+pub record Wrote (table : ℕ) (c : Controller) (d : Device) (image b b′ : List ℕ) (r : Answer) : Type 0 where
+  pub wrong : (table ≡ paperLimits .places → ⊥) → r ≡ record { code = 14; count = 0 }
+  pub answer : table ≡ paperLimits .places → (s : State) → s .ais ≡ c .ais → s .adapters ≡ map placeOf (map unpacked image)
+      → s .pending ≡ pendingOf (c .order) (c .counts) (c .slots) (c .singles) → s .device ≡ deviceOf d
+      → Answers paperLimits s b (writes s b) r s b′
+  pub kept : (r .code ≡ 0 → ⊥) → b′ ≡ b
 
 -- the adapter place after a set request
 abbrev pub placeAfter : Decision → Place

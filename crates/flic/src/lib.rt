@@ -3,14 +3,16 @@ ghost use mathlib.Core.Path.{_≡_};
 ghost use mathlib.Core.Bool.{Bool, true};
 ghost use lib.ListN.{length};
 ghost use Rattle.rules.specs.State.{paperLimits};
-ghost use Rattle.rules.specs.Machine.{setAttr, getAttr};
+ghost use Rattle.rules.specs.Machine.{setAttr, getAttr, writeList};
 ghost use Rattle.adapters.specs.Values.{Canonical, withMasked};
 ghost use Rattle.queues.specs.Queues.{Held};
-ghost use Rattle.flic.specs.Surface.{Ready, Valid, Made, Requested, Taken};
-ghost use Rattle.flic.specs.Inner.{controller, Began, Decided, Got};
+ghost use Rattle.flic.specs.Surface.{Ready, Valid, Made, Requested, Taken, Played};
+ghost use Rattle.flic.specs.Inner.{controller, Began, Replayed, Wrote, Decided, Got};
 use adapters::Device;
 use adapters::Place;
 use answers::Answer;
+use answers::EFAULT;
+use words::ADAPTER_MODIFY;
 use words::PLACES;
 use words::QUEUES;
 use words::ROOM;
@@ -39,7 +41,7 @@ pub struct Decision {
 fn entered(group: u32, before: Place, after: Place) -> Place
     ensures { λ r. ⌜ ((group ≡ 7 → before .used ≡ true → after ≡ withMasked (after .masked) before) → withMasked (after .masked) r ≡ after) ⌝ }
 {
-    if group == 7 {
+    if group == ADAPTER_MODIFY {
         if before.used {
             return before;
         }
@@ -72,7 +74,7 @@ fn start(
     let image = image::empty();
     if table != PLACES {
         return Started {
-            answer: answers::refuse(14),
+            answer: answers::refuse(EFAULT),
             ais: was,
             device,
             restored: 0,
@@ -87,6 +89,74 @@ fn start(
         restored: PLACES as u64,
         image,
     }
+}
+
+// A move list is played on the controller's arrays.
+fn replay(
+    slots: &mut [u8; SLOT_BYTES],
+    order: &mut [u8; ROOM],
+    counts: &mut [usize; QUEUES],
+    singles: &mut [u8; SINGLES_BYTES],
+    table: usize,
+    ais: bool,
+    device: Device,
+    list: &[u8],
+) -> Started
+    requires { ⌜ (table ≡ paperLimits .places → Held (now order) (now counts)) ⌝ }
+    ensures { λ r. ⌜ Replayed table (controller (now (slots .entry)) (now (order .entry)) (now (counts .entry)) (now (singles .entry)) ais) (controller (now (slots .exit)) (now (order .exit)) (now (counts .exit)) (now (singles .exit)) ais) device (now (list .entry)) r ⌝ }
+{
+    let image = image::empty();
+    if table != PLACES {
+        return Started {
+            answer: answers::refuse(EFAULT),
+            ais,
+            device,
+            restored: 0,
+            image,
+        };
+    }
+    let r = play::play_list(
+        slots,
+        order,
+        counts,
+        singles,
+        PLACES as u64,
+        ROOM,
+        ais,
+        device,
+        list,
+    );
+    let answer = r.answer;
+    let next = r.device;
+    let places = r.image;
+    Started {
+        answer,
+        ais,
+        device: next,
+        restored: r.restored,
+        image: places,
+    }
+}
+
+// A move list is written from the controller's arrays, the device record by value and an image of the table.
+fn write_from(
+    slots: &[u8; SLOT_BYTES],
+    order: &[u8; ROOM],
+    counts: &[usize; QUEUES],
+    singles: &[u8; SINGLES_BYTES],
+    table: usize,
+    ais: bool,
+    device: Device,
+    image: [u8; PLACES],
+    out: &mut [u8],
+) -> Answer
+    requires { ⌜ (table ≡ paperLimits .places → Held (now order) (now counts)) ⌝ }
+    ensures { λ r. ⌜ Wrote table (controller (now (slots .entry)) (now (order .entry)) (now (counts .entry)) (now (singles .entry)) ais) device image (now (out .entry)) (now (out .exit)) r ⌝ }
+{
+    if table != PLACES {
+        return answers::refuse(EFAULT);
+    }
+    write::write_list(slots, order, counts, singles, ais, device, image, out)
 }
 
 // A set request on the controller's arrays, the device record and the adapter's place by value.
@@ -106,9 +176,9 @@ fn decide(
     requires { ⌜ (table ≡ paperLimits .places → Held (now order) (now counts) × Canonical place) ⌝ }
     ensures { λ r. ⌜ Decided table group attr (controller (now (slots .entry)) (now (order .entry)) (now (counts .entry)) (now (singles .entry)) ais) (controller (now (slots .exit)) (now (order .exit)) (now (counts .exit)) (now (singles .exit)) ais) device place (now (payload .entry)) r ⌝ }
 {
-    if table != PLACES {
+    if table != PLACES { // checked before anything else
         return Decision {
-            answer: answers::refuse(14),
+            answer: answers::refuse(EFAULT),
             device,
             entered: place,
             masked: place.masked,
@@ -129,11 +199,11 @@ fn decide(
         payload,
     );
     let answer = r.answer;
-    let next = r.device;
+    let modes = r.device;
     let after = r.place;
     Decision {
         answer,
-        device: next,
+        device: modes,
         entered: entered(group, place, after),
         masked: after.masked,
     }
@@ -156,7 +226,7 @@ fn answer_get(
     ensures { λ r. ⌜ Got table group attr (controller (now (slots .entry)) (now (order .entry)) (now (counts .entry)) (now (singles .entry)) ais) device (now (out .entry)) (now (out .exit)) r ⌝ }
 {
     if table != PLACES {
-        return answers::refuse(14);
+        return answers::refuse(EFAULT);
     }
     core::get_request(slots, order, counts, singles, ais, device, group, attr, out)
 }
@@ -167,20 +237,20 @@ fn hand_out(
     order: &mut [u8; ROOM],
     counts: &mut [usize; QUEUES],
     singles: &mut [u8; SINGLES_BYTES],
-    subclasses: u8,
+    allowed: u8,
     external: bool,
     mcheck: bool,
     out: &mut [u8],
 ) -> Answer
     requires { ⌜ Held (now order) (now counts) ⌝ }
-    ensures { λ r. ⌜ ((ais : Bool) → Taken subclasses external mcheck (controller (now (slots .entry)) (now (order .entry)) (now (counts .entry)) (now (singles .entry)) ais) (controller (now (slots .exit)) (now (order .exit)) (now (counts .exit)) (now (singles .exit)) ais) (now (out .entry)) (now (out .exit)) r) ⌝ }
+    ensures { λ r. ⌜ ((ais : Bool) → Taken allowed external mcheck (controller (now (slots .entry)) (now (order .entry)) (now (counts .entry)) (now (singles .entry)) ais) (controller (now (slots .exit)) (now (order .exit)) (now (counts .exit)) (now (singles .exit)) ais) (now (out .entry)) (now (out .exit)) r) ⌝ }
 {
     outgoing::take(
         slots,
         order,
         counts,
         singles,
-        subclasses,
+        allowed,
         external,
         mcheck,
         out,
@@ -299,4 +369,52 @@ pub extern "C" fn flic_take(
         mcheck,
         out,
     )
+}
+
+// The move list is written to the buffer's start.
+#[no_mangle]
+pub extern "C" fn flic_write_list(c: &Controller, d: &Device, t: &[Place], out: &mut [u8]) -> Answer
+    requires { ⌜ (length (now t) ≡ paperLimits .places → Valid (now c) (now d) (now t)) ⌝ }
+    ensures { λ r. ⌜ Requested writeList (now (c .entry)) (now (c .entry)) (now (d .entry)) (now (d .entry)) (now (t .entry)) (now (t .entry)) (now (out .entry)) (now (out .exit)) r ⌝ }
+{
+    let device = table::read_device(d);
+    let image = table::snapshot(t);
+    write_from(
+        &c.slots,
+        &c.order,
+        &c.counts,
+        &c.singles,
+        t.len(),
+        c.ais,
+        device,
+        image,
+        out,
+    )
+}
+
+// A move list is played: the controller is made fresh, and the list's requests are applied.
+#[no_mangle]
+pub extern "C" fn flic_play_list(
+    c: &mut Controller,
+    d: &mut Device,
+    t: &mut [Place],
+    list: &[u8],
+) -> Answer
+    requires { ⌜ (length (now t) ≡ paperLimits .places → Valid (now c) (now d) (now t)) ⌝ }
+    ensures { λ r. ⌜ Played (now (c .entry)) (now (c .exit)) (now (d .entry)) (now (d .exit)) (now (t .entry)) (now (t .exit)) (now (list .entry)) r ⌝ }
+{
+    let device = table::read_device(d);
+    let r = replay(
+        &mut c.slots,
+        &mut c.order,
+        &mut c.counts,
+        &mut c.singles,
+        t.len(),
+        c.ais,
+        device,
+        list,
+    );
+    table::store_device(d, r.device);
+    table::restore(t, r.restored, r.image);
+    r.answer
 }

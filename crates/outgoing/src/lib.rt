@@ -66,7 +66,7 @@ pub fn clear_irqs(
 }
 
 // Writes the listing to out.
-fn list_all(
+pub fn list_all(
     slots: &[u8; SLOT_BYTES],
     order: &[u8; ROOM],
     counts: &[usize; QUEUES],

@@ -1,5 +1,6 @@
 -- `flic::start` meets its contract. Assumes nothing.
 use mathlib.Core.Path.{refl}
+use Rattle.rules.specs.State.{paperLimits}
 use borrow.Author.Needs.{needs}
 use Rattle.flic.proofs.start.Statement.{statement}
 use Rattle.flic.proofs.start.Tie as tie
@@ -25,7 +26,7 @@ fresh-device-requires c κs = search needs
 returns-2 : tie.Need-returns-2
 returns-2 c =
     record {
-      right = λ e. ((λ i. record { answer = c .before .accept .ensures i; ais = c .before .before .before .before .before .before .before .before .args .ais; device = c .fresh-device .ensures i; restored = 64; image = c .before .before .before .before .before .before .before .empty .ensures i }), c .before .before .fresh .ensures .1 _, c .before .before .fresh .ensures .0);
+      right = λ e. ((λ i. record { answer = c .before .accept .ensures i; ais = c .before .before .before .before .before .before .before .before .args .ais; device = c .fresh-device .ensures i; restored = paperLimits .places; image = c .before .before .before .before .before .before .before .empty .ensures i }), c .before .before .fresh .ensures .1 _, c .before .before .fresh .ensures .0);
       wrong = λ w. absurd (w (c .before .before .before .before .before .before .if1 .left));
     }
 

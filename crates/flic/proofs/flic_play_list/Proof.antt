@@ -1,0 +1,145 @@
+-- `flic_play_list`: what it shares with `flic_make` is in Fresh.antt. In between `replay` is called, with the list.
+use Rattle.flic.proofs.Walk.{_≡_, refl, ap, subst, ℕ, [], _∷_, List, length, URA, fullShare, named, w8, w64, tyInt, tyRef, imm, Val, vint, vbool, vptr, SProp, ent, id⊢, GName, Lft, Share, Fml, ftrue, fsep, flft, fat, Memory, Routine, Heap, Env, Calls, Loops, WpFn, Tables, Atoms, Fun, Given, Item, Sq, runs, atRet, ‵, ⋆, _⊛_, _$_, _∵_, !, qed, move, keep, drop, split, join, rewrite, fsplit, fjoin, suffices, frame, done, look, init, stop, from, load, and-then, no-more, land, enter, alloc1, alloc0, params1, pass1, pass0, FmC, fmOf, WpFn-mono, owns, Is, bool-makes, uint-makes, u8, RefT, ptr-vals, mut-tells, sliceVal, sliceTy, ShrSlice, Room, slice-vals, mut-slice-tells, shr-slice-tells, plain, only, owned, nothing, onEntry, Meets, tripleOf, Contract, Triple, entered, cited, says, Stays, stay-ref, stay-slice, walkOf, goes-ref, goes-slice, Walks, ends-at, walked, walk-meets, yes, givenOf, tables, tablesOf, usize, bool, needs, stay-dropped, goes-dropped}
+use denote.Struct.Laws as LL
+use denote.Signature.{shrSliceOf}
+use Rattle.rules.specs.State.{paperLimits}
+use Rattle.answers.specs.declared.Answer.{Answer}
+use Rattle.answers.proofs.Answer as An
+use Rattle.answers.proofs.Answer.Laws as An′
+use Rattle.adapters.specs.declared.Device.{Device}
+use Rattle.adapters.specs.declared.Place.{Place}
+use Rattle.adapters.proofs.Device as D
+use Rattle.adapters.proofs.Device.Laws as D′
+use Rattle.adapters.proofs.Place as P
+use Rattle.table.proofs.Record.{ReadDevice, StoreDevice}
+use Rattle.table.proofs.Calls.{Restore}
+use Rattle.flic.specs.declared.Controller.{Controller}
+use Rattle.flic.specs.Surface.{Valid, Played}
+use Rattle.flic.specs.Inner.{Replayed}
+use Rattle.flic.proofs.Controller as C
+use Rattle.flic.proofs.Started as St
+use Rattle.flic.proofs.Started.Laws as St′
+use Rattle.flic.proofs.Promises.{play-promises}
+use Rattle.flic.proofs.Locals.{Content, blank, holds, locals, swaps}
+use Rattle.flic.proofs.Opened.{Has}
+use Rattle.flic.proofs.All.{Refs, refs, at-ctl, at-dev, at-tab, table, Owned, Tokens, Open, Closed, takes-all, gives-all}
+use Rattle.flic.proofs.Four.{mutably, at-array, Loan, Toks, Lent, left-by, lent-lfts, lent-shares, lent-args, lent-vals, calls-four}
+use Rattle.flic.proofs.Fresh as Fresh
+use Rattle.flic.proofs.Fresh.{Known, starts, finishes}
+use Rattle.table.proofs.read_device.Symbol as read-device-def
+use Rattle.table.proofs.read_device.Met as read-device-thm
+use Rattle.table.proofs.store_device.Symbol as store-device-def
+use Rattle.table.proofs.store_device.Met as store-device-thm
+use Rattle.table.proofs.restore.Symbol as restore-def
+use Rattle.table.proofs.restore.Met as restore-thm
+use Rattle.flic.proofs.replay as replay
+use Rattle.flic.proofs.replay.Symbol as replay-def
+use Rattle.flic.proofs.replay.Met as replay-thm
+use Rattle.flic.proofs.flic_play_list.Key.{name as #key}
+use Rattle.flic.proofs.flic_play_list as f
+use Rattle.flic.proofs.flic_play_list.Statement as stated
+use Rattle.flic.proofs.flic_play_list.Code as code
+use Rattle.flic.proofs.flic_play_list.Code.Mir as mir
+
+abbrev stayed : Stays (f.ended .signature .params) (f.ended .kept)
+stayed = (stay-ref (0 ∷ []) tt (plain (λ _. C.the-row)), (stay-ref (1 ∷ []) tt (plain (λ _. D.the-row)), (stay-slice (2 ∷ []) tt (plain (λ _. P.the-row)), (stay-dropped (shrSliceOf (3 ∷ []) tt (plain (λ _. u8))) yes, tt))))
+
+module _ {M : Type 1} (𝓤 : URA M) (H : Heap 𝓤) (A : Atoms 𝓤) (mem′ : Memory → SProp 𝓤) (run : Routine → Fun 𝓤) where
+  abbrev Replay : Contract 𝓤
+  Replay = tripleOf 𝓤 H A replay.signature (replay.spec 𝓤 H A mem′ run)
+
+module _ {M : Type 1} (𝓤 : URA M) (H : Heap 𝓤) (A : Atoms 𝓤) (W : Given 𝓤 H A) (mem′ : Memory → SProp 𝓤) (run : Routine → Fun 𝓤) (a : Refs) (κp : Lft) (qp : Share) (bp op : ℕ) (γp : GName) (ps : List ℕ)
+    (room : Room P.the-row (length (a .t))) (room-p : Room u8 (length ps)) (valid : length (a .t) ≡ paperLimits .places → Valid (a .c) (a .d) (a .t)) where
+  abbrev sp : Val
+  sp = sliceVal (bp, op) (length ps)
+
+  abbrev x : RefT Controller × (RefT Device × (RefT (List Place) × (RefT (List ℕ) × Unit {0})))
+  x = (at-ctl a (a .c), (at-dev a (a .d), (at-tab a (a .t), (at-array bp op γp ps, tt))))
+
+  abbrev at : List Val × (List Val × (List Val × (List Val × Unit {0})))
+  at = (vptr (a .bc) (a .oc) ∷ [], (vptr (a .bd) (a .od) ∷ [], (table a ∷ [], (sp ∷ [], tt))))
+
+  abbrev bound : walkOf 𝓤 H A f.ended stayed (f.clauses 𝓤 H A mem′ run) .Ghost
+  bound = (((a .κc, (a .κd, (a .κt, (κp, tt)))), (a .qc, (a .qd, (a .qt, (qp, tt)))), tt, x, at), tt)
+
+  abbrev Post : Val → SProp 𝓤
+  Post = walkOf 𝓤 H A f.ended stayed (f.clauses 𝓤 H A mem′ run) .post bound
+
+  abbrev OwnP : Fml
+  OwnP = ShrSlice (named 3) κp u8 .own (at-array bp op γp ps) (sp ∷ [])
+
+  exits : (c′ : Controller) (m : Device) (zs : List Place) (z : Answer) → Played (a .c) c′ (a .d) m (a .t) zs ps z → length zs ≡ length (a .t) → Is An.the-row z (An′.lowered z ∷ []) → ent 𝓤 (⋆ 𝓤 H A (‵ (flft κp qp) ∷ Closed a zs m c′ [])) (Post (An′.lowered z))
+  exits c′ m zs z played e g =
+      qed W (‵ (flft κp qp) ∷ Closed a zs m c′ []) ∵ suffices ! _ (ends-at 𝓤 H A f.ended stayed (f.clauses 𝓤 H A mem′ run) W bound (An′.lowered z) z (c′, (m, (zs, (tt, tt)))) (tt, (tt, (e, (tt, tt))))) $ says ! played $
+      nothing ! $ nothing ! $ fjoin ! $ nothing ! $ move ! (2 ∷ 0 ∷ []) $ join ! $ move ! (2 ∷ 3 ∷ 4 ∷ 5 ∷ 6 ∷ 7 ∷ 8 ∷ 9 ∷ 10 ∷ []) $ gives-all ! a zs m c′ e room $ frame ! $ frame ! $ owned ! An.the-row (Is An.the-row) (LL.makes An.the-type An′.the-plain 𝓤 H A) z _ g $ done !
+
+  -- ---- the call of `replay`: after the arrays it takes three values and the list
+  abbrev T : Item 𝓤
+  T = ‵ (flft κp qp) ⊛ ‵ ftrue
+
+  abbrev O : Fml
+  O = fsep (usize .own (length (a .t)) (vint w64 (length (a .t)) ∷ [])) (fsep (bool .own (a .c .ais) (vbool (a .c .ais) ∷ [])) (fsep (D.the-row .own (a .d) (D′.lowered (a .d) ∷ [])) (fsep OwnP ftrue)))
+
+  abbrev Y : Type 0
+  Y = Unit {0} × (Unit {0} × (Unit {0} × (Unit {0} × Unit {0})))
+
+  abbrev Leaves : Y → Fml
+  Leaves y = fsep ftrue (fsep ftrue (fsep ftrue (fsep ftrue ftrue)))
+
+  abbrev to-replay : Loan → Replay 𝓤 H A mem′ run .Ghost
+  to-replay n = ((lent-lfts n (κp, tt), lent-shares (qp, tt), tt, lent-args n (a .c) (a .bc) (a .oc) (length (a .t), (a .c .ais, (a .d, (at-array bp op γp ps, tt)))), lent-vals (a .bc) (a .oc) (vint w64 (length (a .t)) ∷ [], (vbool (a .c .ais) ∷ [], (D′.lowered (a .d) ∷ [], (sp ∷ [], tt))))), tt)
+
+  goes : (n : Loan) → ent 𝓤 (⋆ 𝓤 H A (Toks n T ∷ ‵ (Lent mutably n (a .c) (a .bc) (a .oc) O) ∷ [])) (Replay 𝓤 H A mem′ run .pre (to-replay n))
+  goes n = qed W (Toks n T ∷ ‵ (Lent mutably n (a .c) (a .bc) (a .oc) O) ∷ []) ∵ says ! (λ e. valid e .ready) $ done !
+
+  module _ (C′ : Calls 𝓤 H) (Λ : Loops 𝓤 H) (fm : FmC 𝓤 H (W .laws) C′) (known : Known 𝓤 H A mem′ run C′) (known-replay : Triple 𝓤 (C′ replay-def.name) (Replay 𝓤 H A mem′ run)) (l₀ l₁ l₂ l₃ l₄ l₅ l₆ l₇ l₈ l₉ l₁₀ l₁₁ l₁₂ l₁₃ l₁₄ l₁₅ l₁₆ l₁₇ : ℕ) where
+    abbrev E : Env 𝓤 H
+    E = Fresh.E 𝓤 H (sliceTy (tyRef (named 3) imm (tyInt w8))) l₀ l₁ l₂ l₃ l₄ l₅ l₆ l₇ l₈ l₉ l₁₀ l₁₁ l₁₂ l₁₃ l₁₄ l₁₅ l₁₆ l₁₇
+
+    abbrev held : Content → ℕ → List Content
+    held v₆ n = Fresh.held a sp blank v₆ n
+
+    calls-it : Has (a .c) → Is D.the-row (a .d) (D′.lowered (a .d) ∷ []) → Sq W (Open H a (a .t) (a .d) (a .c) (locals E (held blank 8) (‵ (flft κp qp) ∷ ‵ OwnP ∷ []))) (runs C′ Λ E mir.t-9 (atRet E Post))
+    calls-it gc gd =
+        nothing ! $ move ! (55 ∷ 0 ∷ []) $ fjoin ! $ owned ! D.the-row (Is D.the-row) (LL.makes D.the-type D′.the-plain 𝓤 H A) (a .d) _ gd $ fjoin ! $ owned ! bool (Is bool) (bool-makes 𝓤 H A W) (a .c .ais) _ refl $ fjoin ! $ owned ! usize (Is usize) (uint-makes 𝓤 H A W w64) (length (a .t)) _ (refl, room .0) $ fjoin ! $ nothing ! $ move ! (55 ∷ 0 ∷ []) $ join ! $
+        -- [T; O; the table; the device record; what closes each; the arrays from 10; …]
+        move ! (10 ∷ 11 ∷ 12 ∷ 13 ∷ 0 ∷ 1 ∷ []) $
+        calls-four ! fm (Replay 𝓤 H A mem′ run) known-replay mutably to-replay (a .c) gc (a .bc) (a .oc) St.the-row T O Leaves (λ z w. Replayed (length (a .t)) (a .c) (left-by mutably (a .c) w) (a .d) ps z) goes (λ n v. id⊢ 𝓤 _) (λ n i.
+        (and-then ! (load ! (from ! (stop !)) (look ! 34 refl)) (and-then ! (load ! (from ! (stop !)) (look ! 36 refl)) (and-then ! (load ! (from ! (stop !)) (look ! 38 refl)) (and-then ! (load ! (from ! (stop !)) (look ! 40 refl)) (and-then ! (load ! (from ! (stop !)) (look ! 42 refl)) (and-then ! (load ! (from ! (stop !)) (look ! 44 refl)) (and-then ! (load ! (from ! (stop !)) (look ! 28 refl)) (and-then ! (load ! (from ! (stop !)) (look ! 26 refl)) (no-more !)))))))))) (λ z v w φ g′ is.
+        land ! (from ! (stop !)) (init ! 31 refl (LL.lawful St.the-type St′.the-laws 𝓤 H A W .typed z _ is .0)) $ rewrite ! 31 (λ (u : Val). ‵ (fat fullShare St′.mir l₆ 0 u)) (ap only (St′.lowers .val-is z (v ∷ []) is)) refl $
+        -- [the arrays; T; the rest's last values; the table; …]
+        move ! (5 ∷ []) $ drop ! $ move ! (4 ∷ []) $ split ! $ move ! (1 ∷ []) $ drop ! $ move ! (0 ∷ 5 ∷ 6 ∷ 7 ∷ 8 ∷ 9 ∷ 10 ∷ 11 ∷ 12 ∷ 1 ∷ 2 ∷ 3 ∷ 4 ∷ []) $ swaps ! (‵ (flft κp qp) ∷ []) (Open H a (a .t) (a .d) (left-by mutably (a .c) w) (locals E (held (holds (St′.lowered z)) 9) [])) $
+        finishes 𝓤 H A W mem′ run a room (sliceTy (tyRef (named 3) imm (tyInt w8))) sp Post C′ Λ fm known (‵ (flft κp qp) ∷ []) l₀ l₁ l₂ l₃ l₄ l₅ l₆ l₇ l₈ l₉ l₁₀ l₁₁ l₁₂ l₁₃ l₁₄ l₁₅ l₁₆ l₁₇ z (left-by mutably (a .c) w) gd g′ (subst (Is St.the-row z) (St′.lowers .val-is z (v ∷ []) is) is) (λ e is′. exits _ (z .device) _ (z .answer) (play-promises (a .c) (left-by mutably (a .c) w) (a .d) (a .t) ps z refl φ valid) e is′))
+
+  walk : (C′ : Calls 𝓤 H) (Λ : Loops 𝓤 H) (fm : FmC 𝓤 H (W .laws) C′) → Known 𝓤 H A mem′ run C′ → Triple 𝓤 (C′ replay-def.name) (Replay 𝓤 H A mem′ run) → ent 𝓤 (onEntry 𝓤 H A f.signature (bound .0 .0) (bound .0 .1) x at) (WpFn 𝓤 H C′ Λ code.function (vptr (a .bc) (a .oc) ∷ vptr (a .bd) (a .od) ∷ table a ∷ sp ∷ []) Post)
+  walk C′ Λ fm known known-replay =
+      qed W (Tokens a T ∷ ‵ (Owned a (a .c) (a .d) (a .t) (owns (ShrSlice (named 3) κp u8 ∷ []) (x .1 .1 .1) (at .1 .1 .1))) ∷ []) ∵
+      takes-all ! a $ move ! (7 ∷ []) $ fsplit ! $ move ! (8 ∷ []) $ split ! $
+      -- [the list's token; true; the list; true; the references]
+      keep ! (4 ∷ 5 ∷ 6 ∷ 7 ∷ 8 ∷ 9 ∷ 0 ∷ 2 ∷ []) $ enter ! C′ Λ code.function (vptr (a .bc) (a .oc) ∷ vptr (a .bd) (a .od) ∷ table a ∷ sp ∷ []) _ $
+      alloc1 ! (λ l₀. alloc1 ! (λ l₁. alloc1 ! (λ l₂. alloc1 ! (λ l₃. alloc1 ! (λ l₄. alloc1 ! (λ l₅. alloc1 ! (λ l₆. alloc1 ! (λ l₇. alloc1 ! (λ l₈. alloc1 ! (λ l₉. alloc1 ! (λ l₁₀. alloc1 ! (λ l₁₁. alloc1 ! (λ l₁₂. alloc1 ! (λ l₁₃. alloc1 ! (λ l₁₄. alloc1 ! (λ l₁₅. alloc1 ! (λ l₁₆. alloc1 ! (λ l₁₇. alloc0 ! $ params1 ! $
+      pass1 ! (init ! 32 refl (tt, tt)) $ pass1 ! (init ! 30 refl (tt, tt)) $ pass1 ! (init ! 28 refl (tt, (tt, (record { fits = room .0 }, tt)))) $ pass1 ! (init ! 26 refl (tt, (tt, (record { fits = room-p .0 }, tt)))) $ pass0 ! $
+      keep ! (36 ∷ 37 ∷ 38 ∷ 39 ∷ 40 ∷ 41 ∷ 34 ∷ 35 ∷ 32 ∷ 33 ∷ 30 ∷ 31 ∷ 28 ∷ 29 ∷ 26 ∷ 27 ∷ 24 ∷ 25 ∷ 22 ∷ 23 ∷ 20 ∷ 21 ∷ 18 ∷ 19 ∷ 16 ∷ 17 ∷ 14 ∷ 15 ∷ 12 ∷ 13 ∷ 10 ∷ 11 ∷ 8 ∷ 9 ∷ 6 ∷ 7 ∷ 4 ∷ 5 ∷ 2 ∷ 3 ∷ 0 ∷ 1 ∷ 42 ∷ 43 ∷ []) $ starts 𝓤 H A W mem′ run a room (sliceTy (tyRef (named 3) imm (tyInt w8))) sp Post C′ Λ fm known (‵ (flft κp qp) ∷ ‵ OwnP ∷ []) l₀ l₁ l₂ l₃ l₄ l₅ l₆ l₇ l₈ l₉ l₁₀ l₁₁ l₁₂ l₁₃ l₁₄ l₁₅ l₁₆ l₁₇ mir.t-9 (calls-it C′ Λ fm known known-replay l₀ l₁ l₂ l₃ l₄ l₅ l₆ l₇ l₈ l₉ l₁₀ l₁₁ l₁₂ l₁₃ l₁₄ l₁₅ l₁₆ l₁₇)))))))))))))))))))
+
+module _ {M : Type 1} (𝓤 : URA M) (H : Heap 𝓤) (A : Atoms 𝓤) (W : Given 𝓤 H A) (mem′ : Memory → SProp 𝓤) (run : Routine → Fun 𝓤) where
+  walks : (C′ : Calls 𝓤 H) (Λ : Loops 𝓤 H) → FmC 𝓤 H (W .laws) C′ → Known 𝓤 H A mem′ run C′ → Triple 𝓤 (C′ replay-def.name) (Replay 𝓤 H A mem′ run) → Walks 𝓤 H A f.ended stayed (WpFn 𝓤 H C′ Λ code.function) (f.clauses 𝓤 H A mem′ run)
+  walks C′ Λ fm known k = walked 𝓤 H A f.ended stayed (f.clauses 𝓤 H A mem′ run) (WpFn 𝓤 H C′ Λ code.function) (λ κs. (ptr-vals, (ptr-vals, (slice-vals, (slice-vals, tt)))))
+      (λ κs. (mut-tells (named 0) (κs .0) C.the-row, (mut-tells (named 1) (κs .1 .0) D.the-row, (mut-slice-tells (named 2) (κs .1 .1 .0) P.the-row, (shr-slice-tells (named 3) (κs .1 .1 .1 .0) u8, tt)))))
+      (λ κs qs bounds a _ are. needs 𝓤 (length (a .1 .1 .0 .now) ≡ paperLimits .places → Valid (a .0 .now) (a .1 .0 .now) (a .1 .1 .0 .now)) _ (λ valid. walk 𝓤 H A W mem′ run (refs (κs .0) (κs .1 .0) (κs .1 .1 .0) (qs .0) (qs .1 .0) (qs .1 .1 .0) (a .0) (a .1 .0) (a .1 .1 .0)) (κs .1 .1 .1 .0) (qs .1 .1 .1 .0)
+      (a .1 .1 .1 .0 .ptr .0) (a .1 .1 .1 .0 .ptr .1) (a .1 .1 .1 .0 .name) (a .1 .1 .1 .0 .now) (are .1 .1 .0 .0 .1) (are .1 .1 .1 .0 .0 .1) valid C′ Λ fm known k))
+
+  meets : (𝓣 : Tables 𝓤 H) → Known 𝓤 H A mem′ run (𝓣 .C) → Triple 𝓤 (𝓣 .C replay-def.name) (Replay 𝓤 H A mem′ run) → Meets 𝓤 H A f.signature (WpFn 𝓤 H (𝓣 .C) (𝓣 .Λ) code.function) (f.spec 𝓤 H A mem′ run)
+  meets 𝓣 known k = walk-meets 𝓤 H A f.ended stayed W
+      (goes-ref 𝓤 H A W 4 0 tt (plain (λ _. C.the-row)), (goes-ref 𝓤 H A W 4 1 tt (plain (λ _. D.the-row)), (goes-slice 𝓤 H A W 4 2 tt (plain (λ _. P.the-row)), (goes-dropped 𝓤 H A W 4 (shrSliceOf (3 ∷ []) tt (plain (λ _. u8))) yes (λ κs x f. refl), tt))))
+      (f.clauses 𝓤 H A mem′ run) (WpFn 𝓤 H (𝓣 .C) (𝓣 .Λ) code.function) (WpFn-mono 𝓤 H (W .laws) 𝓣 code.function) (walks (𝓣 .C) (𝓣 .Λ) (fmOf 𝓤 H (W .laws) 𝓣) known k)
+
+pub flic-play-list-spec : {M : Type 1} → stated.statement M
+unfolding code.routine tablesOf
+flic-play-list-spec 𝓤 H 𝓜 𝓖 𝓡 =
+    entered 𝓤 H (tripleOf 𝓤 H (𝓖 .A) f.signature (f.spec 𝓤 H (𝓖 .A) (𝓜 .mem) (𝓡 .run)))
+    (tables 𝓤 H 𝓜 𝓡 code.env .C) (tables 𝓤 H 𝓜 𝓡 code.env .Λ) #key code.function (code.unfolded 𝓤 H 𝓜 𝓡)
+    (meets 𝓤 H (𝓖 .A) (givenOf 𝓤 H 𝓜 𝓖) (𝓜 .mem) (𝓡 .run) (tablesOf 𝓤 H 𝓜 (tables 𝓤 H 𝓜 𝓡 code.env)) (record {
+      read-device = cited 𝓤 H (ReadDevice 𝓤 H (𝓖 .A) (𝓜 .mem) (𝓡 .run)) 𝓜 𝓡 code.env read-device-def.name read-device-def.routine code.calls-table·read-device (read-device-thm.met 𝓤 H 𝓜 𝓖 𝓡);
+      store-device = cited 𝓤 H (StoreDevice 𝓤 H (𝓖 .A) (𝓜 .mem) (𝓡 .run)) 𝓜 𝓡 code.env store-device-def.name store-device-def.routine code.calls-table·store-device (store-device-thm.met 𝓤 H 𝓜 𝓖 𝓡);
+      restore = cited 𝓤 H (Restore 𝓤 H (𝓖 .A) (𝓜 .mem) (𝓡 .run)) 𝓜 𝓡 code.env restore-def.name restore-def.routine code.calls-table·restore (restore-thm.met 𝓤 H 𝓜 𝓖 𝓡);
+    }) (cited 𝓤 H (Replay 𝓤 H (𝓖 .A) (𝓜 .mem) (𝓡 .run)) 𝓜 𝓡 code.env replay-def.name replay-def.routine code.calls-flic·replay (replay-thm.met 𝓤 H 𝓜 𝓖 𝓡)))

@@ -1,0 +1,131 @@
+-- Laws of a list's table: one entry more, where it stops, and that every payload lies within the list.
+use Prim.Native.Nat.{ℕ, zero, suc, _+_, _-_, _*_, _≤_, _<_}
+use mathlib.Core.Path.{_≡_, refl}
+use mathlib.Core.Bool.{Bool, true, false, _&&_}
+use mathlib.Core.List.{List, [], _∷_}
+use native.Mathlib.Nat.{not-suc-le-zero, le-of-suc-le-suc}
+use native.Mathlib.Omega.{arith}
+use lib.ListN.{length, drop}
+use lib.Seq.{drop-drop}
+use lib.Dec.{leb, eqb}
+use borrow.Author.Tests.{eqb-true, leb-true}
+use Rattle.rules.specs.Bytes.{field}
+use Rattle.rules.specs.Requests.{isZero}
+use Rattle.rules.specs.State.{Limits, State, fresh}
+use Rattle.rules.specs.Outcome.{Outcome, EINVAL, EOPNOTSUPP, E2BIG, refuse, need_else_⨾_}
+use Rattle.rules.specs.MoveList.{flag, headerBytes, slotBytes, totalIn, countIn, tableIn, payloadsIn, payloadsAt, flagIn, Slot, slotIn, slotsIn, movable, formed, entriesIn, applies, mostRequests, plays}
+use Rattle.rules.proofs.Checks.{left, right}
+use Rattle.list_form.specs.Form.{slotAt, slotsOf, slotFormed, Formed, Form}
+
+-- a field behind e bytes
+pub inside : (e k n : ℕ) (b : List ℕ) → field (e + k) n b ≡ field k n (drop e b)
+inside e k n b = rw (drop-drop k e b)
+
+-- the entries of the table from a place on
+abbrev pub slotsFrom : ℕ → ℕ → List ℕ → List Slot
+slotsFrom place n b = slotsIn (n - place) (drop (headerBytes + slotBytes * place) b)
+
+pub next-slot : (place n : ℕ) (b : List ℕ) → place < n → slotsFrom place n b ≡ slotAt place b ∷ slotsFrom (place + 1) n b
+unfolding slotsIn
+next-slot place n b h =
+    let e : n - place ≡ suc (n - (place + 1)) = omega arith in
+    let f : headerBytes + slotBytes * place + slotBytes ≡ headerBytes + slotBytes * (place + 1) = omega arith in
+    rw (e, drop-drop slotBytes (headerBytes + slotBytes * place) b, f)
+
+pub last-slot : (place n : ℕ) (b : List ℕ) → n ≤ place → slotsFrom place n b ≡ []
+unfolding slotsIn
+last-slot place n b h = let e : n - place ≡ 0 = omega arith in rw e
+
+pub slots-all : (n : ℕ) (b : List ℕ) → slotsFrom 0 n b ≡ slotsIn n (drop headerBytes b)
+slots-all n b = let e : n - 0 ≡ n = omega arith in rw e
+
+-- a turn of the check, where an entry passes and where it does not
+both-then : (a b c d : Bool) → (a && (b && c)) ≡ true → (a && (b && (c && d))) ≡ d
+both-then true true true d h = refl
+both-then true true false d h = let z : true ≡ false = cc in cc
+both-then true false c d h = let z : true ≡ false = cc in cc
+both-then false b c d h = let z : true ≡ false = cc in cc
+
+not-both : (a b c d : Bool) → (a && (b && c)) ≡ false → (a && (b && (c && d))) ≡ false
+not-both true true true d h = cc
+not-both true true false d h = refl
+not-both true false c d h = refl
+not-both false b c d h = refl
+
+module _ (end at place n : ℕ) (b : List ℕ) (h : place < n) where
+  pub formed-next : slotFormed at (slotAt place b) ≡ true
+      → formed end at (slotsFrom place n b) ≡ formed end (at + slotAt place b .size) (slotsFrom (place + 1) n b)
+  unfolding formed
+  formed-next e = rw (next-slot place n b h) (both-then (eqb (slotAt place b .at) at) (isZero (slotAt place b .zeroWord)) (movable (slotAt place b .group)) _ e)
+
+  pub formed-stops : slotFormed at (slotAt place b) ≡ false → formed end at (slotsFrom place n b) ≡ false
+  unfolding formed
+  formed-stops e = rw (next-slot place n b h) (not-both (eqb (slotAt place b .at) at) (isZero (slotAt place b .zeroWord)) (movable (slotAt place b .group)) _ e)
+
+pub formed-ends : (end at place n : ℕ) (b : List ℕ) → n ≤ place → formed end at (slotsFrom place n b) ≡ eqb at end
+unfolding formed
+formed-ends end at place n b h = rw (last-slot place n b h)
+
+-- what a well-formed table says of the rest and of one entry
+module _ (end at : ℕ) (e : Slot) (es : List Slot) (h : formed end at (e ∷ es) ≡ true) where
+  rest-formed : formed end (at + e .size) es ≡ true
+  unfolding formed
+  rest-formed = right (movable (e .group)) _ (right (isZero (e .zeroWord)) _ (right (eqb (e .at) at) _ h))
+
+  here-at : e .at ≡ at
+  unfolding formed
+  here-at = eqb-true (e .at) at (left (eqb (e .at) at) _ h)
+
+reaches : (end at : ℕ) (es : List Slot) → formed end at es ≡ true → at ≤ end
+unfolding formed
+reaches end at [] h = let e = eqb-true at end h in omega arith
+reaches end at (e ∷ es) h = let r = reaches end (at + e .size) es (rest-formed end at e es h) in omega arith
+
+within : (end at n place : ℕ) (b : List ℕ) → place < n → formed end at (slotsIn n b) ≡ true
+    → slotIn (drop (slotBytes * place) b) .at + slotIn (drop (slotBytes * place) b) .size ≤ end
+unfolding slotsIn
+within end at zero place b p h = absurd (not-suc-le-zero p)
+within end at (suc n) zero b p h =
+    let r = reaches end (at + slotIn b .size) (slotsIn n (drop slotBytes b)) (rest-formed end at (slotIn b) (slotsIn n (drop slotBytes b)) h) in
+    let e = here-at end at (slotIn b) (slotsIn n (drop slotBytes b)) h in
+    omega arith
+within end at (suc n) (suc place) b p h =
+    let e : slotBytes * suc place ≡ slotBytes + slotBytes * place = omega arith in
+    rw (e, ← drop-drop (slotBytes * place) slotBytes b)
+    (within end (at + slotIn b .size) n place (drop slotBytes b) (le-of-suc-le-suc p)
+    (rest-formed end at (slotIn b) (slotsIn n (drop slotBytes b)) h))
+
+pub payload-within : (b : List ℕ) (place : ℕ) → Formed b → place < countIn b → slotAt place b .at + slotAt place b .size ≤ length b
+payload-within b place h p =
+    rw (← drop-drop (slotBytes * place) headerBytes b) (within (length b) (payloadsAt (countIn b)) (countIn b) place (drop headerBytes b) p (h .slots))
+
+-- ---- the checks of a list that are left after the first, the second, ..
+module _ (L : Limits) (s : State) (b : List ℕ) where
+  abbrev pub fromAis : Outcome
+  fromAis = need eqb (flagIn b) (flag (s .ais)) else EOPNOTSUPP ⨾ applies L 0 (fresh L (s .ais)) (entriesIn b (slotsOf b))
+
+  abbrev pub fromSlots : Outcome
+  fromSlots = need formed (length b) (payloadsIn b) (slotsOf b) else EINVAL ⨾ fromAis
+
+  abbrev pub fromOffsets : Outcome
+  fromOffsets =
+      need eqb (tableIn b) headerBytes && (eqb (payloadsIn b) (payloadsAt (countIn b)) && leb (payloadsIn b) (length b)) else EINVAL ⨾ fromSlots
+
+  abbrev pub fromCount : Outcome
+  fromCount = need leb (countIn b) mostRequests else E2BIG ⨾ fromOffsets
+
+  abbrev pub fromFlag : Outcome
+  fromFlag = need leb (flagIn b) 1 else EINVAL ⨾ fromCount
+
+  abbrev pub fromTotal : Outcome
+  fromTotal = need eqb (totalIn b) (length b) else EINVAL ⨾ fromFlag
+
+pub refused-with : (ais : Bool) (b : List ℕ) (code : ℕ) → 0 < code → ((L : Limits) (s : State) → s .ais ≡ ais → plays L s b ≡ refuse code) → Form ais b code
+refused-with ais b code h f = record { good = λ z. absurd (omega arith); played = λ z. absurd (omega arith); refused = λ n. f }
+
+-- what the offsets say where they pass
+pub offsets-say : (t : Bool) (x y n : ℕ) → (t && (eqb x y && leb x n)) ≡ true → (x ≡ y) × (y ≤ n)
+offsets-say t x y n h =
+    let k = right t _ h in
+    let e = eqb-true x y (left (eqb x y) _ k) in
+    (e, omega (arith, leb-true x n (right (eqb x y) _ k)))

@@ -1,0 +1,126 @@
+-- `list_form::form` meets its contract: the checks in order, each one's test as the code has it.
+use Prim.Native.Nat.{_≤_}
+use mathlib.Core.Path.{_≡_, sym, ap, _∙_}
+use mathlib.Core.Bool.{true, _&&_}
+use native.Mathlib.Omega.{arith}
+use lib.ListN.{length}
+use lib.Dec.{leb, eqb}
+use borrow.Author.Needs.{needs}
+use borrow.Author.Tests.{eq-eqb, ne-eqb, le-leb, lt-leb, not-true, not-false}
+use Rattle.rules.specs.State.{Limits, State}
+use Rattle.rules.specs.MoveList.{flag, headerBytes, countIn, tableIn, payloadsIn, payloadsAt, formed, plays}
+use Rattle.rules.proofs.Checks.{passes, fails}
+use Rattle.list_form.specs.Form.{slotsOf}
+use Rattle.list_form.proofs.Laws.{fromAis, fromSlots, fromOffsets, fromCount, fromFlag, fromTotal, refused-with, offsets-say}
+use Rattle.list_form.proofs.form.Statement.{statement}
+use Rattle.list_form.proofs.form.Tie as tie
+
+past-length : (c : tie.Else1) (L : Limits) (s : State) → let b = c .before .before .args .list .now in plays L s b ≡ fromTotal L s b
+unfolding plays
+past-length c L s = passes _ _ _ (le-leb headerBytes _ (c .if1 .left))
+
+past-total : (c : tie.Else2) (L : Limits) (s : State) → let b = c .before .before .before .before .args .list .now in plays L s b ≡ fromFlag L s b
+past-total c L s = past-length (c .before .before) L s ∙ passes _ _ _ (eq-eqb _ _ (sym (c .before .read-be .ensures .0) ∙ c .if2 .left))
+
+past-flag : (c : tie.Else3) (L : Limits) (s : State) → let b = c .before .before .before .before .before .before .args .list .now in plays L s b ≡ fromCount L s b
+past-flag c L s = past-total (c .before .before) L s ∙ passes _ _ _ (rw (← c .before .read-be2 .ensures .0) (le-leb _ 1 (c .if3 .left)))
+
+past-count : (c : tie.Else4) (L : Limits) (s : State) → let b = c .before .before .before .before .before .before .before .before .args .list .now in plays L s b ≡ fromOffsets L s b
+past-count c L s = past-flag (c .before .before) L s ∙ passes _ _ _ (rw (← c .before .read-be3 .ensures .0) (le-leb _ 131 (c .if4 .left)))
+
+-- the offsets' test and the entries' test, with the count as the list has it
+offsets-pass : (c : tie.Else5) → let b = c .before .before .before .before .before .before .before .before .before .before .args .list .now in
+    (eqb (tableIn b) headerBytes && (eqb (payloadsIn b) (payloadsAt (countIn b)) && leb (payloadsIn b) (length b))) ≡ true
+offsets-pass c = (rw (c .before .before .before .read-be3 .ensures .0) at (sym (c .before .offsets .ensures))) ∙ not-false _ (c .if5 .left)
+
+start-is : (c : tie.Else5) → let b = c .before .before .before .before .before .before .before .before .before .before .args .list .now in (payloadsIn b ≡ payloadsAt (countIn b)) × (payloadsAt (countIn b) ≤ length b)
+start-is c = offsets-say (eqb (tableIn (c .before .before .before .before .before .before .before .before .before .before .args .list .now)) headerBytes) _ _ _ (offsets-pass c)
+
+past-offsets : (c : tie.Else5) (L : Limits) (s : State) → let b = c .before .before .before .before .before .before .before .before .before .before .args .list .now in plays L s b ≡ fromSlots L s b
+past-offsets c L s = past-count (c .before .before) L s ∙ passes _ _ _ (offsets-pass c)
+
+said : (c : tie.After-slots-formed) → let b = c .before .before .before .before .before .before .before .before .before .before .before .args .list .now in c .slots-formed .result ≡ formed (length b) (payloadsAt (countIn b)) (slotsOf b)
+said c = rw (c .before .before .before .before .read-be3 .ensures .0) at (c .slots-formed .ensures)
+
+slots-pass : (c : tie.Else6) → let b = c .before .before .before .before .before .before .before .before .before .before .before .before .args .list .now in formed (length b) (payloadsAt (countIn b)) (slotsOf b) ≡ true
+slots-pass c = sym (said (c .before)) ∙ not-false _ (c .if6 .left)
+
+past-slots : (c : tie.Else6) (L : Limits) (s : State) → let b = c .before .before .before .before .before .before .before .before .before .before .before .before .args .list .now in plays L s b ≡ fromAis L s b
+past-slots c L s = past-offsets (c .before .before) L s ∙ passes _ _ _ (rw (start-is (c .before .before) .0) (slots-pass c))
+
+returns : tie.Need-returns
+unfolding plays
+returns c = refused-with _ _ 14 (omega arith) (λ L s e. fails _ _ _ (lt-leb headerBytes _ (c .if1 .taken)))
+
+read-be-requires : tie.Need-read-be-requires
+read-be-requires c κs = search needs
+
+returns-2 : tie.Need-returns-2
+returns-2 c = refused-with _ _ 22 (omega arith) (λ L s e. past-length (c .before .before) L s ∙ fails _ _ _ (ne-eqb _ _ (λ z. c .if2 .taken (c .before .read-be .ensures .0 ∙ z))))
+
+read-be-requires-2 : tie.Need-read-be-requires-2
+read-be-requires-2 c κs = search needs
+
+returns-3 : tie.Need-returns-3
+returns-3 c = refused-with _ _ 22 (omega arith) (λ L s e. past-total (c .before .before) L s ∙ fails _ _ _ (rw (← c .before .read-be2 .ensures .0) (lt-leb _ 1 (c .if3 .taken))))
+
+read-be-requires-3 : tie.Need-read-be-requires-3
+read-be-requires-3 c κs = search needs
+
+returns-4 : tie.Need-returns-4
+returns-4 c = refused-with _ _ 7 (omega arith) (λ L s e. past-flag (c .before .before) L s ∙ fails _ _ _ (rw (← c .before .read-be3 .ensures .0) (lt-leb _ 131 (c .if4 .taken))))
+
+offsets-requires : tie.Need-offsets-requires
+offsets-requires c κs = search needs
+
+returns-5 : tie.Need-returns-5
+returns-5 c =
+    refused-with _ _ 22 (omega arith)
+    (λ L s e. past-count (c .before .before) L s ∙ fails _ _ _ ((rw (c .before .before .before .read-be3 .ensures .0) at (sym (c .before .offsets .ensures))) ∙ not-true _ (c .if5 .taken)))
+
+slots-formed-requires : tie.Need-slots-formed-requires
+slots-formed-requires c κs = (c .before .before .if4 .left, rw (c .before .before .before .read-be3 .ensures .0) (start-is c .1))
+
+returns-6 : tie.Need-returns-6
+returns-6 c =
+    refused-with _ _ 22 (omega arith)
+    (λ L s e. past-offsets (c .before .before) L s ∙ fails _ _ _ (rw (start-is (c .before .before) .0) (sym (said (c .before)) ∙ not-true _ (c .if6 .taken))))
+
+flag-of-requires : tie.Need-flag-of-requires
+flag-of-requires c κs = search needs
+
+returns-7 : tie.Need-returns-7
+returns-7 c =
+    refused-with _ _ 95 (omega arith)
+    (λ L s e. past-slots (c .before .before) L s ∙ fails _ _ _ (ne-eqb _ _ (λ z. c .if7 .taken (c .before .before .before .before .before .before .before .before .before .read-be2 .ensures .0 ∙ z ∙ ap flag e ∙ sym (c .before .flag-of .ensures .0)))))
+
+returns-8 : tie.Need-returns-8
+returns-8 c =
+    let b = c .before .before .before .before .before .before .before .before .before .before .before .before .before .before .args .list .now in
+    record {
+      good = λ z. record { few = rw (← c .before .before .before .before .before .before .before .read-be3 .ensures .0) (c .before .before .before .before .before .before .if4 .left); table = start-is (c .before .before .before .before) .1; slots = slots-pass (c .before .before) };
+      played =
+          λ z L s e.
+          past-slots (c .before .before) L s ∙ passes _ _ _ (eq-eqb _ _ (sym (c .before .before .before .before .before .before .before .before .before .read-be2 .ensures .0) ∙ c .if7 .left ∙ c .before .flag-of .ensures .0 ∙ ap flag (sym e)))
+          ∙ rw e;
+      refused = λ n. absurd (n (omega arith));
+    }
+
+pub form-spec : {M : Type 1} → statement M
+form-spec =
+    tie.close
+    (tie.spec
+    returns
+    read-be-requires
+    returns-2
+    read-be-requires-2
+    returns-3
+    read-be-requires-3
+    returns-4
+    offsets-requires
+    returns-5
+    slots-formed-requires
+    returns-6
+    flag-of-requires
+    returns-7
+    returns-8)

@@ -1,0 +1,94 @@
+-- The invariant: the check of what is left, from where the next payload begins, comes to what the check of all comes to.
+use Prim.Native.Nat.{_+_, _-_, _*_, _^_, _≤_}
+use mathlib.Core.Path.{_≡_, sym, _∙_}
+use native.Mathlib.Omega.{arith}
+use lib.ListN.{length, drop}
+use borrow.Author.Needs.{needs}
+use borrow.Author.Tests.{not-true, not-false}
+use Rattle.rules.specs.MoveList.{headerBytes, payloadsAt, slotsIn, formed}
+use Rattle.list_form.specs.Form.{slotAt}
+use Rattle.list_form.proofs.Laws.{inside, slotsFrom, slots-all, formed-next, formed-stops, formed-ends}
+use Rattle.list_form.proofs.slots_formed.Statement.{statement}
+use Rattle.list_form.proofs.slots_formed.Tie as tie
+
+abbrev Inv-loop : tie.InvT-loop
+Inv-loop list count at₀ i₀ at i =
+    (i ≤ count) × (at ≤ 20 + 24 * count + 2 ^ 32 * i)
+    × (formed (length list) (payloadsAt count) (slotsIn count (drop headerBytes list)) ≡ formed (length list) at (slotsFrom i count list))
+
+abbrev μ-loop : tie.MeasureT-loop
+μ-loop list count at₀ i₀ at i = count - i
+
+mul-at : tie.Need-mul-at Inv-loop μ-loop
+mul-at c = search needs
+
+add-at : tie.Need-add-at Inv-loop μ-loop
+add-at c = search needs
+
+loop-holds : tie.Need-loop-holds Inv-loop μ-loop
+loop-holds c = (omega arith, omega arith, rw slots-all)
+
+slot-formed-requires : tie.Need-slot-formed-requires Inv-loop μ-loop
+slot-formed-requires c κs = (omega arith, omega arith)
+
+returns : tie.Need-returns Inv-loop μ-loop
+returns c =
+    let a = c .before .before .before .before .before .args in
+    let l = c .before .before .before .loop in
+    sym (l .inv .2 ∙ formed-stops (length (a .list .now)) (l .at) (l .i) (a .count) (a .list .now) (c .before .before .loop-test .taken) (sym (c .before .slot-formed .ensures) ∙ not-true _ (c .if1 .taken)))
+
+mul-read-be : tie.Need-mul-read-be Inv-loop μ-loop
+mul-read-be c = search needs
+
+add-read-be : tie.Need-add-read-be Inv-loop μ-loop
+add-read-be c = search needs
+
+read-be-requires : tie.Need-read-be-requires Inv-loop μ-loop
+read-be-requires c κs = (omega arith, omega arith)
+
+add-at-2 : tie.Need-add-at-2 Inv-loop μ-loop
+add-at-2 c = omega (arith, c .read-be .ensures .1)
+
+add-i : tie.Need-add-i Inv-loop μ-loop
+add-i c = search needs
+
+loop-less : tie.Need-loop-less Inv-loop μ-loop
+loop-less c = search needs
+
+loop-again : tie.Need-loop-again Inv-loop μ-loop
+loop-again c =
+    let a = c .before .before .before .before .before .before .args in
+    let l = c .before .before .before .before .loop in
+    let e : 28 + 24 * l .i ≡ 20 + 24 * l .i + 8 = omega arith in
+    let size : c .read-be .result ≡ slotAt (l .i) (a .list .now) .size = (rw e at (c .read-be .ensures .0)) ∙ inside (20 + 24 * l .i) 8 4 (a .list .now) in (
+      omega arith,
+      omega (arith, c .read-be .ensures .1),
+      rw size
+          (l .inv .2 ∙ formed-next (length (a .list .now)) (l .at) (l .i) (a .count) (a .list .now) (c .before .before .before .loop-test .taken) (sym (c .before .before .slot-formed .ensures) ∙ not-false _ (c .before .if1 .left))),
+    )
+
+returns-2 : tie.Need-returns-2 Inv-loop μ-loop
+returns-2 c =
+    let a = c .before .before .before .args in
+    let l = c .before .loop in
+    sym (l .inv .2 ∙ formed-ends (length (a .list .now)) (l .at) (l .i) (a .count) (a .list .now) (c .loop-test .left))
+
+pub slots-formed-spec : {M : Type 1} → statement M
+slots-formed-spec =
+    tie.close
+    (tie.spec
+    Inv-loop
+    μ-loop
+    mul-at
+    add-at
+    loop-holds
+    slot-formed-requires
+    returns
+    mul-read-be
+    add-read-be
+    read-be-requires
+    add-at-2
+    add-i
+    loop-less
+    loop-again
+    returns-2)

@@ -1,0 +1,34 @@
+-- 01, 'Move list', played: what is checked of a list before its requests are applied.
+use Prim.Native.Nat.{ℕ, _+_, _*_, _≤_}
+use mathlib.Core.Path.{_≡_}
+use mathlib.Core.Bool.{Bool, true, _&&_}
+use mathlib.Core.List.{List}
+use lib.ListN.{length, drop}
+use lib.Dec.{eqb}
+use Rattle.rules.specs.State.{Limits, State, fresh}
+use Rattle.rules.specs.Outcome.{refuse}
+use Rattle.rules.specs.Requests.{isZero}
+use Rattle.rules.specs.MoveList.{headerBytes, slotBytes, countIn, payloadsAt, Slot, slotIn, slotsIn, movable, formed, entriesIn, applies, mostRequests, plays}
+
+-- the table entry at a place, from 0, and all of them
+abbrev pub slotAt : ℕ → List ℕ → Slot
+slotAt place b = slotIn (drop (headerBytes + slotBytes * place) b)
+
+abbrev pub slotsOf : List ℕ → List Slot
+slotsOf b = slotsIn (countIn b) (drop headerBytes b)
+
+-- place without gap, zero word, group
+abbrev pub slotFormed : ℕ → Slot → Bool
+slotFormed at e = eqb (e .at) at && (isZero (e .zeroWord) && movable (e .group))
+
+-- what a list of good form has
+pub record Formed (b : List ℕ) : Type 0 where
+  pub few : countIn b ≤ mostRequests
+  pub table : payloadsAt (countIn b) ≤ length b
+  pub slots : formed (length b) (payloadsAt (countIn b)) (slotsOf b) ≡ true
+
+-- What a code says of a list: 0, its form is good and its requests are applied to a fresh controller; else it is refused with this code.
+pub record Form (ais : Bool) (b : List ℕ) (code : ℕ) : Type 0 where
+  pub good : code ≡ 0 → Formed b
+  pub played : code ≡ 0 → (L : Limits) (s : State) → s .ais ≡ ais → plays L s b ≡ applies L 0 (fresh L ais) (entriesIn b (slotsOf b))
+  pub refused : (code ≡ 0 → ⊥) → (L : Limits) (s : State) → s .ais ≡ ais → plays L s b ≡ refuse code

@@ -1,0 +1,237 @@
+// Inner crate: playing a move list on lent memory, with the adapter places in an image of bytes.
+ghost use mathlib.Core.Path.{_≡_};
+ghost use Prim.Native.Nat.{ℕ, _≤_, _<_};
+ghost use lib.ListN.{take, replicate};
+ghost use lib.Dec.{eqb};
+ghost use Rattle.rules.specs.Bytes.{choose, part};
+ghost use Rattle.rules.specs.State.{Limits, State};
+ghost use Rattle.rules.specs.Outcome.{refuse};
+ghost use Rattle.rules.specs.Requests.{setRequest, request};
+ghost use Rattle.rules.specs.MoveList.{countIn, entriesIn, applies, plays};
+ghost use Rattle.answers.specs.Answers.{Answers};
+ghost use Rattle.queues.specs.Queues.{Held};
+ghost use Rattle.records.specs.Memory.{pendingOf};
+ghost use Rattle.adapters.specs.Values.{deviceOf};
+ghost use Rattle.image_places.specs.Places.{AllCanonical};
+ghost use Rattle.list_form.specs.Form.{slotAt, slotsOf, Formed};
+ghost use Rattle.play.specs.Play.{limitsOf, stateOf, requestIn, ranTo};
+ghost use Rattle.image.specs.Image.{imageSize};
+ghost use Rattle.slots.specs.Slots.{slotCount};
+use adapters::Device;
+use answers::Answer;
+use values::Reply;
+use words::PLACES;
+use words::QUEUES;
+use words::ROOM;
+use words::SINGLES_BYTES;
+use words::SLOT_BYTES;
+
+// A set request, on the place of the image that it is about.
+fn apply(
+    slots: &mut [u8; SLOT_BYTES],
+    order: &mut [u8; ROOM],
+    counts: &mut [usize; QUEUES],
+    singles: &mut [u8; SINGLES_BYTES],
+    places: u64,
+    room: usize,
+    ais: bool,
+    device: Device,
+    image: &mut [u8; PLACES],
+    group: u32,
+    attr: u64,
+    payload: &[u8],
+) -> Reply
+    requires { ⌜ (room ≤ slotCount) × (places ≤ imageSize) × Held (now order) (now counts) × AllCanonical (now image) ⌝ }
+    ensures answer { λ r. ⌜ Answers (limitsOf places room) (stateOf ais places (now (image .entry)) (pendingOf (now (order .entry)) (now (counts .entry)) (now (slots .entry)) (now (singles .entry))) device) (now (payload .entry)) (request (limitsOf places room) (stateOf ais places (now (image .entry)) (pendingOf (now (order .entry)) (now (counts .entry)) (now (slots .entry)) (now (singles .entry))) device) (setRequest group) attr (now (payload .entry))) (r .answer) (stateOf ais places (now (image .exit)) (pendingOf (now (order .exit)) (now (counts .exit)) (now (slots .exit)) (now (singles .exit))) (r .device)) (now (payload .entry)) ⌝ }
+    ensures held { λ _. ⌜ Held (now (order .exit)) (now (counts .exit)) × AllCanonical (now (image .exit)) ⌝ }
+{
+    let id = values::about(group, attr, payload);
+    let place = image_places::look_up(image, places, id);
+    let r = core::set_request(
+        slots,
+        order,
+        counts,
+        singles,
+        places,
+        room,
+        ais,
+        device,
+        place,
+        group,
+        attr,
+        payload,
+    );
+    image_places::put(image, places, id, r.place);
+    r
+}
+
+// The request of the table entry at a place.
+fn apply_at(
+    slots: &mut [u8; SLOT_BYTES],
+    order: &mut [u8; ROOM],
+    counts: &mut [usize; QUEUES],
+    singles: &mut [u8; SINGLES_BYTES],
+    places: u64,
+    room: usize,
+    ais: bool,
+    device: Device,
+    image: &mut [u8; PLACES],
+    list: &[u8],
+    place: usize,
+) -> Reply
+    requires { ⌜ (room ≤ slotCount) × (places ≤ imageSize) × Held (now order) (now counts) × AllCanonical (now image) × Formed (now list) × (place < countIn (now list)) ⌝ }
+    ensures answer { λ r. ⌜ Answers (limitsOf places room) (stateOf ais places (now (image .entry)) (pendingOf (now (order .entry)) (now (counts .entry)) (now (slots .entry)) (now (singles .entry))) device) (part (slotAt place (now (list .entry)) .at) (slotAt place (now (list .entry)) .size) (now (list .entry))) (requestIn (limitsOf places room) (stateOf ais places (now (image .entry)) (pendingOf (now (order .entry)) (now (counts .entry)) (now (slots .entry)) (now (singles .entry))) device) (now (list .entry)) (slotAt place (now (list .entry)))) (r .answer) (stateOf ais places (now (image .exit)) (pendingOf (now (order .exit)) (now (counts .exit)) (now (slots .exit)) (now (singles .exit))) (r .device)) (part (slotAt place (now (list .entry)) .at) (slotAt place (now (list .entry)) .size) (now (list .entry))) ⌝ }
+    ensures held { λ _. ⌜ Held (now (order .exit)) (now (counts .exit)) × AllCanonical (now (image .exit)) ⌝ }
+{
+    let e = 20 + 24 * place;
+    let at = words::read_be(list, e, 4) as usize;
+    let group = words::read_be(list, e + 4, 4) as u32;
+    let end = at + words::read_be(list, e + 8, 4) as usize;
+    let attr = words::read_be(list, e + 16, 8);
+    apply(
+        slots,
+        order,
+        counts,
+        singles,
+        places,
+        room,
+        ais,
+        device,
+        image,
+        group,
+        attr,
+        &list[at..end],
+    )
+}
+
+// What came of a list's requests: code 0 and their number, or the code and place of the refused one; and the device record.
+struct Ran {
+    answer: Answer,
+    device: Device,
+}
+
+// The requests one after another, to the first that is refused.
+fn apply_all(
+    slots: &mut [u8; SLOT_BYTES],
+    order: &mut [u8; ROOM],
+    counts: &mut [usize; QUEUES],
+    singles: &mut [u8; SINGLES_BYTES],
+    places: u64,
+    room: usize,
+    ais: bool,
+    device: Device,
+    image: &mut [u8; PLACES],
+    list: &[u8],
+    count: usize,
+) -> Ran
+    requires { ⌜ (room ≤ slotCount) × (places ≤ imageSize) × Held (now order) (now counts) × AllCanonical (now image) × Formed (now list) × (count ≡ countIn (now list)) ⌝ }
+    ensures answer { λ r. ⌜ applies (limitsOf places room) 0 (stateOf ais places (now (image .entry)) (pendingOf (now (order .entry)) (now (counts .entry)) (now (slots .entry)) (now (singles .entry))) device) (entriesIn (now (list .entry)) (slotsOf (now (list .entry)))) ≡ ranTo (r .answer) (stateOf ais places (now (image .exit)) (pendingOf (now (order .exit)) (now (counts .exit)) (now (slots .exit)) (now (singles .exit))) (r .device)) ⌝ }
+    ensures held { λ _. ⌜ Held (now (order .exit)) (now (counts .exit)) × AllCanonical (now (image .exit)) ⌝ }
+{
+    let mut d = device;
+    let mut i = 0;
+    while i < count {
+        let r = apply_at(
+            slots,
+            order,
+            counts,
+            singles,
+            places,
+            room,
+            ais,
+            d,
+            image,
+            list,
+            i,
+        );
+        let code = r.answer.code;
+        d = r.device;
+        if code != 0 {
+            let answer = Answer {
+                code,
+                count: i as u64,
+            };
+            return Ran { answer, device: d };
+        }
+        i += 1;
+    }
+    let answer = answers::accept(count as u64);
+    Ran { answer, device: d }
+}
+
+// An answer, with the device record as it is then. Where the controller was made fresh, `restored` is the number of its places and the image
+// has them; where nothing changed it is 0.
+pub struct Played {
+    pub answer: Answer,
+    pub device: Device,
+    pub restored: u64,
+    pub image: [u8; PLACES],
+}
+
+// A refusal of form: nothing has changed.
+fn not_played(code: u32, device: Device) -> Played
+    ensures { λ r. ⌜ r ≡ record { answer = record { code = code; count = 0 }; device = device; restored = 0; image = replicate imageSize 0 } ⌝ }
+{
+    let answer = answers::refuse(code);
+    let image = image::empty();
+    Played {
+        answer,
+        device,
+        restored: 0,
+        image,
+    }
+}
+
+// A move list is played. A refusal of form changes nothing; one part-way leaves the controller fresh.
+pub fn play_list(
+    slots: &mut [u8; SLOT_BYTES],
+    order: &mut [u8; ROOM],
+    counts: &mut [usize; QUEUES],
+    singles: &mut [u8; SINGLES_BYTES],
+    places: u64,
+    room: usize,
+    ais: bool,
+    device: Device,
+    list: &[u8],
+) -> Played
+    requires { ⌜ (room ≤ slotCount) × (0 < places) × (places ≤ imageSize) × Held (now order) (now counts) ⌝ }
+    ensures answer { λ r. ⌜ ((L : Limits) (s : State) → L .places ≡ places → L .room ≡ room → s .ais ≡ ais → s .pending ≡ pendingOf (now (order .entry)) (now (counts .entry)) (now (slots .entry)) (now (singles .entry)) → s .device ≡ deviceOf device → Answers L s (now (list .entry)) (plays L s (now (list .entry))) (r .answer) (choose (eqb (r .restored) 0) s (stateOf ais places (r .image) (pendingOf (now (order .exit)) (now (counts .exit)) (now (slots .exit)) (now (singles .exit))) (r .device))) (now (list .entry))) ⌝ }
+    ensures held { λ r. ⌜ Held (now (order .exit)) (now (counts .exit)) × AllCanonical (take places (r .image)) ⌝ }
+    ensures restored { λ r. ⌜ ((r .restored ≡ 0 → ⊥) → r .restored ≡ places) ⌝ }
+    ensures form { λ r. ⌜ ((L : Limits) (s : State) → s .ais ≡ ais → (code : ℕ) → plays L s (now (list .entry)) ≡ refuse code → r .restored ≡ 0) ⌝ }
+    ensures kept { λ r. ⌜ (r .restored ≡ 0 → (now (slots .exit) ≡ now (slots .entry)) × (now (order .exit) ≡ now (order .entry)) × (now (counts .exit) ≡ now (counts .entry)) × (now (singles .exit) ≡ now (singles .entry)) × (r .device ≡ device)) ⌝ }
+{
+    let code = list_form::form(list, ais);
+    if code != 0 {
+        return not_played(code, device);
+    }
+    let mut image = image::empty();
+    memory::fresh(order, counts, singles);
+    let count = words::read_be(list, 4, 4) as usize;
+    let ran = apply_all(
+        slots,
+        order,
+        counts,
+        singles,
+        places,
+        room,
+        ais,
+        adapters::fresh_device(),
+        &mut image,
+        list,
+        count,
+    );
+    let answer = ran.answer;
+    let mut next = ran.device;
+    if answer.code != 0 {
+        memory::fresh(order, counts, singles);
+        next = adapters::fresh_device();
+        image = image::empty();
+    }
+    Played {
+        answer,
+        device: next,
+        restored: places,
+        image,
+    }
+}

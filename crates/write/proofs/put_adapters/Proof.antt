@@ -1,0 +1,54 @@
+-- `write::put_adapters` meets its contract: the table entries of MODIFY behind those of REGISTER.
+use Prim.Native.Nat.{_*_}
+use mathlib.Core.Path.{refl, sym}
+use mathlib.Core.Bool.{true, false}
+use native.Mathlib.Omega.{arith}
+use borrow.Author.Needs.{needs}
+use Rattle.list_parts.specs.Parts.{each}
+use Rattle.write.specs.Write.{adapterEntries}
+use Rattle.write.proofs.Laws.{table-next, registers-size}
+use Rattle.write.proofs.put_adapters.Statement.{statement}
+use Rattle.write.proofs.put_adapters.Tie as tie
+
+put-slots-requires : tie.Need-put-slots-requires
+put-slots-requires c κs = search needs
+
+mul-at : tie.Need-mul-at
+mul-at c = search needs
+
+add-at : tie.Need-add-at
+add-at c = search needs
+
+mul-pay : tie.Need-mul-pay
+mul-pay c = search needs
+
+add-pay : tie.Need-add-pay
+add-pay c = search needs
+
+put-slots-requires-2 : tie.Need-put-slots-requires-2
+put-slots-requires-2 c κs = search needs
+
+same-length : tie.Need-same-length
+same-length c = search needs
+
+returns : tie.Need-returns
+unfolding adapterEntries
+returns c =
+    let s = c .before .before .before .before .before .before .before .before .before .before .before in
+    let a = s .args in
+    let k = s .pre .0 in
+    table-next (a .out .now) _ _ 20 (each false (a .image)) (each true (a .image)) (a .start) (a .p .registers) (8 * a .p .registers) _ _ (sym (k .registers))
+    (registers-size (a .image) (a .p) k) (omega (arith, s .pre .2)) refl refl (c .before .before .before .before .before .before .before .before .put-slots .ensures) (c .before .before .put-slots2 .ensures)
+
+pub put-adapters-spec : {M : Type 1} → statement M
+put-adapters-spec =
+    tie.close
+    (tie.spec
+    put-slots-requires
+    mul-at
+    add-at
+    mul-pay
+    add-pay
+    put-slots-requires-2
+    same-length
+    returns)

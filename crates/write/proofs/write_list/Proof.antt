@@ -1,0 +1,147 @@
+-- `write::write_list` meets its contract: the length is computed first, and the parts are put one behind the other.
+use Prim.Native.Nat.{_+_, _*_}
+use mathlib.Core.Path.{_≡_, refl, sym, _∙_}
+use mathlib.Core.List.{List}
+use native.Mathlib.Omega.{arith}
+use lib.ListN.{length}
+use borrow.Author.Needs.{needs}
+use Rattle.rules.specs.State.{State, Record, listing}
+use Rattle.rules.specs.MoveList.{Entry, entries, total}
+use Rattle.records.specs.Memory.{pendingOf}
+use Rattle.answers.proofs.Laws.{not-refused}
+use Rattle.adapters.specs.Values.{deviceOf}
+use Rattle.image_places.specs.Places.{placesOf}
+use Rattle.write.specs.declared.Parts.{Parts}
+use Rattle.write.specs.Write.{entriesFrom, Counted}
+use Rattle.write.proofs.Laws.{entries-count, entries-size, entries-are, list-put, too-short, written}
+use Rattle.write.proofs.write_list.Statement.{statement}
+use Rattle.write.proofs.write_list.Tie as tie
+
+-- what is counted, and the entries that are written
+abbrev parts : tie.After-has-masks → Parts
+parts c =
+    record {
+      registers = c .before .before .before .before .before .count .result;
+      modifies = c .before .before .before .before .count2 .result;
+      records = c .before .records-pending .result;
+      masks = c .has-masks .result;
+      apf = c .before .before .before .before .before .before .before .args .device .apf;
+    }
+
+abbrev pending : tie.After-has-masks → List Record
+pending c = let a = c .before .before .before .before .before .before .before .args in listing (pendingOf (a .order .now) (a .counts .now) (a .slots .now) (a .singles .now))
+
+abbrev wanted : tie.After-has-masks → List Entry
+wanted c = let d = c .before .before .before .before .before .before .before .args .device in entriesFrom (c .before .before .before .before .before .before .before .args .image) (pending c) (c .has-masks .result) (d .simm) (d .nimm) (d .apf)
+
+counted : (c : tie.After-has-masks) → Counted (c .before .before .before .before .before .before .before .args .image) (parts c)
+counted c =
+    record {
+      registers = c .before .before .before .before .before .count .ensures .0;
+      modifies = c .before .before .before .before .count2 .ensures .0;
+      fewRegisters = c .before .before .before .before .before .count .ensures .1;
+      fewModifies = c .before .before .before .before .count2 .ensures .1;
+      fewRecords = c .before .records-pending .ensures .1;
+    }
+
+count-is : (c : tie.After-entry-count) → length (wanted (c .before)) ≡ c .entry-count .result
+count-is c = entries-count (c .before .before .before .before .before .before .before .before .args .image) (parts (c .before)) (counted (c .before)) (pending (c .before)) _ _ (c .before .before .records-pending .ensures .0) ∙ sym (c .entry-count .ensures .0)
+
+total-is : (c : tie.After-payload-bytes) → 20 + 24 * c .before .entry-count .result + c .payload-bytes .result ≡ total (wanted (c .before .before))
+total-is c =
+    let d = c .before .before .before .before .before .before .before .before .before .args .device in
+    let z = entries-size (c .before .before .before .before .before .before .before .before .before .args .image) (parts (c .before .before)) (counted (c .before .before)) (pending (c .before .before)) (d .simm) (d .nimm) (c .before .before .before .records-pending .ensures .0) in
+    rw (count-is (c .before), z, ← c .payload-bytes .ensures .0)
+
+same-entries : (c : tie.After-has-masks) (s : State) → let a = c .before .before .before .before .before .before .before .args in s .ais ≡ a .ais → s .adapters ≡ placesOf (a .image)
+    → s .pending ≡ pendingOf (a .order .now) (a .counts .now) (a .slots .now) (a .singles .now) → s .device ≡ deviceOf (a .device) → wanted c ≡ entries s
+same-entries c s e1 e2 e3 e4 = sym (entries-are s _ _ _ (c .before .before .before .before .before .before .before .args .device) _ e1 e2 e3 e4 (c .has-masks .ensures))
+
+count-requires : tie.Need-count-requires
+count-requires c κs = search needs
+
+count-requires-2 : tie.Need-count-requires-2
+count-requires-2 c κs = search needs
+
+records-pending-requires : tie.Need-records-pending-requires
+records-pending-requires c κs = search needs
+
+has-masks-requires : tie.Need-has-masks-requires
+has-masks-requires c κs = search needs
+
+entry-count-requires : tie.Need-entry-count-requires
+entry-count-requires c κs = search needs
+
+mul-start : tie.Need-mul-start
+mul-start c = search needs
+
+add-start : tie.Need-add-start
+add-start c = search needs
+
+payload-bytes-requires : tie.Need-payload-bytes-requires
+payload-bytes-requires c κs = search needs
+
+add-total : tie.Need-add-total
+add-total c = search needs
+
+refuse-requires : tie.Need-refuse-requires
+refuse-requires c κs = search needs
+
+returns : tie.Need-returns
+returns c = (
+  λ L s e1 e2 e3 e4. too-short L s _ _ _ _ (same-entries (c .before .before .before .before) s e1 e2 e3 e4) (total-is (c .before .before)) (c .before .if1 .taken) (c .refuse .ensures),
+  λ k. refl,
+)
+
+flag-of-requires : tie.Need-flag-of-requires
+flag-of-requires c κs = search needs
+
+put-five-requires : tie.Need-put-five-requires
+put-five-requires c κs = search needs
+
+put-table-requires : tie.Need-put-table-requires
+put-table-requires c κs = search needs
+
+put-payloads-requires : tie.Need-put-payloads-requires
+put-payloads-requires c κs =
+    (c .before .before .before .before .before .before .before .before .before .before .before .before .before .before .before .before .before .before .before .before .pre, counted (c .before .before .before .before .before .before .before .before .before .before .before .before .before), c .before .before .before .before .before .before .before .before .before .before .before .before .before .before .records-pending .ensures .0, omega (arith, c .before .before .before .before .before .before .before .before .before .before .before .before .entry-count .ensures .1), rw (← c .before .before .before .before .before .before .before .before .before .before .before .payload-bytes .ensures .0) (omega (arith, c .before .before .before .before .before .before .before .before .before .before .if1 .left)))
+
+accept-requires : tie.Need-accept-requires
+accept-requires c κs = search needs
+
+same-length : tie.Need-same-length
+same-length c = search needs
+
+returns-2 : tie.Need-returns-2
+returns-2 c =
+    let a = c .before .before .before .before .before .before .before .before .before .before .before .before .before .before .before .before .before .before .before .before .before .before .before .before .args in
+    let w = c .before .before .before .before .before .before .before .before .before .before .before .before .before .before .before .before .before .before .records-pending .ensures .0 in
+    let g = list-put (a .ais) (wanted (c .before .before .before .before .before .before .before .before .before .before .before .before .before .before .before .before .before)) (a .out .now) _ _ _ _ _ (count-is (c .before .before .before .before .before .before .before .before .before .before .before .before .before .before .before .before)) (total-is (c .before .before .before .before .before .before .before .before .before .before .before .before .before .before .before)) (c .before .before .before .before .before .before .before .before .before .before .before .before .before .before .if1 .left)
+    (rw (c .before .before .before .before .before .before .before .before .before .before .before .before .before .flag-of .ensures .0) at (c .before .before .before .before .before .before .before .before .before .before .before .put-five .ensures)) (c .before .before .before .before .before .before .before .put-table .ensures _ (a .device .simm) (a .device .nimm) w) (c .before .before .before .put-payloads .ensures) in (
+      λ L s e1 e2 e3 e4.
+          written L s _ _ _ _ (same-entries (c .before .before .before .before .before .before .before .before .before .before .before .before .before .before .before .before .before) s e1 e2 e3 e4) (total-is (c .before .before .before .before .before .before .before .before .before .before .before .before .before .before .before)) _ (a .ais) e1 (c .before .before .before .before .before .before .before .before .before .before .before .before .before .before .if1 .left) (c .accept .ensures) g,
+      not-refused _ _ (c .accept .ensures),
+    )
+
+pub write-list-spec : {M : Type 1} → statement M
+write-list-spec =
+    tie.close
+    (tie.spec
+    count-requires
+    count-requires-2
+    records-pending-requires
+    has-masks-requires
+    entry-count-requires
+    mul-start
+    add-start
+    payload-bytes-requires
+    add-total
+    refuse-requires
+    returns
+    flag-of-requires
+    put-five-requires
+    put-table-requires
+    put-payloads-requires
+    accept-requires
+    same-length
+    returns-2)

@@ -1,0 +1,50 @@
+-- 01, 'Move list', written: the entries of a list, by what the code counts of them.
+use Prim.Native.Nat.{ℕ, _+_, _*_, _≤_}
+use mathlib.Core.Path.{_≡_}
+use mathlib.Core.Bool.{Bool, true, false}
+use mathlib.Core.List.{List, [], _∷_, _++_, flatten}
+use lib.ListN.{length}
+use lib.Dec.{ltb}
+use Rattle.rules.specs.Bytes.{choose}
+use Rattle.rules.specs.State.{Record, recordBytes}
+use Rattle.rules.specs.MoveList.{Entry, flag, enqueueEntry, apfEntry}
+use Rattle.list_parts.specs.Parts.{each}
+use Rattle.write.specs.declared.Parts.{Parts}
+use Rattle.image.specs.Image.{imageSize}
+
+-- AISM_ALL, where it is written
+abbrev pub maskEntry : Bool → ℕ → ℕ → List Entry
+maskEntry masks simm nimm = choose masks (record { group = 11; attr = 0; payload = simm ∷ nimm ∷ [] } ∷ []) []
+
+-- REGISTER and MODIFY of an image's adapters; ENQUEUE of the records, AISM_ALL, APF_ENABLE; and all of them
+unfoldable pub adapterEntries : List ℕ → List Entry
+adapterEntries image = each false image ++ each true image
+
+unfoldable pub otherEntries : List Record → Bool → ℕ → ℕ → Bool → List Entry
+otherEntries rs masks simm nimm apf = enqueueEntry rs ++ (maskEntry masks simm nimm ++ apfEntry apf)
+
+abbrev pub entriesFrom : List ℕ → List Record → Bool → ℕ → ℕ → Bool → List Entry
+entriesFrom image rs masks simm nimm apf = adapterEntries image ++ otherEntries rs masks simm nimm apf
+
+-- how many entries they are, and the bytes of their payloads
+abbrev pub otherCount : Parts → ℕ
+otherCount p = flag (ltb 0 (p .records)) + flag (p .masks) + flag (p .apf)
+
+abbrev pub countOf : Parts → ℕ
+countOf p = p .registers + p .modifies + otherCount p
+
+abbrev pub bytesOf : Parts → ℕ
+bytesOf p = 8 * p .registers + 16 * p .modifies + recordBytes * p .records + 2 * flag (p .masks)
+
+-- what is counted
+pub record Counted (image : List ℕ) (p : Parts) : Type 0 where
+  pub registers : p .registers ≡ length (each false image)
+  pub modifies : p .modifies ≡ length (each true image)
+  pub fewRegisters : p .registers ≤ imageSize
+  pub fewModifies : p .modifies ≤ imageSize
+  pub fewRecords : p .records ≤ 258
+
+-- so many whole records
+pub record Whole (rs : List Record) (n : ℕ) : Type 0 where
+  pub count : length rs ≡ n
+  pub size : length (flatten rs) ≡ recordBytes * n

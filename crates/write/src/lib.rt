@@ -1,0 +1,203 @@
+// Inner crate: writing a move list from lent memory, with the adapter places in an image of bytes.
+ghost use mathlib.Core.Path.{_≡_};
+ghost use mathlib.Core.Bool.{_&&_, _||_};
+ghost use mathlib.Core.List.{List, [], _∷_, flatten};
+ghost use Prim.Native.Nat.{ℕ, _+_, _*_, _≤_};
+ghost use lib.ListN.{length};
+ghost use Rattle.rules.specs.Bytes.{choose};
+ghost use Rattle.rules.specs.State.{Limits, State, Record, recordBytes, listing};
+ghost use Rattle.rules.specs.Requests.{nonZero};
+ghost use Rattle.rules.specs.MoveList.{flag, headerBytes, slotBytes, payloads, table, writes};
+ghost use Rattle.answers.specs.Answers.{Answers};
+ghost use Rattle.queues.specs.Queues.{Held};
+ghost use Rattle.records.specs.Memory.{pendingOf};
+ghost use Rattle.adapters.specs.Values.{deviceOf};
+ghost use Rattle.image_places.specs.Places.{placesOf};
+ghost use Rattle.list_parts.specs.Parts.{put};
+ghost use Rattle.write.specs.Write.{adapterEntries, otherEntries, entriesFrom, otherCount, countOf, bytesOf, Counted, Whole};
+ghost use Rattle.image.specs.Image.{imageSize};
+ghost use Rattle.slots.specs.Slots.{slotCount};
+use adapters::Device;
+use answers::Answer;
+use words::PLACES;
+use words::QUEUES;
+use words::ROOM;
+use words::SINGLES_BYTES;
+use words::SLOT_BYTES;
+
+// How many REGISTER, MODIFY and pending records a list has, and whether it has AISM_ALL and APF_ENABLE.
+pub struct Parts {
+    pub registers: usize,
+    pub modifies: usize,
+    pub records: usize,
+    pub masks: bool,
+    pub apf: bool,
+}
+
+// Capable, and a mask is not 0.
+fn has_masks(ais: bool, device: Device) -> bool
+    ensures { λ r. ⌜ r ≡ (ais && (nonZero (device .simm) || nonZero (device .nimm))) ⌝ }
+{
+    if !ais {
+        return false;
+    }
+    if device.simm != 0 {
+        return true;
+    }
+    device.nimm != 0
+}
+
+// How many records are pending; all are whole.
+fn records_pending(
+    slots: &[u8],
+    order: &[u8],
+    counts: &[usize; QUEUES],
+    singles: &[u8; SINGLES_BYTES],
+) -> usize
+    requires { ⌜ Held (now order) (now counts) × (length (now slots) ≡ slotCount * 72) × (length (now order) ≡ slotCount) ⌝ }
+    ensures { λ r. ⌜ Whole (listing (pendingOf (now (order .entry)) (now (counts .entry)) (now (slots .entry)) (now (singles .entry)))) r × (r ≤ 258) ⌝ }
+{
+    // as slices: what makes one of an array says its length
+    let _c: &[usize] = counts;
+    let _g: &[u8] = singles;
+    outgoing::pending(counts, singles)
+}
+
+fn entry_count(p: Parts) -> usize
+    requires { ⌜ (p .registers ≤ imageSize) × (p .modifies ≤ imageSize) ⌝ }
+    ensures { λ r. ⌜ (r ≡ countOf p) × (r ≤ 131) ⌝ }
+{
+    let last = list_form::flag_of(0 < p.records)
+        + list_form::flag_of(p.masks)
+        + list_form::flag_of(p.apf);
+    p.registers + p.modifies + last as usize
+}
+
+fn payload_bytes(p: Parts) -> usize
+    requires { ⌜ (p .registers ≤ imageSize) × (p .modifies ≤ imageSize) × (p .records ≤ 258) ⌝ }
+    ensures { λ r. ⌜ (r ≡ bytesOf p) × (r ≤ 20114) ⌝ }
+{
+    8 * p.registers + 16 * p.modifies + 72 * p.records + 2 * list_form::flag_of(p.masks) as usize
+}
+
+// The table entries of the adapters, the first payload at start.
+fn put_adapters(out: &mut [u8], start: usize, image: [u8; PLACES], p: Parts)
+    requires { ⌜ Counted image p × (start ≤ 4096) × (headerBytes + slotBytes * (p .registers + p .modifies) ≤ length (now out)) ⌝ }
+    ensures { λ _. ⌜ now (out .exit) ≡ put (now (out .entry)) headerBytes (table start (adapterEntries image)) ⌝ }
+{
+    list_parts::put_slots(out, 20, start, image, false);
+    let at = 20 + 24 * p.registers;
+    let pay = start + 8 * p.registers;
+    list_parts::put_slots(out, at, pay, image, true);
+}
+
+// The table entries of ENQUEUE, AISM_ALL and APF_ENABLE, the first payload at pay.
+fn put_others(out: &mut [u8], at: usize, pay: usize, p: Parts)
+    requires { ⌜ (p .records ≤ 258) × (pay ≤ 8192) × (at + slotBytes * otherCount p ≤ length (now out)) ⌝ }
+    ensures { λ _. ⌜ ((rs : List Record) (simm nimm : ℕ) → Whole rs (p .records) → now (out .exit) ≡ put (now (out .entry)) at (table pay (otherEntries rs (p .masks) simm nimm (p .apf)))) ⌝ }
+{
+    let queued = 0 < p.records;
+    let bytes = 72 * p.records;
+    let masks = list_form::flag_of(p.masks) as usize;
+    list_parts::put_slot(out, queued, at, pay as u64, 2, bytes as u64, bytes as u64);
+    let next = at + 24 * list_form::flag_of(queued) as usize;
+    list_parts::put_slot(out, p.masks, next, (pay + bytes) as u64, 11, 2, 0);
+    let last = (pay + bytes + 2 * masks) as u64;
+    list_parts::put_slot(out, p.apf, next + 24 * masks, last, 4, 0, 0);
+}
+
+// The table, its first payload at start.
+fn put_table(out: &mut [u8], start: usize, image: [u8; PLACES], p: Parts)
+    requires { ⌜ Counted image p × (start ≤ 4096) × (headerBytes + slotBytes * countOf p ≤ length (now out)) ⌝ }
+    ensures { λ _. ⌜ ((rs : List Record) (simm nimm : ℕ) → Whole rs (p .records) → now (out .exit) ≡ put (now (out .entry)) headerBytes (table start (entriesFrom image rs (p .masks) simm nimm (p .apf)))) ⌝ }
+{
+    let at = 20 + 24 * (p.registers + p.modifies);
+    let pay = start + 8 * p.registers + 16 * p.modifies;
+    put_adapters(out, start, image, p);
+    put_others(out, at, pay, p);
+}
+
+// The listing, from index at on.
+fn put_listing(
+    out: &mut [u8],
+    slots: &[u8; SLOT_BYTES],
+    order: &[u8; ROOM],
+    counts: &[usize; QUEUES],
+    singles: &[u8; SINGLES_BYTES],
+    at: usize,
+    n: usize,
+)
+    requires { ⌜ Held (now order) (now counts) × Whole (listing (pendingOf (now order) (now counts) (now slots) (now singles))) n × (at + recordBytes * n ≤ length (now out)) ⌝ }
+    ensures { λ _. ⌜ now (out .exit) ≡ put (now (out .entry)) at (flatten (listing (pendingOf (now (order .entry)) (now (counts .entry)) (now (slots .entry)) (now (singles .entry))))) ⌝ }
+{
+    outgoing::list_all(slots, order, counts, singles, &mut out[at..]);
+}
+
+// Both masks, if they are written.
+fn put_masks(out: &mut [u8], on: bool, at: usize, simm: u8, nimm: u8)
+    requires { ⌜ at + 2 * flag on ≤ length (now out) ⌝ }
+    ensures { λ _. ⌜ now (out .exit) ≡ put (now (out .entry)) at (choose on (simm ∷ nimm ∷ []) []) ⌝ }
+{
+    if on {
+        words::write_be(out, at, 2, words::wide(simm) * 256 + words::wide(nimm));
+    }
+}
+
+// The payloads, from start on.
+fn put_payloads(
+    out: &mut [u8],
+    slots: &[u8; SLOT_BYTES],
+    order: &[u8; ROOM],
+    counts: &[usize; QUEUES],
+    singles: &[u8; SINGLES_BYTES],
+    start: usize,
+    image: [u8; PLACES],
+    device: Device,
+    p: Parts,
+)
+    requires { ⌜ Held (now order) (now counts) × Counted image p × Whole (listing (pendingOf (now order) (now counts) (now slots) (now singles))) (p .records) × (start ≤ 4096) × (start + bytesOf p ≤ length (now out)) ⌝ }
+    ensures { λ _. ⌜ now (out .exit) ≡ put (now (out .entry)) start (payloads (entriesFrom image (listing (pendingOf (now (order .entry)) (now (counts .entry)) (now (slots .entry)) (now (singles .entry)))) (p .masks) (device .simm) (device .nimm) (p .apf))) ⌝ }
+{
+    list_parts::put_payloads(out, start, image, false);
+    let mut at = start + 8 * p.registers;
+    list_parts::put_payloads(out, at, image, true);
+    at += 16 * p.modifies;
+    put_listing(out, slots, order, counts, singles, at, p.records);
+    at += 72 * p.records;
+    put_masks(out, p.masks, at, device.simm, device.nimm);
+}
+
+// A move list is written from the buffer's start; where the buffer is too short nothing is.
+pub fn write_list(
+    slots: &[u8; SLOT_BYTES],
+    order: &[u8; ROOM],
+    counts: &[usize; QUEUES],
+    singles: &[u8; SINGLES_BYTES],
+    ais: bool,
+    device: Device,
+    image: [u8; PLACES],
+    out: &mut [u8],
+) -> Answer
+    requires { ⌜ Held (now order) (now counts) ⌝ }
+    ensures answer { λ r. ⌜ ((L : Limits) (s : State) → s .ais ≡ ais → s .adapters ≡ placesOf image → s .pending ≡ pendingOf (now (order .entry)) (now (counts .entry)) (now (slots .entry)) (now (singles .entry)) → s .device ≡ deviceOf device → Answers L s (now (out .entry)) (writes s (now (out .entry))) r s (now (out .exit))) ⌝ }
+    ensures kept { λ r. ⌜ ((r .code ≡ 0 → ⊥) → now (out .exit) ≡ now (out .entry)) ⌝ }
+{
+    let p = Parts {
+        registers: list_parts::count(image, false),
+        modifies: list_parts::count(image, true),
+        records: records_pending(slots, order, counts, singles),
+        masks: has_masks(ais, device),
+        apf: device.apf,
+    };
+    let n = entry_count(p);
+    let start = 20 + 24 * n;
+    let total = start + payload_bytes(p);
+    if out.len() < total {
+        return answers::refuse(answers::ENOMEM);
+    }
+    let flag = list_form::flag_of(ais);
+    list_parts::put_five(out, 0, 4, total as u64, n as u64, 20, start as u64, flag);
+    put_table(out, start, image, p);
+    put_payloads(out, slots, order, counts, singles, start, image, device, p);
+    answers::accept(total as u64)
+}

@@ -195,7 +195,7 @@ serviceOf parameter = bytes 8 0xffff2401 ++ (bytes 4 parameter ++ replicate 60 0
 unfoldable pub ioFor : ℕ → ℕ → ℕ → List ℕ
 ioFor id nr word = bytes 8 0 ++ (bytes 2 id ++ (bytes 2 nr ++ (bytes 4 9 ++ (bytes 4 word ++ replicate 52 0))))
 
-afterP9 : List ℕ
+unfoldable pub afterP9 : List ℕ
 afterP9 =
     headerOf 174 3 1
     ++ (slotOf 92 6 8 0

@@ -10,3 +10,4 @@ pub mod Unread
 pub mod Computes
 pub mod Examples
 pub mod Boundaries
+pub mod Printed

@@ -7,3 +7,4 @@ pub mod Requests
 pub mod Take
 pub mod MoveList
 pub mod Machine
+pub mod Listing

@@ -1,0 +1,79 @@
+// P9 by the calls themselves: with AIS, adapter 5 of subclass 3 (maskable, no swap, suppressible) is registered, SINGLE is set for its
+// subclass, and it injects once. Writes the move list of that controller to standard output, if it has the paper's length.
+ghost use Rattle.queues.specs.Queues.{Held};
+ghost use Rattle.adapters.specs.Values.{Canonical};
+use libc::STDOUT_FILENO;
+use values::Reply;
+use words::ADAPTER_REGISTER;
+use words::AIRQ_INJECT;
+use words::AISM;
+use words::PLACES;
+use words::QUEUES;
+use words::ROOM;
+use words::SINGLES_BYTES;
+use words::SLOT_BYTES;
+
+// A set request, on the device record and the adapter place that the call before it left.
+fn set(
+    slots: &mut [u8; SLOT_BYTES],
+    order: &mut [u8; ROOM],
+    counts: &mut [usize; QUEUES],
+    singles: &mut [u8; SINGLES_BYTES],
+    last: Reply,
+    group: u32,
+    attr: u64,
+    payload: &[u8],
+) -> Reply
+    requires { ⌜ Held (now order) (now counts) × Canonical (last .place) ⌝ }
+    ensures { λ r. ⌜ Held (now (order .exit)) (now (counts .exit)) × Canonical (r .place) ⌝ }
+{
+    let device = last.device;
+    let place = last.place;
+    core::set_request(
+        slots,
+        order,
+        counts,
+        singles,
+        PLACES as u64,
+        ROOM,
+        true,
+        device,
+        place,
+        group,
+        attr,
+        payload,
+    )
+}
+
+fn main() {
+    let mut s = [0u8; SLOT_BYTES];
+    let mut o = [0u8; ROOM];
+    let mut c = [0usize; QUEUES];
+    let mut g = [0u8; SINGLES_BYTES];
+    memory::fresh(&mut o, &mut c, &mut g);
+    let fresh = Reply {
+        answer: answers::accept(0),
+        device: adapters::fresh_device(),
+        place: adapters::free_place(),
+    };
+    let register = [0, 0, 0, 5, 3, 1, 0, 1];
+    let mode = [3, 0, 0, 1];
+    let registered = set(
+        &mut s,
+        &mut o,
+        &mut c,
+        &mut g,
+        fresh,
+        ADAPTER_REGISTER,
+        0,
+        &register,
+    );
+    let single = set(&mut s, &mut o, &mut c, &mut g, registered, AISM, 0, &mode);
+    let injected = set(&mut s, &mut o, &mut c, &mut g, single, AIRQ_INJECT, 5, b"");
+    let image = image::with_place(image::empty(), 5, injected.place);
+    let mut list = [0u8; 174];
+    let written = write::write_list(&s, &o, &c, &g, true, injected.device, image, &mut list);
+    if written.count == 174 {
+        io::write_all(STDOUT_FILENO, &list);
+    }
+}

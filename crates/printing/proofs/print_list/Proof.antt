@@ -1,0 +1,74 @@
+-- The answer of the player and what is pending after it decide the text.
+use mathlib.Core.Path.{_≡_, refl, sym, _∙_}
+use lib.Dec.{eqb}
+use borrow.Author.Tests.{eq-eqb, ne-eqb}
+use borrow.Author.Needs.{needs}
+use Rattle.rules.specs.Bytes.{choose}
+use Rattle.rules.specs.State.{paperLimits, fresh, listing}
+use Rattle.rules.specs.Listing.{shown, refusal, printed}
+use Rattle.rules.proofs.Checks.{chosen, passed}
+use Rattle.records.specs.Memory.{pendingOf}
+use Rattle.printing.proofs.Laws.{whole, too-long, printed-is}
+use Rattle.printing.proofs.print_list.Statement.{statement}
+use Rattle.printing.proofs.print_list.Tie as tie
+
+-- what the list that was played prints
+answered : (c : tie.After-play-list) → let f = c .before .before .before .before .before .before .before in
+    let p = c .play-list in
+    printed (f .before .before .before .before .before .before .args .input .now)
+    ≡ choose (eqb (p .result .answer .code) 0) (shown (listing (pendingOf (p .last .1 .0) (p .last .1 .1 .0) (p .last .0) (p .last .1 .1 .1 .0)))) (refusal (p .result .answer .code))
+unfolding fresh
+answered c =
+    let f = c .before .before .before .before .before .before .before in
+    let p = c .play-list in
+    let e = f .fresh .ensures .1 _ in
+    let a = p .ensures .0 paperLimits (fresh paperLimits _) refl refl refl (sym e) (rw (c .before .fresh-device .ensures)) in
+    printed-is _ _ _ (p .result .restored) _ _ (f .before .before .before .before .if1 .left) (c .before .before .capable .ensures) a refl
+    (λ z. let k = p .ensures .1 .1 .1 .1 z in rw (k .0, k .1, k .2, k .3) (sym e))
+
+write-refusal-requires : tie.Need-write-refusal-requires
+write-refusal-requires c κs = search needs
+
+returns : tie.Need-returns
+returns c = whole _ (c .write-refusal .ensures) (too-long _ (c .before .before .if1 .taken))
+
+fresh-requires : tie.Need-fresh-requires
+fresh-requires c κs = search needs
+
+capable-requires : tie.Need-capable-requires
+capable-requires c κs = search needs
+
+fresh-device-requires : tie.Need-fresh-device-requires
+fresh-device-requires c κs = search needs
+
+play-list-requires : tie.Need-play-list-requires
+play-list-requires c κs = search needs
+
+write-refusal-requires-2 : tie.Need-write-refusal-requires-2
+write-refusal-requires-2 c κs = search needs
+
+returns-2 : tie.Need-returns-2
+returns-2 c = whole _ (c .write-refusal2 .ensures) (answered (c .before .before .before) ∙ passed _ _ _ (ne-eqb _ 0 (c .before .before .if2 .taken)))
+
+write-pending-requires : tie.Need-write-pending-requires
+write-pending-requires c κs = search needs
+
+returns-3 : tie.Need-returns-3
+returns-3 c =
+    let d = c .before .before .before .before .before .before in
+    whole _ (c .write-pending .ensures) (answered (d .before) ∙ chosen _ _ _ (eq-eqb _ 0 (d .if2 .left)))
+
+pub print-list-spec : {M : Type 1} → statement M
+print-list-spec =
+    tie.close
+    (tie.spec
+    write-refusal-requires
+    returns
+    fresh-requires
+    capable-requires
+    fresh-device-requires
+    play-list-requires
+    write-refusal-requires-2
+    returns-2
+    write-pending-requires
+    returns-3)

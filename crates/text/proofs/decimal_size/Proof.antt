@@ -1,0 +1,33 @@
+-- The digits left of w and those counted are those of v.
+use mathlib.Core.Path.{_≡_, refl}
+use Prim.Native.Nat.{_+_, _≤_}
+use native.Mathlib.Omega.{arith}
+use borrow.Author.Needs.{needs}
+use Rattle.rules.specs.Listing.{size}
+use Rattle.text.proofs.Laws.{size-one, size-next, size-most}
+use Rattle.text.proofs.decimal_size.Statement.{statement}
+use Rattle.text.proofs.decimal_size.Tie as tie
+
+abbrev Inv-loop : tie.InvT-loop
+Inv-loop v n₀ w₀ n w = (n + size w w ≡ size v v + 1) × (size v v ≤ 20)
+
+abbrev μ-loop : tie.MeasureT-loop
+μ-loop v n₀ w₀ n w = w
+
+loop-holds : tie.Need-loop-holds Inv-loop μ-loop
+loop-holds c = (omega arith, size-most 19 _ _ (omega arith))
+
+add-n : tie.Need-add-n Inv-loop μ-loop
+add-n c = search needs
+
+loop-less : tie.Need-loop-less Inv-loop μ-loop
+loop-less c = search needs
+
+loop-again : tie.Need-loop-again Inv-loop μ-loop
+loop-again c = (omega (arith, size-next _ (c .loop-test .taken)), c .before .loop .inv .1)
+
+returns : tie.Need-returns Inv-loop μ-loop
+returns c = omega (arith, size-one (c .before .loop .w) (c .before .loop .w) (omega arith))
+
+pub decimal-size-spec : {M : Type 1} → statement M
+decimal-size-spec = tie.close (tie.spec Inv-loop μ-loop loop-holds add-n loop-less loop-again returns)

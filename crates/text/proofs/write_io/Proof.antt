@@ -1,0 +1,73 @@
+-- Kind, subclass, type and word, one after the other.
+use mathlib.Core.Path.{_≡_}
+use native.Mathlib.Omega.{arith}
+use borrow.Author.Needs.{needs}
+use Rattle.rules.specs.Listing.{ascii, size}
+use Rattle.text.proofs.Laws.{wrote-then, io-text, size-one}
+use Rattle.text.proofs.write_io.Statement.{statement}
+use Rattle.text.proofs.write_io.Tie as tie
+
+-- a subclass is one digit
+one : (c : tie.After-wide) → size (c .wide .result) (c .wide .result) ≡ 1
+one c = size-one (c .wide .result) (c .wide .result) (omega arith)
+
+slice-aggregate-append : tie.Need-slice-aggregate-append
+slice-aggregate-append c = search needs
+
+append-requires : tie.Need-append-requires
+append-requires c κs = search needs
+
+wide-requires : tie.Need-wide-requires
+wide-requires c κs = search needs
+
+slice-aggregate-write-decimal : tie.Need-slice-aggregate-write-decimal
+slice-aggregate-write-decimal c = search needs
+
+write-decimal-requires : tie.Need-write-decimal-requires
+write-decimal-requires c κs = omega (arith, one (c .before))
+
+slice-aggregate-write-hex8 : tie.Need-slice-aggregate-write-hex8
+slice-aggregate-write-hex8 c = search needs
+
+write-hex8-requires : tie.Need-write-hex8-requires
+write-hex8-requires c κs =
+    omega (arith, one (c .before .before .before .before .before .before))
+
+slice-aggregate-write-hex8-2 : tie.Need-slice-aggregate-write-hex8-2
+slice-aggregate-write-hex8-2 c = search needs
+
+write-hex8-requires-2 : tie.Need-write-hex8-requires-2
+write-hex8-requires-2 c κs =
+    let d = c .before .before .before .before in
+    let e = d .before .before .before .before .before in
+    let f = e .before .before .before .before .before .before in
+    omega (arith, f .append .ensures .ends, e .write-decimal .ensures .1, one (e .before .before), d .write-hex8 .ensures .1)
+
+same-length : tie.Need-same-length
+same-length c = search needs
+
+returns : tie.Need-returns
+unfolding ascii
+returns c =
+    let d = c .before .before .before .before .before .before .before in
+    let e = d .before .before .before .before .before in
+    let f = e .before .before in
+    let g = f .before .before .before .before in
+    let w = wrote-then (wrote-then (wrote-then (g .append .ensures) (e .write-decimal .ensures .0)) (d .write-hex8 .ensures .0)) (c .before .before .write-hex82 .ensures .0) in
+    (rw (← io-text) (rw (f .wide .ensures .0) at w), omega (arith, g .append .ensures .ends, e .write-decimal .ensures .1, one f))
+
+pub write-io-spec : {M : Type 1} → statement M
+write-io-spec =
+    tie.close
+    (tie.spec
+    slice-aggregate-append
+    append-requires
+    wide-requires
+    slice-aggregate-write-decimal
+    write-decimal-requires
+    slice-aggregate-write-hex8
+    write-hex8-requires
+    slice-aggregate-write-hex8-2
+    write-hex8-requires-2
+    same-length
+    returns)

@@ -1,0 +1,70 @@
+-- The records that list_all wrote are those of the listing.
+use mathlib.Core.Path.{_≡_}
+use native.Mathlib.Omega.{arith}
+use lib.ListN.{length}
+use borrow.Author.Needs.{needs}
+use Rattle.rules.specs.State.{listing}
+use Rattle.rules.specs.Requests.{recordsIn}
+use Rattle.rules.specs.Listing.{ascii, shown}
+use Rattle.records.specs.Memory.{pendingOf}
+use Rattle.text.proofs.Laws.{wrote-then, listing-back}
+use Rattle.text.proofs.write_pending.Statement.{statement}
+use Rattle.text.proofs.write_pending.Tie as tie
+
+-- what list_all has written
+written : (c : tie.After-list-all) → let a = c .before .before .before .before .before .args in
+    (c .before .before .pending .result ≡ length (listing (pendingOf (a .order .now) (a .counts .now) (a .slots .now) (a .singles .now))))
+    × (recordsIn (c .before .before .pending .result) (c .list-all .last .1 .1 .1 .1 .0) ≡ listing (pendingOf (a .order .now) (a .counts .now) (a .slots .now) (a .singles .now)))
+written c =
+    let s = c .before .before .before .before .before in
+    let a = s .args in
+    let o = c .before .before .before .before .-o .given .0 in
+    let n = c .before .before .pending .ensures .0 (a .order .now) (a .slots .now) o in (
+      n,
+      listing-back (a .order .now) (a .counts .now) (a .slots .now) (a .singles .now) _ _ _ (c .before .before .before .-c .given .0) (omega (arith, s .pre .few, o))
+          (search needs) (omega (arith, c .before .before .pending .ensures .1)) n (c .list-all .ensures),
+    )
+
+pending-requires : tie.Need-pending-requires
+pending-requires c κs = search needs
+
+slice-aggregate-list-all : tie.Need-slice-aggregate-list-all
+slice-aggregate-list-all c = search needs
+
+list-all-requires : tie.Need-list-all-requires
+list-all-requires c κs =
+    let d = c .before .before .before .before in
+    let a = d .args in
+    (d .pre, omega (arith, c .before .pending .ensures .0 (a .order .now) (a .slots .now) (c .before .before .before .-o .given .0), c .before .pending .ensures .1))
+
+slice-aggregate-write-number : tie.Need-slice-aggregate-write-number
+slice-aggregate-write-number c = search needs
+
+write-number-requires : tie.Need-write-number-requires
+write-number-requires c κs = search needs
+
+slice-aggregate-write-records : tie.Need-slice-aggregate-write-records
+slice-aggregate-write-records c = search needs
+
+write-records-requires : tie.Need-write-records-requires
+write-records-requires c κs = search needs
+
+returns : tie.Need-returns
+unfolding shown ascii
+returns c =
+    let w = wrote-then (c .before .before .before .write-number .ensures .0) (c .write-records .ensures) in
+    let l = written (c .before .before .before .before .before .before .before) in
+    rw (l .0) at (rw (l .1) at w)
+
+pub write-pending-spec : {M : Type 1} → statement M
+write-pending-spec =
+    tie.close
+    (tie.spec
+    pending-requires
+    slice-aggregate-list-all
+    list-all-requires
+    slice-aggregate-write-number
+    write-number-requires
+    slice-aggregate-write-records
+    write-records-requires
+    returns)

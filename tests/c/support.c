@@ -1,0 +1,444 @@
+#define _DEFAULT_SOURCE
+#include "support.h"
+
+#include <inttypes.h>
+#include <signal.h>
+#include <stdio.h>
+#include <stdlib.h>
+#include <string.h>
+#include <sys/mman.h>
+#include <unistd.h>
+
+#define FILLER 0xa5
+
+enum placement placement;
+uint8_t unwritten[MOST];
+const char *subject;
+
+static const char *program;
+static volatile int line_now;
+
+void fail(int line, const char *what, uint64_t got, uint64_t wanted)
+{
+    static const char *const names[] = {"page end", "page start", "heap"};
+    fprintf(stderr, "%s: line %d (%s%s%s): %s: %" PRIu64 " (0x%" PRIx64 "), expected %" PRIu64 " (0x%" PRIx64 ")\n", program,
+            line, names[placement], subject == NULL ? "" : ", ", subject == NULL ? "" : subject, what, got, got, wanted,
+            wanted);
+    exit(1);
+}
+
+void same_bytes(int line, const char *what, const uint8_t *got, const uint8_t *wanted, size_t size)
+{
+    if (size == 0 || memcmp(got, wanted, size) == 0)
+        return;
+    size_t i = 0;
+    while (got[i] == wanted[i])
+        i++;
+    fprintf(stderr, "%s: at byte %zu:\n", program, i);
+    fail(line, what, got[i], wanted[i]);
+}
+
+static void fault(int signal)
+{
+    char text[] = ": an access outside the lent memory, or a write where none may be, in the call at line      \n";
+    int line = line_now;
+    for (size_t at = sizeof text - 3; line != 0 && text[at] == ' '; at--, line /= 10)
+        text[at] = (char)('0' + line % 10);
+    if (write(2, program, strlen(program)) < 0 || write(2, text, sizeof text - 1) < 0)
+        _exit(3);
+    _exit(128 + signal);
+}
+
+void begin(const char *name)
+{
+    program = name;
+    for (size_t i = 0; i < MOST; i++)
+        unwritten[i] = (uint8_t)(0x80 + 37 * i + i / 256);
+    struct sigaction action = {.sa_handler = fault};
+    sigaction(SIGSEGV, &action, NULL);
+    sigaction(SIGBUS, &action, NULL);
+}
+
+void put(uint8_t *at, unsigned bytes, uint64_t n)
+{
+    while (bytes-- > 0) {
+        at[bytes] = (uint8_t)n;
+        n >>= 8;
+    }
+}
+
+uint64_t number(const uint8_t *at, unsigned bytes)
+{
+    uint64_t n = 0;
+    for (unsigned i = 0; i < bytes; i++)
+        n = n << 8 | at[i];
+    return n;
+}
+
+void io_record(uint8_t *at, uint64_t type, uint16_t id, uint16_t nr, uint32_t parm, uint32_t word)
+{
+    memset(at, 0, FLIC_RECORD);
+    put(at, 8, type);
+    put(at + 8, 2, id);
+    put(at + 10, 2, nr);
+    put(at + 12, 4, parm);
+    put(at + 16, 4, word);
+}
+
+/* Lent memory. */
+
+static size_t page(void)
+{
+    static size_t bytes;
+    if (bytes == 0)
+        bytes = (size_t)sysconf(_SC_PAGESIZE);
+    return bytes;
+}
+
+/* The pages between the two that cannot be touched. */
+static uint8_t *inner(const struct lent *m)
+{
+    return m->map + page();
+}
+
+static size_t inner_size(const struct lent *m)
+{
+    return m->span - 2 * page();
+}
+
+struct lent lend(size_t size)
+{
+    struct lent m = {.size = size};
+    if (placement == HEAP) {
+        m.at = malloc(size);
+        if (m.at == NULL)
+            fail(0, "malloc", 0, size);
+        return m;
+    }
+    size_t pages = (size + page() - 1) / page();
+    m.span = (pages == 0 ? 3 : pages + 2) * page();
+    m.map = mmap(NULL, m.span, PROT_NONE, MAP_PRIVATE | MAP_ANONYMOUS, -1, 0);
+    if (m.map == MAP_FAILED || mprotect(inner(&m), inner_size(&m), PROT_READ | PROT_WRITE) != 0)
+        fail(0, "mmap", 0, size);
+    memset(inner(&m), FILLER, inner_size(&m));
+    m.at = placement == PAGE_END ? inner(&m) + inner_size(&m) - size : inner(&m);
+    return m;
+}
+
+void give_back(struct lent *m)
+{
+    if (m->map == NULL)
+        free(m->at);
+    else
+        munmap(m->map, m->span);
+    m->at = NULL;
+}
+
+static void writable(const struct lent *m, bool yes)
+{
+    if (m->map != NULL && mprotect(inner(m), inner_size(m), yes ? PROT_READ | PROT_WRITE : PROT_READ) != 0)
+        fail(0, "mprotect", 0, m->size);
+}
+
+static void all_filler(int line, const uint8_t *at, size_t size)
+{
+    if (size > 0 && (*at != FILLER || memcmp(at, at + 1, size - 1) != 0))
+        fail(line, "a byte beside lent memory was written", 1, 0);
+}
+
+/* The filler around the lent bytes is as it was. */
+static void check_filler(int line, const struct lent *m)
+{
+    if (m->map == NULL)
+        return;
+    size_t before = (size_t)(m->at - inner(m));
+    all_filler(line, inner(m), before);
+    all_filler(line, m->at + m->size, inner_size(m) - before - m->size);
+}
+
+/* Hosts and calls. */
+
+struct host new_host(void)
+{
+    struct host h = {
+        .controller = lend(sizeof(struct flic_controller)),
+        .device = lend(sizeof(struct flic_device)),
+        .table = lend(FLIC_PLACES * sizeof(struct flic_place)),
+    };
+    memset(h.controller.at, 0, h.controller.size);
+    memset(h.device.at, 0, h.device.size);
+    memset(h.table.at, 0, h.table.size);
+    return h;
+}
+
+void free_host(struct host *h)
+{
+    give_back(&h->controller);
+    give_back(&h->device);
+    give_back(&h->table);
+}
+
+const struct flic_controller *controller_of(const struct host *h)
+{
+    return (const struct flic_controller *)(const void *)h->controller.at;
+}
+
+const struct flic_device *device_of(const struct host *h)
+{
+    return (const struct flic_device *)h->device.at;
+}
+
+const struct flic_place *table_of(const struct host *h)
+{
+    return (const struct flic_place *)h->table.at;
+}
+
+/* Places of a table that is no controller's own: any values of their types. */
+static void fill_table(struct lent *m)
+{
+    for (size_t i = 0; i < m->size; i++)
+        m->at[i] = i % 6 == 1 ? (uint8_t)(0xf0 + i) : i / 6 % 3 != 0;
+}
+
+struct flic_answer run(int line, struct host *h, const struct call *call, uint8_t *after)
+{
+    static uint8_t controller[sizeof(struct flic_controller)], device[sizeof(struct flic_device)];
+    static uint8_t table[FLIC_PLACES * sizeof(struct flic_place)], other[MOST];
+    struct flic_controller *c = (struct flic_controller *)(void *)h->controller.at;
+    struct flic_device *d = (struct flic_device *)h->device.at;
+    bool another = call->kind != TAKE && call->places != FLIC_PLACES;
+    bool reads = call->kind == GET || call->kind == WRITE;
+    bool sets = call->kind == SET || call->kind == PLAY;
+
+    struct lent buffer = lend(call->length);
+    if (call->length > 0)
+        memcpy(buffer.at, call->bytes, call->length);
+    struct lent lent_table = h->table;
+    if (another) {
+        lent_table = lend(call->places * sizeof(struct flic_place));
+        fill_table(&lent_table);
+        memcpy(other, lent_table.at, lent_table.size);
+    }
+    struct flic_place *t = (struct flic_place *)lent_table.at;
+    memcpy(controller, h->controller.at, sizeof controller);
+    memcpy(device, h->device.at, sizeof device);
+    memcpy(table, h->table.at, sizeof table);
+
+    /* What this call may not write cannot be written while it runs. */
+    if (sets)
+        writable(&buffer, false);
+    if (reads) {
+        writable(&h->controller, false);
+        writable(&lent_table, false);
+    }
+    if (reads || call->kind == TAKE)
+        writable(&h->device, false);
+    if (another || call->kind == TAKE)
+        writable(&h->table, false);
+
+    line_now = line;
+    struct flic_answer r = {0, 0};
+    switch (call->kind) {
+    case MAKE:
+        r = flic_make(c, d, t, call->places, call->ais);
+        break;
+    case SET:
+        r = flic_set(c, d, t, call->places, call->group, call->attribute, buffer.at, buffer.size);
+        break;
+    case GET:
+        r = flic_get(c, d, t, call->places, call->group, call->attribute, buffer.at, buffer.size);
+        break;
+    case TAKE:
+        r = flic_take(c, call->subclasses, call->external, call->machine_check, buffer.at, buffer.size);
+        break;
+    case WRITE:
+        r = flic_write_list(c, d, t, call->places, buffer.at, buffer.size);
+        break;
+    case PLAY:
+        r = flic_play_list(c, d, t, call->places, buffer.at, buffer.size);
+        break;
+    }
+    line_now = 0;
+
+    writable(&h->controller, true);
+    writable(&h->device, true);
+    writable(&h->table, true);
+    check_filler(line, &h->controller);
+    check_filler(line, &h->device);
+    check_filler(line, &h->table);
+    check_filler(line, &buffer);
+    bool refused = r.code != 0 && call->kind != PLAY;
+    if (another) {
+        check_filler(line, &lent_table);
+        same_bytes(line, "wrong table", lent_table.at, other, lent_table.size);
+        give_back(&lent_table);
+        if (r.code != EFAULT || r.count != 0)
+            fail(line, "code for a wrong table", r.code, EFAULT);
+    }
+    if (refused && r.count != 0)
+        fail(line, "count of a refusal", r.count, 0);
+    if (refused || reads || another)
+        same_bytes(line, "controller", h->controller.at, controller, sizeof controller);
+    if (refused || reads || another || call->kind == TAKE) {
+        same_bytes(line, "device record", h->device.at, device, sizeof device);
+        same_bytes(line, "table", h->table.at, table, sizeof table);
+    }
+    if (refused || sets || another)
+        same_bytes(line, "buffer", buffer.at, call->bytes, buffer.size);
+    if (after != NULL && buffer.size > 0)
+        memcpy(after, buffer.at, buffer.size);
+    give_back(&buffer);
+    return r;
+}
+
+void expect(int line, struct host *h, struct call call, uint32_t code, uint64_t count, const uint8_t *written,
+            size_t size)
+{
+    static uint8_t after[MOST];
+    struct flic_answer r = run(line, h, &call, after);
+    if (r.code != code)
+        fail(line, "code", r.code, code);
+    if (r.count != count)
+        fail(line, "count", r.count, count);
+    if (size > call.length)
+        fail(line, "bytes lent", call.length, size);
+    if (size > 0)
+        same_bytes(line, "bytes written", after, written, size);
+    if (call.length > size)
+        same_bytes(line, "bytes not written", after + size, call.bytes + size, call.length - size);
+}
+
+void expect_listing(int line, struct host *h, const uint8_t *records, size_t count)
+{
+    size_t size = count * FLIC_RECORD;
+    struct call call = {.kind = GET, .places = FLIC_PLACES, .group = KVM_DEV_FLIC_GET_ALL_IRQS, .bytes = unwritten};
+    /* a buffer of exact size, a longer one, and a claim of one byte too few */
+    call.attribute = call.length = size == 0 ? 1 : size;
+    expect(line, h, call, 0, count, records, size);
+    call.attribute = call.length = size + 1;
+    expect(line, h, call, 0, count, records, size);
+    if (size > 0) {
+        call.attribute = size - 1;
+        expect(line, h, call, ENOMEM, 0, NULL, 0);
+        call.attribute = size;
+        call.length = size - 1;
+        expect(line, h, call, EFAULT, 0, NULL, 0);
+    }
+    /* the header's fields are where the library has them: the same records, read from the controller */
+    const struct flic_controller *c = controller_of(h);
+    size_t at = 0;
+    for (unsigned queue = 0; queue < 9; queue++)
+        for (size_t i = 0; i < c->counts[queue]; i++, at++) {
+            if (at >= count)
+                fail(line, "records in the queues", at + 1, count);
+            same_bytes(line, "record in its slot", c->slots + c->order[at] * (size_t)FLIC_RECORD, records + at * FLIC_RECORD,
+                       FLIC_RECORD);
+        }
+    for (unsigned single = 0; single < 2; single++)
+        if (c->singles[2 * FLIC_RECORD + single] != 0) {
+            if (at >= count)
+                fail(line, "records with the single ones", at + 1, count);
+            same_bytes(line, "single record", c->singles + single * (size_t)FLIC_RECORD, records + at * FLIC_RECORD,
+                       FLIC_RECORD);
+            at++;
+        }
+    if (at != count)
+        fail(line, "records in the controller", at, count);
+}
+
+void expect_device(int line, struct host *h, uint8_t simm, uint8_t nimm, bool apf)
+{
+    const struct flic_device *d = device_of(h);
+    if (d->simm != simm)
+        fail(line, "simm", d->simm, simm);
+    if (d->nimm != nimm)
+        fail(line, "nimm", d->nimm, nimm);
+    if (d->apf != apf)
+        fail(line, "page-fault flag", d->apf, apf);
+    struct call call = {.kind = GET, .places = FLIC_PLACES, .group = KVM_DEV_FLIC_AISM_ALL, .bytes = unwritten, .length = 2};
+    uint8_t masks[2] = {simm, nimm};
+    if (controller_of(h)->ais) {
+        expect(line, h, call, 0, 0, masks, 2);
+        call.length = 1;
+        expect(line, h, call, EFAULT, 0, NULL, 0);
+    } else {
+        expect(line, h, call, EOPNOTSUPP, 0, NULL, 0);
+    }
+}
+
+void expect_place(int line, struct host *h, unsigned id, struct flic_place place)
+{
+    const struct flic_place *p = table_of(h) + id;
+    if (p->used != place.used)
+        fail(line, "used", p->used, place.used);
+    if (p->isc != place.isc)
+        fail(line, "isc", p->isc, place.isc);
+    if (p->maskable != place.maskable)
+        fail(line, "maskable", p->maskable, place.maskable);
+    if (p->swap != place.swap)
+        fail(line, "swap", p->swap, place.swap);
+    if (p->suppressible != place.suppressible)
+        fail(line, "suppressible", p->suppressible, place.suppressible);
+    if (p->masked != place.masked)
+        fail(line, "masked", p->masked, place.masked);
+}
+
+void expect_fresh(int line, struct host *h, bool ais)
+{
+    static const uint8_t free_places[FLIC_PLACES * sizeof(struct flic_place)];
+    uint8_t list[FLIC_LIST_HEADER];
+    if (controller_of(h)->ais != ais)
+        fail(line, "capability", controller_of(h)->ais, ais);
+    expect_listing(line, h, NULL, 0);
+    expect_device(line, h, 0, 0, false);
+    same_bytes(line, "fresh table", h->table.at, free_places, sizeof free_places);
+    put(list, 4, 20);
+    put(list + 4, 4, 0);
+    put(list + 8, 4, 20);
+    put(list + 12, 4, 20);
+    put(list + 16, 4, ais);
+    struct call call = {.kind = WRITE, .places = FLIC_PLACES, .bytes = unwritten, .length = 20};
+    expect(line, h, call, 0, 20, list, 20);
+    call.length = 19;
+    expect(line, h, call, ENOMEM, 0, NULL, 0);
+}
+
+void expect_wrong_tables(int line, struct host *h)
+{
+    static const size_t places[] = {0, 1, 63, 65, 128};
+    static const uint8_t empty_list[20] = {0, 0, 0, 20, 0, 0, 0, 0, 0, 0, 0, 20, 0, 0, 0, 20, 0, 0, 0, 1};
+    static const uint8_t payload[FLIC_RECORD] = {0, 0, 0, 3, 1, 1, 1, 1};
+    for (size_t i = 0; i < sizeof places / sizeof places[0]; i++) {
+        struct call call = {.places = places[i]};
+        for (unsigned ais = 0; ais < 2; ais++) {
+            call.kind = MAKE;
+            call.ais = ais;
+            expect(line, h, call, EFAULT, 0, NULL, 0);
+        }
+        for (uint32_t group = 0; group <= 12; group++)
+            for (unsigned n = 0; n < 3; n++) {
+                static const uint64_t attributes[] = {0, 3, FLIC_RECORD};
+                call.group = group;
+                call.attribute = attributes[n];
+                call.kind = SET;
+                call.bytes = payload;
+                call.length = n == 1 ? 0 : sizeof payload;
+                expect(line, h, call, EFAULT, 0, NULL, 0);
+                call.kind = GET;
+                call.bytes = unwritten;
+                expect(line, h, call, EFAULT, 0, NULL, 0);
+            }
+        call.kind = WRITE;
+        call.bytes = unwritten;
+        call.length = 0;
+        expect(line, h, call, EFAULT, 0, NULL, 0);
+        call.length = FLIC_LONGEST_LIST;
+        expect(line, h, call, EFAULT, 0, NULL, 0);
+        call.kind = PLAY;
+        call.bytes = empty_list;
+        call.length = sizeof empty_list;
+        expect(line, h, call, EFAULT, 0, NULL, 0);
+        call.length = 19;
+        expect(line, h, call, EFAULT, 0, NULL, 0);
+    }
+}

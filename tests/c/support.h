@@ -1,0 +1,115 @@
+/* Calls in lent memory of exact size, each held to a code, a count and every byte. */
+#ifndef SUPPORT_H
+#define SUPPORT_H
+
+#include "flic.h"
+
+/*
+ * Lent memory of exactly so many bytes: at the end of a page or at the start of one, between pages that cannot be
+ * touched, or on the heap. The rest of its own pages holds a filler that must stay.
+ */
+enum placement { PAGE_END, PAGE_START, HEAP, PLACEMENTS };
+extern enum placement placement;
+
+struct lent {
+    uint8_t *at;
+    size_t size;
+    uint8_t *map; /* NULL on the heap */
+    size_t span;
+};
+
+struct lent lend(size_t size);
+void give_back(struct lent *m);
+
+/* A controller, its device record and its own table. */
+struct host {
+    struct lent controller, device, table;
+};
+
+/* Memory set to zero: nothing made yet. */
+struct host new_host(void);
+void free_host(struct host *h);
+const struct flic_controller *controller_of(const struct host *h);
+const struct flic_device *device_of(const struct host *h);
+const struct flic_place *table_of(const struct host *h);
+
+enum kind { MAKE, SET, GET, TAKE, WRITE, PLAY };
+
+struct call {
+    enum kind kind;
+    size_t places; /* FLIC_PLACES: the controller's own table; else another one of so many places */
+    bool ais;
+    uint32_t group;
+    uint64_t attribute;
+    uint8_t subclasses;
+    bool external, machine_check;
+    const uint8_t *bytes; /* what the payload or buffer holds before the call */
+    size_t length;
+};
+
+/*
+ * One call; the bytes of its buffer afterwards go to 'after', if that is not NULL. Ends the program where something
+ * changed that no call of this kind, or no call with this answer, may change.
+ */
+struct flic_answer run(int line, struct host *h, const struct call *call, uint8_t *after);
+
+/* The same, held to an answer; the buffer starts with these bytes afterwards, and the rest of it is as it was. */
+void expect(int line, struct host *h, struct call call, uint32_t code, uint64_t count, const uint8_t *written,
+            size_t size);
+
+void fail(int line, const char *what, uint64_t got, uint64_t wanted);
+void same_bytes(int line, const char *what, const uint8_t *got, const uint8_t *wanted, size_t size);
+
+/* Before the first call. */
+void begin(const char *name);
+
+/* What is tried just now, for the message of a failure; or NULL. */
+extern const char *subject;
+
+/* Bytes that an output buffer holds before a call. */
+#define MOST 65536
+extern uint8_t unwritten[MOST];
+
+void expect_listing(int line, struct host *h, const uint8_t *records, size_t count);
+void expect_device(int line, struct host *h, uint8_t simm, uint8_t nimm, bool apf);
+void expect_place(int line, struct host *h, unsigned id, struct flic_place place);
+void expect_fresh(int line, struct host *h, bool ais);
+void expect_wrong_tables(int line, struct host *h);
+
+#define make(h, cap, code, count) \
+    expect(__LINE__, h, (struct call){.kind = MAKE, .places = FLIC_PLACES, .ais = cap}, code, count, NULL, 0)
+#define set(h, g, attr, payload, size, code, count)                                                               \
+    expect(__LINE__, h,                                                                                           \
+           (struct call){.kind = SET, .places = FLIC_PLACES, .group = g, .attribute = attr, .bytes = payload,     \
+                         .length = size},                                                                         \
+           code, count, NULL, 0)
+#define get(h, g, attr, size, code, count, written, many)                                                         \
+    expect(__LINE__, h,                                                                                           \
+           (struct call){.kind = GET, .places = FLIC_PLACES, .group = g, .attribute = attr, .bytes = unwritten,   \
+                         .length = size},                                                                         \
+           code, count, written, many)
+#define take(h, mask, ext, mc, size, code, count, record)                                                         \
+    expect(__LINE__, h,                                                                                           \
+           (struct call){.kind = TAKE, .subclasses = mask, .external = ext, .machine_check = mc,                  \
+                         .bytes = unwritten, .length = size},                                                     \
+           code, count, record, (count) * FLIC_RECORD)
+#define write_list(h, size, code, count, list)                                                                    \
+    expect(__LINE__, h, (struct call){.kind = WRITE, .places = FLIC_PLACES, .bytes = unwritten, .length = size},  \
+           code, count, list, count)
+#define play(h, list, size, code, count)                                                                          \
+    expect(__LINE__, h, (struct call){.kind = PLAY, .places = FLIC_PLACES, .bytes = list, .length = size}, code,  \
+           count, NULL, 0)
+#define holds(h, records, count) expect_listing(__LINE__, h, records, count)
+#define device_is(h, simm, nimm, apf) expect_device(__LINE__, h, simm, nimm, apf)
+#define place_is(h, id, ...) expect_place(__LINE__, h, id, (struct flic_place){__VA_ARGS__})
+#define is_fresh(h, ais) expect_fresh(__LINE__, h, ais)
+#define wrong_tables(h) expect_wrong_tables(__LINE__, h)
+
+/* Big-endian numbers. */
+void put(uint8_t *at, unsigned bytes, uint64_t n);
+uint64_t number(const uint8_t *at, unsigned bytes);
+
+/* An I/O record, or with the same fields any other type; the bytes after them are 0. */
+void io_record(uint8_t *at, uint64_t type, uint16_t id, uint16_t nr, uint32_t parm, uint32_t word);
+
+#endif

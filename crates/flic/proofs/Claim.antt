@@ -112,7 +112,7 @@ module _ {ais : Bool} {f h : Host} {cs : List Call} {ss : List Seen} (made : Fre
 
 -- The claim.
 module _ (m : Moved) where
-  good₁ : Good (m .first)
+  pub good₁ : Good (m .first)
   good₁ = ran-good (m .fresh₁) (m .ran₁)
 
   good₂ : Good (m .before)
@@ -146,6 +146,9 @@ module _ (m : Moved) where
   play-step =
       played (m .before) good₂ (listOf m) (m .second .ctl) (m .second .dev) (m .before .tab) (m .second .tab) (m .second .tab) (m .played)
       (its-own refl) (m .plays)
+
+  pub good-second : Good (m .second)
+  good-second = play-step .good
 
   played-is : step paperLimits (hostState (m .before)) (asked playList (take (told .count) (told .buffer)) (paperLimits .places))
       ≡ record { code = m .played .code; count = m .played .count; next = hostState (m .second); buffer = listOf m }

@@ -22,11 +22,11 @@ use Rattle.adapters.specs.declared.Place.{Place}
 use Rattle.adapters.specs.Values.{unused, placeOf, deviceOf}
 use Rattle.records.specs.Memory.{pendingOf}
 use Rattle.flic.specs.declared.Controller.{Controller}
-use Rattle.flic.specs.Surface.{stateOf, Ready, Valid, Steps, Requested, Taken, Played}
+use Rattle.flic.specs.Surface.{stateOf, Ready, Valid, Premise, Steps, Requested, Taken, Played}
 use Rattle.flic.specs.Chain.{Host, Lends, its-own, another, asked, Ran, end, set, get, take, write, play}
 use Rattle.flic.proofs.Promises.{by-length}
 use Rattle.flic.proofs.Follows.{hostState, Good, own-length, Tabled, refused-table, requested, taken, played, follows}
-use Rattle.flic.proofs.Claim.{Fresh, fresh-good, machine, Moved}
+use Rattle.flic.proofs.Claim.{Fresh, fresh-good, machine, Moved, good₁, good-second}
 use Rattle.flic.proofs.Represent.{keep, Represents, represent}
 
 -- ---- every contract has an answer
@@ -289,18 +289,18 @@ runs [] h g = record { seen = []; last = h; ran = end }
 runs (c ∷ cs) h g = one-more cs (runs cs) h g (c .ask) (c .buffer) (c .table)
 
 -- ---- every call of a chain meets its function's premise
-abbrev pub Premise : Host → List Place → Type 0
-Premise h t = length t ≡ paperLimits .places → Valid (h .ctl) (h .dev) t
+abbrev pub LentPremise : Host → List Place → Type 0
+LentPremise h t = Premise (h .ctl) (h .dev) t
 
 abbrev pub Premises : {h e : Host} {cs : List Call} {ss : List Seen} → Ran h cs ss e → Type 0
 Premises end = Unit {0}
-Premises (set {h} group attr b c′ d′ t t′ u r l f rest) = Premise h t × Premises rest
-Premises (get {h} group attr b b′ t u r l f rest) = Premise h t × Premises rest
+Premises (set {h} group attr b c′ d′ t t′ u r l f rest) = LentPremise h t × Premises rest
+Premises (get {h} group attr b b′ t u r l f rest) = LentPremise h t × Premises rest
 Premises (take {h} subclasses external mcheck b b′ c′ n r f rest) = Ready (h .ctl) × Premises rest
-Premises (write {h} b b′ t u r l f rest) = Premise h t × Premises rest
-Premises (play {h} b c′ d′ t t′ u r l f rest) = Premise h t × Premises rest
+Premises (write {h} b b′ t u r l f rest) = LentPremise h t × Premises rest
+Premises (play {h} b c′ d′ t t′ u r l f rest) = LentPremise h t × Premises rest
 
-lent-premise : {h : Host} → Good h → {t t′ u : List Place} → Lends (h .tab) t t′ u → Premise h t
+lent-premise : {h : Host} → Good h → {t t′ u : List Place} → Lends (h .tab) t t′ u → LentPremise h t
 lent-premise {h} g (its-own e) n = subst (λ (x : List Place). Valid (h .ctl) (h .dev) x) (sym e) g
 lent-premise g (another w) n = absurd (w n)
 
@@ -380,5 +380,17 @@ moved ais f₁ f₂ h₁ h₂ cs₁ cs₂ b long =
     }
 
 -- and both of its calls meet their functions' premises
-pub moved-premises : (m : Moved) → Premise (m .first) (m .first .tab) × Premise (m .before) (m .before .tab)
+pub moved-premises : (m : Moved) → LentPremise (m .first) (m .first .tab) × LentPremise (m .before) (m .before .tab)
 moved-premises m = (λ _. follows (fresh-good (m .fresh₁)) (m .ran₁) .good, λ _. follows (fresh-good (m .fresh₂)) (m .ran₂) .good)
+
+-- ---- after the move
+-- every further list of calls has a chain on both hosts, and every call of any such chain meets its function's premise
+pub further : (m : Moved) (ds : List Call) → Chain (m .first) ds × Chain (m .second) ds
+further m ds = (runs ds (m .first) (good₁ m), runs ds (m .second) (good-second m))
+
+module _ (m : Moved) {e : Host} {ds : List Call} {xs : List Seen} where
+  pub premises-first : (r : Ran (m .first) ds xs e) → Premises r
+  premises-first r = premises (good₁ m) r
+
+  pub premises-second : (r : Ran (m .second) ds xs e) → Premises r
+  premises-second r = premises (good-second m) r

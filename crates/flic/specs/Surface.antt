@@ -27,18 +27,22 @@ stateOf c d t =
       device = deviceOf d;
     }
 
--- 01, 'How much each promise says': the one premise. It is a record of facts that a fresh controller has and every call keeps. Of the
--- controller alone: each slot is listed once, and the nine queues hold at most as many records as there are slots. The rules leave open
--- what the slots hold that no used entry of the order lists, in which order these stand, and the bytes of a service record or machine
--- check that is not there; nothing more is said of them.
+-- 01, 'How much each promise says': the one premise is a record of facts that a fresh controller has and every call keeps. Of the controller alone:
+-- no slot stands twice in the order, and the nine queues hold at most as many records as there are slots. The rules leave open: in which slot a
+-- pending record lies; what the other slots hold and in which order they stand; which number, other than 0, says that a service record or a
+-- machine check is there; the bytes of one that is not there. Of these nothing more holds.
 abbrev pub Ready : Controller → Type 0
 Ready c = Held (c .order) (c .counts)
 
--- With its device record and its table: a free place is the one free place; the state is one that a fresh one can reach satisfies what all do.
+-- With its device record and its table: a free place is the one free place, and the state has what every state has that a fresh one can reach.
 pub record Valid (c : Controller) (d : Device) (t : List Place) : Type 0 where
   pub ready : Ready c
   pub places : All Canonical t
   pub sound : Sound paperLimits (stateOf c d t)
+
+-- It is asked only of a table of 64 places: a table of another length has no premise.
+abbrev pub Premise : Controller → Device → List Place → Type 0
+Premise c d t = length t ≡ paperLimits .places → Valid c d t
 
 -- 01, 'How much each promise says': code, count, next state and each byte of the buffer are the plain machine's.
 abbrev pub Steps : Ask → (c c′ : Controller) (d d′ : Device) (t t′ : List Place) (b b′ : List ℕ) → Answer → Type 0

@@ -1,12 +1,12 @@
-// The public calls, and nothing else: what a caller may use is this crate.
+// The public calls: what a caller may use is this crate, with the records `adapters::Device` and `adapters::Place` that he lends and the `answers::Answer`
+// that he gets. `Decision` and `Started` pass between its own functions.
 ghost use mathlib.Core.Path.{_≡_};
 ghost use mathlib.Core.Bool.{Bool, true};
-ghost use lib.ListN.{length};
 ghost use Rattle.rules.specs.State.{paperLimits};
 ghost use Rattle.rules.specs.Machine.{setAttr, getAttr, writeList};
 ghost use Rattle.adapters.specs.Values.{Canonical, withMasked};
 ghost use Rattle.queues.specs.Queues.{Held};
-ghost use Rattle.flic.specs.Surface.{Ready, Valid, Made, Requested, Taken, Played};
+ghost use Rattle.flic.specs.Surface.{Ready, Premise, Made, Requested, Taken, Played};
 ghost use Rattle.flic.specs.Inner.{controller, Began, Replayed, Wrote, Decided, Got};
 use adapters::Device;
 use adapters::Place;
@@ -294,7 +294,7 @@ pub extern "C" fn flic_set(
     attr: u64,
     payload: &[u8],
 ) -> Answer
-    requires { ⌜ (length (now t) ≡ paperLimits .places → Valid (now c) (now d) (now t)) ⌝ }
+    requires { ⌜ Premise (now c) (now d) (now t) ⌝ }
     ensures { λ r. ⌜ Requested (setAttr group attr) (now (c .entry)) (now (c .exit)) (now (d .entry)) (now (d .exit)) (now (t .entry)) (now (t .exit)) (now (payload .entry)) (now (payload .entry)) r ⌝ }
 {
     let id = values::about(group, attr, payload);
@@ -329,7 +329,7 @@ pub extern "C" fn flic_get(
     attr: u64,
     out: &mut [u8],
 ) -> Answer
-    requires { ⌜ (length (now t) ≡ paperLimits .places → Valid (now c) (now d) (now t)) ⌝ }
+    requires { ⌜ Premise (now c) (now d) (now t) ⌝ }
     ensures { λ r. ⌜ Requested (getAttr group attr) (now (c .entry)) (now (c .entry)) (now (d .entry)) (now (d .entry)) (now (t .entry)) (now (t .entry)) (now (out .entry)) (now (out .exit)) r ⌝ }
 {
     let device = table::read_device(d);
@@ -374,7 +374,7 @@ pub extern "C" fn flic_take(
 // The move list is written to the buffer's start.
 #[no_mangle]
 pub extern "C" fn flic_write_list(c: &Controller, d: &Device, t: &[Place], out: &mut [u8]) -> Answer
-    requires { ⌜ (length (now t) ≡ paperLimits .places → Valid (now c) (now d) (now t)) ⌝ }
+    requires { ⌜ Premise (now c) (now d) (now t) ⌝ }
     ensures { λ r. ⌜ Requested writeList (now (c .entry)) (now (c .entry)) (now (d .entry)) (now (d .entry)) (now (t .entry)) (now (t .entry)) (now (out .entry)) (now (out .exit)) r ⌝ }
 {
     let device = table::read_device(d);
@@ -400,7 +400,7 @@ pub extern "C" fn flic_play_list(
     t: &mut [Place],
     list: &[u8],
 ) -> Answer
-    requires { ⌜ (length (now t) ≡ paperLimits .places → Valid (now c) (now d) (now t)) ⌝ }
+    requires { ⌜ Premise (now c) (now d) (now t) ⌝ }
     ensures { λ r. ⌜ Played (now (c .entry)) (now (c .exit)) (now (d .entry)) (now (d .exit)) (now (t .entry)) (now (t .exit)) (now (list .entry)) r ⌝ }
 {
     let device = table::read_device(d);

@@ -246,7 +246,7 @@ pub fn take(
         SubchannelId(0),
         SubchannelNumber(0),
     ) else {
-        return answers::accept(0);
+        return answers::accept(0); // the buffer is not touched
     };
     let r = take_io(slots, order, counts, isc, j);
     hand(out, r)

@@ -1,4 +1,4 @@
-// P9 by the calls themselves: with AIS, adapter 5 of subclass 3 (maskable, no swap, suppressible) is registered, SINGLE is set for its
+// P9 by the requests themselves, on the covered core: with AIS, adapter 5 of subclass 3 (maskable, no swap, suppressible) is registered, SINGLE is set for its
 // subclass, and it injects once. Writes the move list of that controller to standard output, if it has the paper's length.
 ghost use Rattle.queues.specs.Queues.{Held};
 ghost use Rattle.adapters.specs.Values.{Canonical};

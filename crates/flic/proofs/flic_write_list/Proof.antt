@@ -37,6 +37,7 @@ use Rattle.flic.proofs.flic_write_list as f
 use Rattle.flic.proofs.flic_write_list.Statement as stated
 use Rattle.flic.proofs.flic_write_list.Code as code
 use Rattle.flic.proofs.flic_write_list.Code.Mir as mir
+use Rattle.image.specs.Image.{imageSize}
 
 abbrev stayed : Stays (f.ended .signature .params) (f.ended .kept)
 stayed = (stay-dropped (shrRefTo (0 ∷ []) tt (plain (λ _. C.the-row))) yes, (stay-dropped (shrRefTo (1 ∷ []) tt (plain (λ _. D.the-row))) yes, (stay-dropped (shrSliceOf (2 ∷ []) tt (plain (λ _. P.the-row))) yes, (gave-slice (3 ∷ []) tt (plain (λ _. u8)), tt))))
@@ -75,7 +76,7 @@ module _ {M : Type 1} (𝓤 : URA M) (H : Heap 𝓤) (A : Atoms 𝓤) (W : Given
   abbrev Rest : List ℕ → List (Item 𝓤)
   Rest ls = ‵ (flft (a .κc) (a .qc)) ∷ ‵ (flft (a .κd) (a .qd)) ∷ ‵ (flft (a .κt) (a .qt)) ∷ ‵ (flft κo qo) ∷ ‵ (finally u8 γo ls) ∷ []
 
-  exits : (ls : List ℕ) (z : Answer) (v : Val) → Wrote (length (a .t)) (a .c) (a .d) (snapTo (a .t) 64) bytes ls z → length ls ≡ length bytes → Is An.the-row z (v ∷ []) → ent 𝓤 (⋆ 𝓤 H A (Rest ls)) (Post v)
+  exits : (ls : List ℕ) (z : Answer) (v : Val) → Wrote (length (a .t)) (a .c) (a .d) (snapTo (a .t) imageSize) bytes ls z → length ls ≡ length bytes → Is An.the-row z (v ∷ []) → ent 𝓤 (⋆ 𝓤 H A (Rest ls)) (Post v)
   exits ls z v wrote e is =
       qed W (Rest ls) ∵ suffices ! _ (ends-at 𝓤 H A f.ended stayed (f.clauses 𝓤 H A mem′ run) W bound v z (tt, (tt, (tt, (ls, tt)))) (tt, (tt, (tt, (e, tt))))) $ says ! (write-promises (a .c) (a .d) (a .t) bytes ls z wrote valid) $
       nothing ! $ move ! (4 ∷ 0 ∷ []) $ join ! $ move ! (3 ∷ 0 ∷ []) $ join ! $ move ! (2 ∷ 0 ∷ []) $ join ! $ move ! (1 ∷ 0 ∷ []) $ join ! $ frame ! $
@@ -86,7 +87,7 @@ module _ {M : Type 1} (𝓤 : URA M) (H : Heap 𝓤) (A : Atoms 𝓤) (W : Given
   T = ‵ (flft κo qo) ⊛ ‵ ftrue
 
   abbrev O : Fml
-  O = fsep (usize .own (length (a .t)) (vint w64 (length (a .t)) ∷ [])) (fsep (bool .own (a .c .ais) (vbool (a .c .ais) ∷ [])) (fsep (D.the-row .own (a .d) (D′.lowered (a .d) ∷ [])) (fsep (Image .own (snapTo (a .t) 64) (low-image (snapTo (a .t) 64) ∷ [])) (fsep OwnO ftrue))))
+  O = fsep (usize .own (length (a .t)) (vint w64 (length (a .t)) ∷ [])) (fsep (bool .own (a .c .ais) (vbool (a .c .ais) ∷ [])) (fsep (D.the-row .own (a .d) (D′.lowered (a .d) ∷ [])) (fsep (Image .own (snapTo (a .t) imageSize) (low-image (snapTo (a .t) imageSize) ∷ [])) (fsep OwnO ftrue))))
 
   abbrev Y : Type 0
   Y = Unit {0} × (Unit {0} × (Unit {0} × (Unit {0} × (List ℕ × Unit {0}))))
@@ -98,7 +99,7 @@ module _ {M : Type 1} (𝓤 : URA M) (H : Heap 𝓤) (A : Atoms 𝓤) (W : Given
   Leaves y = fsep ftrue (fsep ftrue (fsep ftrue (fsep ftrue (fsep (fsep (finally u8 γo (last y)) (feq ℕ (length (last y)) (length bytes))) ftrue))))
 
   abbrev to-write : Loan → WriteFrom 𝓤 H A mem′ run .Ghost
-  to-write n = ((lent-lfts n (κo, tt), lent-shares (qo, tt), tt, lent-args n (a .c) (a .bc) (a .oc) (length (a .t), (a .c .ais, (a .d, (snapTo (a .t) 64, (at-array bo oo γo bytes, tt))))), lent-vals (a .bc) (a .oc) (vint w64 (length (a .t)) ∷ [], (vbool (a .c .ais) ∷ [], (D′.lowered (a .d) ∷ [], (low-image (snapTo (a .t) 64) ∷ [], (out ∷ [], tt)))))), tt)
+  to-write n = ((lent-lfts n (κo, tt), lent-shares (qo, tt), tt, lent-args n (a .c) (a .bc) (a .oc) (length (a .t), (a .c .ais, (a .d, (snapTo (a .t) imageSize, (at-array bo oo γo bytes, tt))))), lent-vals (a .bc) (a .oc) (vint w64 (length (a .t)) ∷ [], (vbool (a .c .ais) ∷ [], (D′.lowered (a .d) ∷ [], (low-image (snapTo (a .t) imageSize) ∷ [], (out ∷ [], tt)))))), tt)
 
   goes : (sh : Share) (n : Loan) → ent 𝓤 (⋆ 𝓤 H A (Toks n T ∷ ‵ (Lent (shared sh) n (a .c) (a .bc) (a .oc) O) ∷ [])) (WriteFrom 𝓤 H A mem′ run .pre (to-write n))
   goes sh n = qed W (Toks n T ∷ ‵ (Lent (shared sh) n (a .c) (a .bc) (a .oc) O) ∷ []) ∵ says ! (λ e. valid e .ready) $ done !
@@ -109,7 +110,7 @@ module _ {M : Type 1} (𝓤 : URA M) (H : Heap 𝓤) (A : Atoms 𝓤) (W : Given
 
     -- what the locals hold after n statements, and the result's v₀
     abbrev held : Content → ℕ → List Content
-    held v₀ n = v₀ ∷ holds (vptr (a .bc) (a .oc)) ∷ holds (vptr (a .bd) (a .od)) ∷ holds (table a) ∷ holds out ∷ since 1 n (D′.lowered (a .d)) ∷ since 2 n (low-image (snapTo (a .t) 64)) ∷ since 3 n (vptr (a .bc) (a .oc + 0)) ∷ since 4 n (vptr (a .bc) (a .oc + 18432)) ∷ since 5 n (vptr (a .bc) (a .oc + 18688)) ∷ since 6 n (vptr (a .bc) (a .oc + 18760))
+    held v₀ n = v₀ ∷ holds (vptr (a .bc) (a .oc)) ∷ holds (vptr (a .bd) (a .od)) ∷ holds (table a) ∷ holds out ∷ since 1 n (D′.lowered (a .d)) ∷ since 2 n (low-image (snapTo (a .t) imageSize)) ∷ since 3 n (vptr (a .bc) (a .oc + 0)) ∷ since 4 n (vptr (a .bc) (a .oc + 18432)) ∷ since 5 n (vptr (a .bc) (a .oc + 18688)) ∷ since 6 n (vptr (a .bc) (a .oc + 18760))
         ∷ since 7 n (vint w64 (length (a .t))) ∷ since 8 n (vbool (a .c .ais)) ∷ since 9 n (vptr bo oo) ∷ since 10 n out ∷ []
 
     -- the controller looked into, at the share sh
@@ -117,7 +118,7 @@ module _ {M : Type 1} (𝓤 : URA M) (H : Heap 𝓤) (A : Atoms 𝓤) (W : Given
     Open sh Γ = Cells H sh (a .c) (a .bc) (a .oc) (‵ (fobor (a .κc) (a .qc) (partAt C.the-row sh (a .c) (a .bc) (a .oc))) ∷ Γ)
 
     -- the controller is shut
-    ends : (sh : Share) → Has (a .c) → (z : Answer) (v : Val) (y : Y) → Wrote (length (a .t)) (a .c) (a .d) (snapTo (a .t) 64) bytes (last y) z → Is An.the-row z (v ∷ [])
+    ends : (sh : Share) → Has (a .c) → (z : Answer) (v : Val) (y : Y) → Wrote (length (a .t)) (a .c) (a .d) (snapTo (a .t) imageSize) bytes (last y) z → Is An.the-row z (v ∷ [])
         → Sq W (Open sh (T ∷ ‵ (Leaves y) ∷ ‵ (flft (a .κd) (a .qd)) ∷ ‵ (flft (a .κt) (a .qt)) ∷ locals E (held (holds v) 10) [])) (runs C′ Λ E mir.t-12 (atRet E Post))
     ends sh g z v y wrote is =
         shuts-ctl ! tt sh (a .c) g (a .bc) (a .oc) $ move ! (2 ∷ []) $ fsplit ! $ drop ! $ fsplit ! $ drop ! $ fsplit ! $ drop ! $ fsplit ! $ drop ! $ fsplit ! $ fsplit ! $ move ! (1 ∷ []) $ feqL ! (λ e.
@@ -125,16 +126,16 @@ module _ {M : Type 1} (𝓤 : URA M) (H : Heap 𝓤) (A : Atoms 𝓤) (W : Given
         move ! (3 ∷ []) $ split ! $ move ! (4 ∷ 5 ∷ 6 ∷ 0 ∷ 2 ∷ 1 ∷ 3 ∷ []) $ move ! (5 ∷ []) $ drop ! $ move ! (5 ∷ []) $ drop ! $
         returns ! (look ! 5 refl) $ swaps ! (Rest (last y)) (locals E (held (holds v) 10) []) $ frees-all ! E (held (holds v) 10) $ by ! (exits (last y) z v wrote e is))
 
-    calls-it : (sh : Share) → Has (a .c) → Is D.the-row (a .d) (D′.lowered (a .d) ∷ []) → FitsImage (snapTo (a .t) 64) → Sq W (Open sh (‵ (flft (a .κd) (a .qd)) ∷ ‵ OwnO ∷ ‵ (flft κo qo) ∷ ‵ (flft (a .κt) (a .qt)) ∷ locals E (held blank 10) [])) (runs C′ Λ E mir.t-11 (atRet E Post))
+    calls-it : (sh : Share) → Has (a .c) → Is D.the-row (a .d) (D′.lowered (a .d) ∷ []) → FitsImage (snapTo (a .t) imageSize) → Sq W (Open sh (‵ (flft (a .κd) (a .qd)) ∷ ‵ OwnO ∷ ‵ (flft κo qo) ∷ ‵ (flft (a .κt) (a .qt)) ∷ locals E (held blank 10) [])) (runs C′ Λ E mir.t-11 (atRet E Post))
     calls-it sh g gd gi =
-        nothing ! $ move ! (9 ∷ 0 ∷ []) $ fjoin ! $ owned ! Image (Is Image) (image-makes 𝓤 H A W) (snapTo (a .t) 64) _ gi $ fjoin ! $ owned ! D.the-row (Is D.the-row) (LL.makes D.the-type D′.the-plain 𝓤 H A) (a .d) _ gd $ fjoin ! $
+        nothing ! $ move ! (9 ∷ 0 ∷ []) $ fjoin ! $ owned ! Image (Is Image) (image-makes 𝓤 H A W) (snapTo (a .t) imageSize) _ gi $ fjoin ! $ owned ! D.the-row (Is D.the-row) (LL.makes D.the-type D′.the-plain 𝓤 H A) (a .d) _ gd $ fjoin ! $
         owned ! bool (Is bool) (bool-makes 𝓤 H A W) (a .c .ais) _ refl $ fjoin ! $ owned ! usize (Is usize) (uint-makes 𝓤 H A W w64) (length (a .t)) _ (refl, room .0) $ fjoin ! $ nothing ! $ move ! (10 ∷ 0 ∷ []) $ join ! $ move ! (2 ∷ 3 ∷ 4 ∷ 5 ∷ 0 ∷ 1 ∷ []) $
-        calls-four ! fm (WriteFrom 𝓤 H A mem′ run) (known .write-from) (shared sh) to-write (a .c) g (a .bc) (a .oc) An.the-row T O Leaves (λ z w. Wrote (length (a .t)) (a .c) (a .d) (snapTo (a .t) 64) bytes (last (w .1 .1 .1 .1)) z) (goes sh) (λ n v. id⊢ 𝓤 _) (λ n i.
+        calls-four ! fm (WriteFrom 𝓤 H A mem′ run) (known .write-from) (shared sh) to-write (a .c) g (a .bc) (a .oc) An.the-row T O Leaves (λ z w. Wrote (length (a .t)) (a .c) (a .d) (snapTo (a .t) imageSize) bytes (last (w .1 .1 .1 .1)) z) (goes sh) (λ n v. id⊢ 𝓤 _) (λ n i.
         (and-then ! (load ! (from ! (stop !)) (look ! 24 refl)) (and-then ! (load ! (from ! (stop !)) (look ! 26 refl)) (and-then ! (load ! (from ! (stop !)) (look ! 28 refl)) (and-then ! (load ! (from ! (stop !)) (look ! 30 refl)) (and-then ! (load ! (from ! (stop !)) (look ! 32 refl)) (and-then ! (load ! (from ! (stop !)) (look ! 34 refl)) (and-then ! (load ! (from ! (stop !)) (look ! 20 refl)) (and-then ! (load ! (from ! (stop !)) (look ! 22 refl)) (and-then ! (load ! (from ! (stop !)) (look ! 38 refl)) (no-more !))))))))))) (λ z v w wrote g′ is.
         land ! (from ! (stop !)) (init ! 11 refl (LL.lawful An.the-type An′.the-laws 𝓤 H A W .typed z _ is .0)) $ move ! (0 ∷ 1 ∷ 2 ∷ 3 ∷ 6 ∷ 7 ∷ 8 ∷ []) $ ends sh g z v (w .1 .1 .1 .1) wrote is)
 
     -- the operands
-    operands : (sh : Share) → Has (a .c) → Is D.the-row (a .d) (D′.lowered (a .d) ∷ []) → FitsImage (snapTo (a .t) 64) → Sq W (Open sh (‵ (flft (a .κd) (a .qd)) ∷ ‵ OwnO ∷ ‵ (flft κo qo) ∷ ‵ (flft (a .κt) (a .qt)) ∷ locals E (held blank 2) [])) (runs C′ Λ E mir.t-3 (atRet E Post))
+    operands : (sh : Share) → Has (a .c) → Is D.the-row (a .d) (D′.lowered (a .d) ∷ []) → FitsImage (snapTo (a .t) imageSize) → Sq W (Open sh (‵ (flft (a .κd) (a .qd)) ∷ ‵ OwnO ∷ ‵ (flft κo qo) ∷ ‵ (flft (a .κt) (a .qt)) ∷ locals E (held blank 2) [])) (runs C′ Λ E mir.t-3 (atRet E Post))
     operands sh g gd gi =
         assigns ! (addr ! (from ! (hop ! (look ! 13 refl) (fld ! refl (stop !))))) (from ! (stop !)) (init ! 25 refl (tt, tt)) $
         assigns ! (addr ! (from ! (hop ! (look ! 13 refl) (fld ! refl (stop !))))) (from ! (stop !)) (init ! 27 refl (tt, tt)) $
@@ -150,7 +151,7 @@ module _ {M : Type 1} (𝓤 : URA M) (H : Heap 𝓤) (A : Atoms 𝓤) (W : Given
     reads-it : Sq W (‵ (flft (a .κd) (a .qd)) ∷ ‵ (ShrRef (named 1) (a .κd) D.the-row .own (x .1 .0) (vptr (a .bd) (a .od) ∷ [])) ∷ ‵ (ShrRef (named 0) (a .κc) C.the-row .own (x .0) (vptr (a .bc) (a .oc) ∷ [])) ∷ ‵ (flft (a .κc) (a .qc)) ∷ ‵ OwnO ∷ ‵ (flft κo qo) ∷ ‵ (flft (a .κt) (a .qt)) ∷ ‵ (ShrSlice (named 2) (a .κt) P.the-row .own (x .1 .1 .0) (table a ∷ [])) ∷ locals E (held blank 0) []) (runs C′ Λ E mir.t-1 (atRet E Post))
     reads-it =
         reads-passed ! mem′ run fm (known .read-device) (a .κd) (a .qd) (a .bd) (a .od) (a .γd) (a .d) (λ _. (and-then ! (load ! (from ! (stop !)) (look ! 11 refl)) (no-more !))) (λ gd. land ! (from ! (stop !)) (init ! 17 refl (LL.lawful D.the-type D′.the-laws 𝓤 H A W .typed (a .d) _ gd .0)) $ move ! (5 ∷ 6 ∷ []) $
-        snapshots-shared ! mem′ run fm (known .snapshot) (a .t) (a .bt) (a .ot) (a .κt) (a .qt) (a .γt) (λ _ _. (and-then ! (load ! (from ! (stop !)) (look ! 13 refl)) (no-more !))) (λ gi. land ! (from ! (stop !)) (init ! 19 refl (image-typed 𝓤 H A W (snapTo (a .t) 64) gi)) $
+        snapshots-shared ! mem′ run fm (known .snapshot) (a .t) (a .bt) (a .ot) (a .κt) (a .qt) (a .γt) (λ _ _. (and-then ! (load ! (from ! (stop !)) (look ! 13 refl)) (no-more !))) (λ gi. land ! (from ! (stop !)) (init ! 19 refl (image-typed 𝓤 H A W (snapTo (a .t) imageSize) gi)) $
         -- [t's token; t's; d's token; c's; its token; out's; its token; the locals]
         move ! (1 ∷ []) $ drop ! $ move ! (2 ∷ []) $ fsplit3 ! $ drop ! $ drop ! $ move ! (0 ∷ 3 ∷ 2 ∷ 4 ∷ 5 ∷ 1 ∷ []) $ looks-ctl ! tt (a .c) (a .bc) (a .oc) (λ sh g. operands sh g gd gi)))
 

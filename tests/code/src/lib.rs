@@ -1,0 +1,112 @@
+//! The controller's six calls as its library has them, and a controller of
+//! them that watches all memory lent to it.
+
+pub mod area;
+pub mod lists;
+pub mod machine;
+pub mod reach;
+pub mod steps;
+
+/// Bytes of the pending records' slots; entries of their order; queues; bytes
+/// of the service record and the machine check.
+pub const SLOT_BYTES: usize = 18_432;
+pub const ROOM: usize = 256;
+pub const QUEUES: usize = 9;
+pub const SINGLES_BYTES: usize = 146;
+
+// Bytes instead of bool: what the library leaves is looked at before it is trusted.
+
+#[repr(C)]
+#[derive(Clone, Debug, PartialEq, Eq)]
+pub struct Controller {
+    pub slots: [u8; SLOT_BYTES],
+    pub order: [u8; ROOM],
+    pub counts: [usize; QUEUES],
+    pub singles: [u8; SINGLES_BYTES],
+    pub ais: u8,
+}
+
+#[repr(C)]
+#[derive(Clone, Copy, Debug, PartialEq, Eq)]
+pub struct Device {
+    pub simm: u8,
+    pub nimm: u8,
+    pub apf: u8,
+}
+
+#[repr(C)]
+#[derive(Clone, Copy, Debug, PartialEq, Eq)]
+pub struct Place {
+    pub used: u8,
+    pub isc: u8,
+    pub maskable: u8,
+    pub swap: u8,
+    pub suppressible: u8,
+    pub masked: u8,
+}
+
+#[repr(C)]
+#[derive(Clone, Copy, Debug, PartialEq, Eq)]
+pub struct Answer {
+    pub code: u32,
+    pub count: u64,
+}
+
+extern "C" {
+    pub fn flic_make(
+        c: *mut Controller,
+        d: *mut Device,
+        t: *mut Place,
+        places: usize,
+        ais: bool,
+    ) -> Answer;
+
+    pub fn flic_set(
+        c: *mut Controller,
+        d: *mut Device,
+        t: *mut Place,
+        places: usize,
+        group: u32,
+        attr: u64,
+        payload: *const u8,
+        length: usize,
+    ) -> Answer;
+
+    pub fn flic_get(
+        c: *const Controller,
+        d: *const Device,
+        t: *const Place,
+        places: usize,
+        group: u32,
+        attr: u64,
+        out: *mut u8,
+        length: usize,
+    ) -> Answer;
+
+    pub fn flic_take(
+        c: *mut Controller,
+        subclasses: u8,
+        external: bool,
+        mcheck: bool,
+        out: *mut u8,
+        length: usize,
+    ) -> Answer;
+
+    pub fn flic_write_list(
+        c: *const Controller,
+        d: *const Device,
+        t: *const Place,
+        places: usize,
+        out: *mut u8,
+        length: usize,
+    ) -> Answer;
+
+    pub fn flic_play_list(
+        c: *mut Controller,
+        d: *mut Device,
+        t: *mut Place,
+        places: usize,
+        list: *const u8,
+        length: usize,
+    ) -> Answer;
+}

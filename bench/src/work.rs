@@ -36,6 +36,14 @@ pub fn goals() -> Vec<(&'static str, Option<f64>)> {
     ]
 }
 
+/// Thin, as every pointer that goes through `black_box` here: that passes its
+/// value through memory, and a slice's two words, written one by one, may be
+/// read back as one before they are there, which would cost more than a call.
+fn buffer(out: &mut [u8; RECORD]) -> &mut [u8] {
+    let out: &mut [u8; RECORD] = black_box(out);
+    out
+}
+
 fn record(isc: u32, number: u32) -> [u8; RECORD] {
     let mut record = [0; RECORD];
     record[8..12].copy_from_slice(&(0x0001_0000 | number).to_be_bytes());
@@ -61,8 +69,9 @@ fn enqueue_take<S: Subject + 'static>(pending: usize, eight: bool) -> Box<dyn Fn
     let mut out = [0; RECORD];
     Box::new(move |times| {
         for at in 0..times {
-            let given = s.set(ENQUEUE, 72, black_box(&records[at % 8]));
-            let taken = s.take(masks[at % 8], true, true, black_box(&mut out));
+            let record: &[u8; RECORD] = black_box(&records[at % 8]);
+            let given = s.set(ENQUEUE, 72, record);
+            let taken = s.take(masks[at % 8], true, true, buffer(&mut out));
             debug_assert_eq!((given, taken), ((0, 1), (0, 1)));
             black_box((given, taken));
         }
@@ -79,7 +88,7 @@ fn inject_take<S: Subject + 'static>(suppressed: bool) -> Box<dyn FnMut(usize)> 
     Box::new(move |times| {
         for _ in 0..times {
             let given = s.set(AIRQ_INJECT, black_box(5), &[]);
-            let taken = s.take(255, true, true, black_box(&mut out));
+            let taken = s.take(255, true, true, buffer(&mut out));
             debug_assert_eq!(given.1, u64::from(!suppressed));
             black_box((given, taken));
         }
@@ -91,7 +100,8 @@ fn clear_none<S: Subject + 'static>(pending: usize) -> Box<dyn FnMut(usize)> {
     fill(&mut s, pending, true);
     Box::new(move |times| {
         for _ in 0..times {
-            let answer = s.set(CLEAR_IO_IRQ, 4, black_box(&[0, 1, 2, 3]));
+            let word: &[u8; 4] = black_box(&[0, 1, 2, 3]);
+            let answer = s.set(CLEAR_IO_IRQ, 4, word);
             debug_assert_eq!(answer, (0, 0));
             black_box(answer);
         }

@@ -56,16 +56,15 @@ pub fn empty() -> [u8; PLACES]
     [0u8; PLACES]
 }
 
-// The image with this place at an index; an index past the end changes nothing.
-pub fn with_place(image: [u8; PLACES], i: u64, p: Place) -> [u8; PLACES]
-    ensures { λ r. ⌜ r ≡ set image i (packed p) ⌝ }
+// The place at an index of the image is this; an index past the end changes nothing.
+pub fn put_place(image: &mut [u8; PLACES], i: u64, p: Place)
+    ensures { λ _. ⌜ now (image .exit) ≡ set (now (image .entry)) i (packed p) ⌝ }
 {
-    let mut r = image;
+    let bytes: &mut [u8] = image;
     if i < PLACES as u64 {
         let at = i as usize;
-        r[at] = pack(p);
+        bytes[at] = pack(p);
     }
-    r
 }
 
 // The place at an index; past the end it is unused.

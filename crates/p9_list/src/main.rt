@@ -70,7 +70,8 @@ fn main() {
     );
     let single = set(&mut s, &mut o, &mut c, &mut g, registered, AISM, 0, &mode);
     let injected = set(&mut s, &mut o, &mut c, &mut g, single, AIRQ_INJECT, 5, b"");
-    let image = image::with_place(image::empty(), 5, injected.place);
+    let mut image = image::empty();
+    image::put_place(&mut image, 5, injected.place);
     let mut list = [0u8; 174];
     let written = write::write_list(&s, &o, &c, &g, true, injected.device, image, &mut list);
     if written.count == 174 {

@@ -2,7 +2,7 @@
 --     looks-up, snapshots                  the caller holds the table's memory, `row`, as it does while its borrow is open: it is lent for a lifetime of the call and comes back
 --     looks-up-shared, snapshots-shared    the caller passes its own `&[Place]` on: it holds the token of the slice's lifetime and what the slice owns (Gives.antt's `Shared`), and keeps both
 --     registers, masks, restores           row ys ∷ Γ  ⟶  row of the new table ∷ Γ
-use Rattle.table.proofs.Walk.{refl, ℕ, _<_, _^_, Bool, [], _∷_, List, length, getD, set, URA, fullShare, w64, Val, vunit, vint, vbool, SProp, ent, sep, snd∗, exE, id⊢, GName, Lft, Share, Fml, ftrue, fsep, flft, Memory, Routine, Heap, Env, Calls, Loops, Atoms, sem, Fun, Given, Item, Seq, runs, lands, ‵, _⊛_, _$_, _∵_, !, qed, move, join, fjoin, frame, done, Opds, FmC, Is, Boolean, bool-makes, uint-makes, u64, sliceVal, Room, row, owned, nothing, tripleOf, Contract, Triple, ensured, lasts}
+use Rattle.table.proofs.Walk.{refl, ℕ, _<_, _^_, Bool, [], _∷_, List, length, getD, set, URA, fullShare, w64, Val, vunit, vint, vbool, SProp, ent, sep, snd∗, exE, id⊢, GName, Lft, Share, ftrue, flft, Memory, Routine, Heap, Env, Calls, Loops, Atoms, sem, Fun, Given, Item, Seq, runs, lands, ‵, _⊛_, _$_, _∵_, !, qed, move, join, fjoin, frame, done, Opds, FmC, Is, Boolean, bool-makes, uint-makes, u64, sliceVal, Room, row, owned, nothing, tripleOf, Contract, Triple, ensured, lasts}
 use types.Kit as Kit
 use mir.Syntax.{Place as Where, Body as Code, Opd as Operand, seq, call}
 use denote.Struct.Laws as LL
@@ -16,7 +16,7 @@ use Rattle.adapters.proofs.Place.Laws as T′
 use Rattle.table.specs.Table.{snapTo, restored}
 use Rattle.table.proofs.Places.{R, low, Fits, FitsId, makes, makes-id}
 use Rattle.table.proofs.Images.{Image, low-image, FitsImage, image-tells, image-makes}
-use Rattle.table.proofs.Gives.{at-list, Gives, Shared, Lent, gives-row, gives-shared, changes-row}
+use Rattle.table.proofs.Gives.{at-list, no-others, Gives, Shared, Lent, gives-row, gives-shared, changes-row}
 use Rattle.table.proofs.look_up as look-up
 use Rattle.table.proofs.look_up.Symbol.{name as #look-up}
 use Rattle.table.proofs.snapshot as snapshot
@@ -28,13 +28,6 @@ use Rattle.table.proofs.mask.Symbol.{name as #mask}
 use Rattle.table.proofs.restore as restore
 use Rattle.table.proofs.restore.Symbol.{name as #restore}
 use Rattle.image.specs.Image.{imageSize}
-
--- two parameters that a callee cannot change leave nothing
-abbrev Two : Type 0
-Two = Unit {0} × (Unit {0} × Unit {0})
-
-abbrev nothings : Two → Fml
-nothings z = fsep ftrue (fsep ftrue ftrue)
 
 module _ {M : Type 1} (𝓤 : URA M) (H : Heap 𝓤) (A : Atoms 𝓤) (mem′ : Memory → SProp 𝓤) (run : Routine → Fun 𝓤) where
   abbrev pub LookUp : Contract 𝓤
@@ -156,7 +149,7 @@ module _ {M : Type 1} {𝓤 : URA M} {H : Heap 𝓤} {A : Atoms 𝓤} {K : Type 
       → Seq K W (‵ (row R fullShare ys b o) ∷ Γ) (runs C Λ E (seq (call #register xs d) rest) p)
   registers t mem′ run fm known ys id a b o room g ga os k =
       changes-row R ys b o t fm (Register 𝓤 H A mem′ run) known room (λ ν δ. to-register 𝓤 H A mem′ run W b o ys (ν ∷ []) fullShare δ id a) (λ ν δ. goes-register 𝓤 H A mem′ run W b o ys (ν ∷ []) fullShare δ id a g ga)
-      (set ys (id .0) a) Two nothings (λ ν δ w. id⊢ 𝓤 _) (λ ν δ. os) k
+      (set ys (id .0) a) no-others (λ ν δ w. id⊢ 𝓤 _) (λ ν δ. os) k
 
   pub masks : K → (mem′ : Memory → SProp 𝓤) (run : Routine → Fun 𝓤) → FmC 𝓤 H (W .laws) C → Triple 𝓤 (C #mask) (Mask 𝓤 H A mem′ run)
       → (ys : List Place) (id : AdapterId) (a : Bool) (b o : ℕ) → Room R (length ys) → FitsId id
@@ -165,7 +158,7 @@ module _ {M : Type 1} {𝓤 : URA M} {H : Heap 𝓤} {A : Atoms 𝓤} {K : Type 
       → Seq K W (‵ (row R fullShare ys b o) ∷ Γ) (runs C Λ E (seq (call #mask xs d) rest) p)
   masks t mem′ run fm known ys id a b o room g os k =
       changes-row R ys b o t fm (Mask 𝓤 H A mem′ run) known room (λ ν δ. to-mask 𝓤 H A mem′ run W b o ys (ν ∷ []) fullShare δ id a) (λ ν δ. goes-mask 𝓤 H A mem′ run W b o ys (ν ∷ []) fullShare δ id a g)
-      (set ys (id .0) (withMasked a (getD ys (id .0) unused))) Two nothings (λ ν δ w. id⊢ 𝓤 _) (λ ν δ. os) k
+      (set ys (id .0) (withMasked a (getD ys (id .0) unused))) no-others (λ ν δ w. id⊢ 𝓤 _) (λ ν δ. os) k
 
   pub restores : K → (mem′ : Memory → SProp 𝓤) (run : Routine → Fun 𝓤) → FmC 𝓤 H (W .laws) C → Triple 𝓤 (C #restore) (Restore 𝓤 H A mem′ run)
       → (ys : List Place) (n : ℕ) (all : List ℕ) (b o : ℕ) → Room R (length ys) → n < 2 ^ 64 → FitsImage all
@@ -174,4 +167,4 @@ module _ {M : Type 1} {𝓤 : URA M} {H : Heap 𝓤} {A : Atoms 𝓤} {K : Type 
       → Seq K W (‵ (row R fullShare ys b o) ∷ Γ) (runs C Λ E (seq (call #restore xs d) rest) p)
   restores t mem′ run fm known ys n all b o room g ga os k =
       changes-row R ys b o t fm (Restore 𝓤 H A mem′ run) known room (λ ν δ. to-restore 𝓤 H A mem′ run W b o ys (ν ∷ []) fullShare δ n all) (λ ν δ. goes-restore 𝓤 H A mem′ run W b o ys (ν ∷ []) fullShare δ n all g ga)
-      (restored ys all n) Two nothings (λ ν δ w. id⊢ 𝓤 _) (λ ν δ. os) k
+      (restored ys all n) no-others (λ ν δ w. id⊢ 𝓤 _) (λ ν δ. os) k

@@ -1,8 +1,8 @@
--- An image by value as a walk needs it, and the calls of `image` as single steps of a walk. Each takes and returns plain values, so the caller's context stays.
---     takes-empty     `empty()`                 ⟶  the result is 64 zeros
---     puts-place      `with_place(l, i, p)`     ⟶  the result is l with the byte of p at i
---     takes-place     `place_at(l, i)`          ⟶  the result is the place of byte i
-use Rattle.table.proofs.Walk.{refl, sym, subst, ℕ, _<_, _^_, [], _∷_, List, getD, set, URA, w8, w64, Val, vint, SProp, ent, emp, snd∗, exE, id⊢, Memory, Routine, Heap, Env, Calls, Loops, Atoms, sem, Fun, Given, Item, Seq, runs, lands, _$_, _∵_, !, qed, join, fjoin, frame, done, Opds, no-more, FmC, RattleType, Is, uint-vals, uint-tells, uint-makes, uint-lawful, u8, u64, only, owned, nothing, tripleOf, Contract, Triple, ensured, lasts}
+-- An image as a walk needs it, and the calls of `image` as single steps of a walk. The first two take and return plain values, so the caller's context stays.
+--     takes-empty     `empty()`             ⟶  the result is 64 zeros
+--     takes-place     `place_at(l, i)`      ⟶  the result is the place of byte i
+--     puts-place      `put_place(&mut local, i, p)`, where the caller has a local that holds the image l:  cell l ∷ Γ  ⟶  cell of l with the byte of p at i ∷ Γ
+use Rattle.table.proofs.Walk.{refl, sym, subst, ℕ, _<_, _^_, [], _∷_, List, getD, set, URA, fullShare, w8, w64, Val, vunit, vint, vptr, SProp, ent, sep, emp, snd∗, exE, id⊢, GName, flft, fat, Memory, Routine, Heap, Env, Calls, Loops, Atoms, sem, Fun, Given, Item, Seq, runs, lands, ‵, _$_, _∵_, !, qed, move, join, fjoin, frame, done, Opds, no-more, FmC, RattleType, Is, uint-vals, uint-tells, uint-makes, uint-lawful, u8, u64, only, owned, nothing, tripleOf, Contract, Triple, ensured, lasts}
 use types.Kit as Kit
 use mir.Syntax.{Place as Where, Body as Code, Opd as Operand, seq, call, tyArray, tyInt, Ty}
 use mir.Val.{hasTy, WT}
@@ -19,12 +19,12 @@ use Rattle.adapters.proofs.Place.Laws as P′
 use Rattle.image.specs.Image.{imageSize, packed, unpacked}
 use Rattle.image.proofs.empty as empty
 use Rattle.image.proofs.empty.Symbol.{name as #empty}
-use Rattle.image.proofs.with_place as with-place
-use Rattle.image.proofs.with_place.Symbol.{name as #with-place}
+use Rattle.image.proofs.put_place as put-place
+use Rattle.image.proofs.put_place.Symbol.{name as #put-place}
 use Rattle.image.proofs.place_at as place-at
 use Rattle.image.proofs.place_at.Symbol.{name as #place-at}
 use Rattle.table.proofs.Places.{R, low, Fits, makes}
-use Rattle.table.proofs.Gives.{gives}
+use Rattle.table.proofs.Gives.{at-list, no-others, gives, LentCell, changes-cell}
 
 -- the type of an image, its machine value, and that it is one
 abbrev pub Image : RattleType
@@ -60,20 +60,21 @@ module _ {M : Type 1} (𝓤 : URA M) (H : Heap 𝓤) (A : Atoms 𝓤) (mem′ : 
   abbrev pub Empty : Contract 𝓤
   Empty = tripleOf 𝓤 H A empty.signature (empty.spec 𝓤 H A mem′ run)
 
-  abbrev pub WithPlace : Contract 𝓤
-  WithPlace = tripleOf 𝓤 H A with-place.signature (with-place.spec 𝓤 H A mem′ run)
+  abbrev pub PutPlace : Contract 𝓤
+  PutPlace = tripleOf 𝓤 H A put-place.signature (put-place.spec 𝓤 H A mem′ run)
 
   abbrev pub PlaceAt : Contract 𝓤
   PlaceAt = tripleOf 𝓤 H A place-at.signature (place-at.spec 𝓤 H A mem′ run)
 
   module _ (W : Given 𝓤 H A) (l : List ℕ) (i : ℕ) (a : Place) where
-    abbrev to-with : WithPlace .Ghost
-    to-with = ((tt, tt, tt, (l, (i, (a, tt))), (low-image l ∷ [], (vint w64 i ∷ [], (low a ∷ [], tt)))), tt)
+    module _ (b ν : ℕ) (δ : GName) where
+      abbrev to-put : PutPlace .Ghost
+      to-put = (((ν ∷ [], tt), (fullShare, tt), tt, (at-list b 0 δ l, (i, (a, tt))), (vptr b 0 ∷ [], (vint w64 i ∷ [], (low a ∷ [], tt)))), tt)
 
-    goes-with : FitsImage l → i < 2 ^ 64 → Fits a → ent 𝓤 (emp 𝓤) (WithPlace .pre to-with)
-    goes-with gl gi ga =
-        qed W [] ∵ nothing ! $ owned ! R (Is R) (makes 𝓤 H A W) a _ ga $ fjoin ! $ owned ! u64 (Is u64) (uint-makes 𝓤 H A W w64) i _ (refl, gi) $ fjoin ! $
-        owned ! Image (Is Image) (image-makes 𝓤 H A W) l _ gl $ fjoin ! $ nothing ! $ join ! $ frame ! $ done !
+      goes-put : i < 2 ^ 64 → Fits a → ent 𝓤 (sep 𝓤 (A .lft (ν ∷ []) fullShare) (sem 𝓤 H A (LentCell Image l b 0 (ν ∷ []) δ))) (PutPlace .pre to-put)
+      goes-put gi ga =
+          qed W (‵ (flft (ν ∷ []) fullShare) ∷ ‵ (LentCell Image l b 0 (ν ∷ []) δ) ∷ []) ∵ nothing ! $ move ! (1 ∷ 0 ∷ []) $ join ! $ nothing ! $ owned ! R (Is R) (makes 𝓤 H A W) a _ ga $ fjoin ! $
+          owned ! u64 (Is u64) (uint-makes 𝓤 H A W w64) i _ (refl, gi) $ fjoin ! $ move ! (2 ∷ 0 ∷ []) $ fjoin ! $ move ! (1 ∷ 0 ∷ []) $ join ! $ frame ! $ done !
 
     abbrev to-place : PlaceAt .Ghost
     to-place = ((tt, tt, tt, (l, (i, tt)), (low-image l ∷ [], (vint w64 i ∷ [], tt))), tt)
@@ -94,18 +95,6 @@ module _ {M : Type 1} {𝓤 : URA M} {H : Heap 𝓤} {A : Atoms 𝓤} {K : Type 
         told = λ r. exE 𝓤 _ (λ ws. snd∗ 𝓤 (sem 𝓤 H A (lasts empty.ended tt tt ws)) _);
       }) (λ i. no-more t) k
 
-  pub puts-place : K → (mem′ : Memory → SProp 𝓤) (run : Routine → Fun 𝓤) → FmC 𝓤 H (W .laws) C → Triple 𝓤 (C #with-place) (WithPlace 𝓤 H A mem′ run)
-      → {xs : List Operand} (l : List ℕ) (i : ℕ) (a : Place) → FitsImage l → i < 2 ^ 64 → Fits a → ((j : Item 𝓤) → Opds K W (j ∷ Γ) E xs (low-image l ∷ vint w64 i ∷ low a ∷ []))
-      → (FitsImage (set l i (packed a)) → Seq K W Γ (lands C Λ E d (low-image (set l i (packed a))) rest p)) → Seq K W Γ (runs C Λ E (seq (call #with-place xs d) rest) p)
-  puts-place t mem′ run fm known {xs} l i a gl gi ga os k =
-      gives t fm (WithPlace 𝓤 H A mem′ run) known (to-with 𝓤 H A mem′ run W l i a) (goes-with 𝓤 H A mem′ run W l i a gl gi ga) Image (λ l. low-image l ∷ []) (set l i (packed a))
-      (record {
-        tells = image-tells;
-        Said = ensured 𝓤 H A with-place.ended (with-place.clauses 𝓤 H A mem′ run) tt (l, (i, (a, tt))) tt;
-        shape = λ w. id⊢ 𝓤 _;
-        told = λ r. exE 𝓤 _ (λ ws. snd∗ 𝓤 (sem 𝓤 H A (lasts with-place.ended tt (l, (i, (a, tt))) ws)) _);
-      }) os k
-
   pub takes-place : K → (mem′ : Memory → SProp 𝓤) (run : Routine → Fun 𝓤) → FmC 𝓤 H (W .laws) C → Triple 𝓤 (C #place-at) (PlaceAt 𝓤 H A mem′ run)
       → {xs : List Operand} (l : List ℕ) (i : ℕ) → FitsImage l → i < 2 ^ 64 → ((j : Item 𝓤) → Opds K W (j ∷ Γ) E xs (low-image l ∷ vint w64 i ∷ []))
       → (Fits (unpacked (getD l i 0)) → Seq K W Γ (lands C Λ E d (low (unpacked (getD l i 0))) rest p)) → Seq K W Γ (runs C Λ E (seq (call #place-at xs d) rest) p)
@@ -117,3 +106,11 @@ module _ {M : Type 1} {𝓤 : URA M} {H : Heap 𝓤} {A : Atoms 𝓤} {K : Type 
         shape = λ w. id⊢ 𝓤 _;
         told = λ r. exE 𝓤 _ (λ ws. snd∗ 𝓤 (sem 𝓤 H A (lasts place-at.ended tt (l, (i, tt)) ws)) _);
       }) os k
+
+  pub puts-place : K → (mem′ : Memory → SProp 𝓤) (run : Routine → Fun 𝓤) → FmC 𝓤 H (W .laws) C → Triple 𝓤 (C #put-place) (PutPlace 𝓤 H A mem′ run)
+      → {xs : List Operand} (l : List ℕ) (i : ℕ) (a : Place) (b : ℕ) → FitsImage l → i < 2 ^ 64 → Fits a → ((j k : Item 𝓤) → Opds K W (j ∷ k ∷ Γ) E xs (vptr b 0 ∷ vint w64 i ∷ low a ∷ []))
+      → (FitsImage (set l i (packed a)) → Seq K W (‵ (fat fullShare imageTy b 0 (low-image (set l i (packed a)))) ∷ Γ) (lands C Λ E d vunit rest p))
+      → Seq K W (‵ (fat fullShare imageTy b 0 (low-image l)) ∷ Γ) (runs C Λ E (seq (call #put-place xs d) rest) p)
+  puts-place t mem′ run fm known {xs} l i a b gl gi ga os k = owned t Image (Is Image) (image-makes 𝓤 H A W) l _ gl $ move t (1 ∷ 0 ∷ []) $
+      changes-cell Image l b 0 t fm (PutPlace 𝓤 H A mem′ run) known (λ m. low-image m ∷ []) image-tells (low-image l ∷ [])
+      (to-put 𝓤 H A mem′ run W l i a b) (λ ν δ. goes-put 𝓤 H A mem′ run W l i a b ν δ gi ga) (set l i (packed a)) no-others (λ ν δ w. id⊢ 𝓤 _) (λ ν δ. os) k

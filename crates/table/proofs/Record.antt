@@ -1,13 +1,14 @@
 -- The calls of `read_device` and of `store_device`, each as one step of a walk that holds the record's memory, its cell.
 --     reads-device  the cell at h ∷ Γ  ⟶  the same, the result is h.        stores-device   the cell at h ∷ Γ  ⟶  the cell at m ∷ Γ
-use Rattle.table.proofs.Walk.{_≡_, refl, sym, ap, subst, ℕ, [], _∷_, List, URA, fullShare, named, Val, vunit, vptr, SProp, ent, sep, snd∗, exE, id⊢, feq, GName, ftrue, flft, fres, Memory, Routine, Heap, Env, Calls, Loops, Atoms, sem, Fun, fact, Given, Item, Seq, runs, lands, ‵, raw, some, later, _⊛_, _$_, _∵_, !, qed, move, drop, use1, use2, split, join, pick, rewrite, fsplit, fjoin, feqL, frame, await, done, Opds, FmC, RattleType, Is, shows, cellAt, RefT, ShrRef, MutRef, only, owned, peeks, heard, nothing, spelt, tripleOf, Contract, Triple, calls-at, ensured, lasts}
+use Rattle.table.proofs.Walk.{_≡_, refl, sym, ap, subst, ℕ, [], _∷_, List, URA, fullShare, named, Val, vunit, vptr, SProp, ent, sep, snd∗, exE, id⊢, GName, ftrue, flft, Memory, Routine, Heap, Env, Calls, Loops, Atoms, sem, Fun, fact, Given, Item, Seq, runs, lands, ‵, raw, some, later, _⊛_, _$_, _∵_, !, qed, move, drop, use1, use2, split, join, pick, rewrite, fjoin, frame, await, done, Opds, FmC, RattleType, Is, shows, cellAt, RefT, ShrRef, only, owned, peeks, heard, nothing, spelt, tripleOf, Contract, Triple, calls-at, ensured, lasts}
 use types.Kit as Kit
 use mir.Syntax.{Place, Body as Code, Opd as Operand, seq, call}
 use denote.Struct.Laws as LL
 use Rattle.adapters.specs.declared.Device.{Device}
 use Rattle.adapters.proofs.Device as D
 use Rattle.adapters.proofs.Device.Laws as D′
-use Rattle.table.proofs.Rows.{shares-cell, cell-shared-back, lends-cell, cell-back}
+use Rattle.table.proofs.Rows.{shares-cell, cell-shared-back}
+use Rattle.table.proofs.Gives.{no-other, LentCell, changes-cell}
 use Rattle.table.proofs.read_device as read-device
 use Rattle.table.proofs.read_device.Symbol.{name as #read-device}
 use Rattle.table.proofs.store_device as store-device
@@ -39,8 +40,8 @@ module _ {M : Type 1} (𝓤 : URA M) (H : Heap 𝓤) (A : Atoms 𝓤) (mem′ : 
     abbrev to-set : StoreDevice .Ghost
     to-set = (((ν ∷ [], tt), (fullShare, tt), tt, (at-rec b o δ h, (m, tt)), (vptr b o ∷ [], (D′.lowered m ∷ [], tt))), tt)
 
-    goes-set : Is R m (D′.lowered m ∷ []) → ent 𝓤 (sep 𝓤 (A .lft (ν ∷ []) fullShare) (sem 𝓤 H A (MutRef (named 0) (ν ∷ []) R .own (at-rec b o δ h) (vptr b o ∷ [])))) (StoreDevice .pre to-set)
-    goes-set g = qed W (‵ (flft (ν ∷ []) fullShare) ∷ ‵ (MutRef (named 0) (ν ∷ []) R .own (at-rec b o δ h) (vptr b o ∷ [])) ∷ []) ∵ nothing ! $ move ! (1 ∷ 0 ∷ []) $ join ! $
+    goes-set : Is R m (D′.lowered m ∷ []) → ent 𝓤 (sep 𝓤 (A .lft (ν ∷ []) fullShare) (sem 𝓤 H A (LentCell R h b o (ν ∷ []) δ))) (StoreDevice .pre to-set)
+    goes-set g = qed W (‵ (flft (ν ∷ []) fullShare) ∷ ‵ (LentCell R h b o (ν ∷ []) δ) ∷ []) ∵ nothing ! $ move ! (1 ∷ 0 ∷ []) $ join ! $
         nothing ! $ owned ! R (Is R) (LL.makes D.the-type D′.the-plain 𝓤 H A) m _ g $ fjoin ! $ move ! (2 ∷ 0 ∷ []) $ fjoin ! $ move ! (1 ∷ 0 ∷ []) $ join ! $ frame ! $ done !
 
 module _ {M : Type 1} {𝓤 : URA M} {H : Heap 𝓤} {A : Atoms 𝓤} {K : Type 0} {W : Given 𝓤 H A} {Γ : List (Item 𝓤)} {E : Env 𝓤 H} {C : Calls 𝓤 H} {Λ : Loops 𝓤 H} {p : Kit.Post 𝓤 H} {d : Place} {rest : Code} {xs : List Operand} where
@@ -61,14 +62,6 @@ module _ {M : Type 1} {𝓤 : URA M} {H : Heap 𝓤} {A : Atoms 𝓤} {K : Type 
       → ((i j : Item 𝓤) → Opds K W (i ∷ j ∷ Γ) E xs (vptr b o ∷ D′.lowered m ∷ []))
       → Seq K W (‵ (cellAt fullShare (R .mir) (D′.lowered m ∷ []) b o) ∷ Γ) (lands C Λ E d vunit rest p)
       → Seq K W (‵ (cellAt fullShare (R .mir) (D′.lowered h ∷ []) b o) ∷ Γ) (runs C Λ E (seq (call #store-device xs d) rest) p)
-  stores-device t mem′ run fm known h m b o gh gm os k = owned t R (Is R) (LL.makes D.the-type D′.the-plain 𝓤 H A) h _ gh $ move t (1 ∷ 0 ∷ []) $ lends-cell t tt R h (D′.lowered h ∷ []) b o (λ ν δ.
-      use2 W (raw (StoreDevice 𝓤 H A mem′ run .pre (to-set 𝓤 H A mem′ run W b o h m ν δ))) (goes-set 𝓤 H A mem′ run W b o h m ν δ gm) $
-      calls-at t fm (StoreDevice 𝓤 H A mem′ run) known (to-set 𝓤 H A mem′ run W b o h m ν δ) (os _ _) (λ w.
-      use1 W (later (some (λ (r : Unit {0}). ((‵ (flft (ν ∷ []) fullShare) ⊛ ‵ ftrue) ⊛ ‵ (feq (List Val) (w ∷ []) (vunit ∷ []))) ⊛ some (λ (y : Device × (Unit {0} × Unit {0})). ‵ (lasts store-device.ended (ν ∷ [], tt) (at-rec b o δ h, (m, tt)) y) ⊛ raw (fact 𝓤 (y .0 ≡ m)))))) (id⊢ 𝓤 _) $ await t tt $ pick t (λ r.
-      split t $ move t (1 ∷ []) $ pick t (λ y. split t $ move t (1 ∷ []) $ heard t (y .0 ≡ m) (λ e. fsplit t $ rewrite t 0 (λ (a : Device). ‵ (fres δ (R .coded .code a))) e refl $
-      -- [the last value; true; the token and the result; the lender's part; Γ]
-      move t (2 ∷ []) $ split t $ split t $ move t (0 ∷ 5 ∷ 3 ∷ []) $
-      cell-back t tt R b o ν δ m (λ vs. spelt t R (Is R) (shows 𝓤 H A R) (LL.vals D.the-type D′.the-laws) (LL.tells D.the-type D′.the-laws) fullShare m vs b o $ move t (1 ∷ []) $ drop t $
-      -- [the cell; true; the result; true; Γ]
-      move t (2 ∷ []) $ feqL t (λ u. move t (1 ∷ []) $ drop t $ move t (1 ∷ []) $ drop t $
-      subst (λ (v : Val). Seq K W (‵ (cellAt fullShare (R .mir) (D′.lowered m ∷ []) b o) ∷ Γ) (lands C Λ E d v rest p)) (sym (ap only u)) k)))))))
+  stores-device t mem′ run fm known h m b o gh gm os k = owned t R (Is R) (LL.makes D.the-type D′.the-plain 𝓤 H A) h _ gh $ move t (1 ∷ 0 ∷ []) $
+      changes-cell R h b o t fm (StoreDevice 𝓤 H A mem′ run) known (LL.vals D.the-type D′.the-laws) (LL.tells D.the-type D′.the-laws) (D′.lowered h ∷ [])
+      (to-set 𝓤 H A mem′ run W b o h m) (λ ν δ. goes-set 𝓤 H A mem′ run W b o h m ν δ gm) m no-other (λ ν δ w. id⊢ 𝓤 _) (λ ν δ. os) (λ is. k)

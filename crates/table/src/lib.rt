@@ -65,7 +65,7 @@ pub fn snapshot(t: &[Place]) -> [u8; PLACES]
     let mut i = 0;
     while i < IDS {
         let p = look_up(t, AdapterId(i));
-        all = image::with_place(all, i, p);
+        image::put_place(&mut all, i, p);
         i += 1;
     }
     all

@@ -35,6 +35,17 @@ pub fn fresh_device() -> Device
     }
 }
 
+// The device record anew, field by field: bytes that were just written one by one are read so.
+pub fn by_fields(d: Device) -> Device
+    ensures { λ r. ⌜ r ≡ d ⌝ }
+{
+    Device {
+        simm: d.simm,
+        nimm: d.nimm,
+        apf: d.apf,
+    }
+}
+
 pub fn free_place() -> Place
     ensures { λ r. ⌜ placeOf r ≡ free ⌝ }
     ensures canonical { λ r. ⌜ Canonical r ⌝ }

@@ -1,10 +1,11 @@
 -- From an outcome of the rules to the answer that tells it. Assumes nothing.
 use Prim.Native.Nat.{ℕ}
-use mathlib.Core.Path.{_≡_, ap, sym, _∙_}
+use mathlib.Core.Path.{_≡_, ap, sym, _∙_, subst}
 use mathlib.Core.List.{List, _++_}
 use lib.ListN.{length, drop}
 use Rattle.rules.specs.State.{Limits, Pending, State, withPending}
 use Rattle.rules.specs.Outcome.{Outcome, refuse, accept, result}
+use Rattle.rules.specs.Requests.{setRequest, request}
 use Rattle.answers.specs.declared.Answer.{Answer}
 use Rattle.answers.specs.Answers.{Answers}
 
@@ -26,3 +27,10 @@ module _ (L : Limits) (s : State) (b : List ℕ) (o : Outcome) (a : Answer) (n :
 
 pub not-refused : {A : Type 0} (a : Answer) (n : ℕ) → a ≡ record { code = 0; count = n } → (a .code ≡ 0 → ⊥) → A
 not-refused a n e h = absurd (h (ap (λ (x : Answer). x .code) e))
+
+-- an answer to the set request of one group number is one to that of an equal number; and so is an equal answer
+pub as-answer : (L : Limits) (s : State) (attr : ℕ) (b : List ℕ) (t : State) (k : ℕ) {g : ℕ} {a a′ : Answer} → g ≡ k → a′ ≡ a
+    → Answers L s b (request L s (setRequest k) attr b) a t b → Answers L s b (request L s (setRequest g) attr b) a′ t b
+as-answer L s attr b t k {g} {a} {a′} e ea h =
+    subst (λ (x : ℕ). Answers L s b (request L s (setRequest x) attr b) a′ t b) (sym e)
+    (subst (λ (x : Answer). Answers L s b (request L s (setRequest k) attr b) x t b) (sym ea) h)

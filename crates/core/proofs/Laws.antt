@@ -1,12 +1,12 @@
 -- From answers about pending records to replies, and the cases of an injection.
 use Prim.Native.Nat.{ℕ, zero, suc, _≤_, _<_}
 use mathlib.Core.Path.{_≡_, refl, ap, sym, _∙_, subst}
-use mathlib.Core.Bool.{Bool, true, false, _&&_, _||_}
+use mathlib.Core.Bool.{Bool, true, false, _&&_, _||_, true≢false}
 use mathlib.Core.List.{List, []}
 use lib.ListN.{getD, set}
 use lib.Seq.{set-getD}
-use lib.Dec.{ltb}
-use borrow.Author.Tests.{lt-ltb, le-ltb}
+use lib.Dec.{ltb, eqb}
+use borrow.Author.Tests.{lt-ltb, le-ltb, ne-eqb, eqb-true}
 use Rattle.rules.specs.Bytes.{choose}
 use Rattle.rules.specs.State as rules
 use Rattle.rules.specs.State.{Limits, Pending, State, withPending, addIo, queued}
@@ -26,6 +26,7 @@ use Rattle.values.specs.declared.Reply.{Reply}
 use Rattle.values.specs.States.{aboutOf, stateWith, Replies}
 use Rattle.values.proofs.Laws.{unheld, as-it-was as held-values}
 use Rattle.words.specs.declared.Subclass.{Subclass}
+use Rattle.core.specs.Cases.{onRecords}
 
 -- the state with other pending records, as the values stand for it
 with-values : (s : State) (id : ℕ) (device : Device) (place : Place) (p : Pending) → s .device ≡ deviceOf device
@@ -45,14 +46,6 @@ module _ (places room : ℕ) (ais : Bool) (device : Device) (place : Place) (id 
       → getD (s .adapters) id rules.free ≡ placeOf place → Answers L s b (o L s) a (stateWith s id (placeOf place) p₁ (deviceOf device′)) b)
       → Replies places room ais device place id b o p₀ p₁ r
   replies er f = subst (Replies places room ais device place id b o p₀ p₁) (sym er) f
-
-  -- an answer that leaves the values alone
-  pub from-answer : {a : Answer} {r : Reply} → r ≡ record { answer = a; device = device; place = place }
-      → ((L : Limits) (s : State) → L .room ≡ room → s .pending ≡ p₀ → Answers L s b (o L s) a (withPending p₁ s) b)
-      → Replies places room ais device place id b o p₀ p₁ r
-  from-answer {a} er f =
-      replies er (λ L s e1 e2 e3 e4 e5 e6. f L s e2 e4
-      ∙ (λ i. record { code = a .code; count = a .count; next = with-values s id device place p₁ e5 e6 i; buffer = b }))
 
 -- ---- the cases of an injection
 module _ (i : Subclass) where
@@ -152,6 +145,15 @@ no-get (suc (suc (suc (suc (suc (suc (suc (suc (suc (suc zero)))))))))) h1 h11 =
 no-get (suc (suc (suc (suc (suc (suc (suc (suc (suc (suc (suc zero))))))))))) h1 h11 = absurd (h11 refl)
 no-get (suc (suc (suc (suc (suc (suc (suc (suc (suc (suc (suc (suc n)))))))))))) h1 h11 = refl
 
+-- ---- which set requests are about pending records alone
+pub records-eight : (g : ℕ) → onRecords g ≡ true → (g ≡ 2 → ⊥) → (g ≡ 3 → ⊥) → g ≡ 8
+unfolding onRecords
+records-eight g e h2 h3 = eqb-true g 8 ((λ i. sym (ne-eqb g 2 h2) i || (sym (ne-eqb g 3 h3) i || eqb g 8)) ∙ e)
+
+pub not-records : (g : ℕ) → onRecords g ≡ false → (g ≡ 2 → ⊥) × (g ≡ 3 → ⊥) × (g ≡ 8 → ⊥)
+unfolding onRecords
+not-records g e = (λ z. true≢false (sym (ap onRecords z) ∙ e), λ z. true≢false (sym (ap onRecords z) ∙ e), λ z. true≢false (sym (ap onRecords z) ∙ e))
+
 -- a reply to the set request of one group number is one to that of an equal number; an answer to a get likewise
 pub as-set : {places room : ℕ} {ais : Bool} (device : Device) (place : Place) {b : List ℕ} {p₀ p₁ : Pending} (r : Reply) (attr k : ℕ) {g : ℕ} → g ≡ k
     → Replies places room ais device place (aboutOf k attr b) b (λ L s. request L s (setRequest k) attr b) p₀ p₁ r
@@ -166,10 +168,3 @@ as-get L s attr b c {a} k e h = subst (λ (x : ℕ). Answers L s b (request L s 
 -- a refused reply's answer is a refusal
 pub code-of : {a : Answer} {d : Device} {p : Place} {r : Reply} → r ≡ record { answer = a; device = d; place = p } → (r .answer .code ≡ 0 → ⊥) → a .code ≡ 0 → ⊥
 code-of er n e = n (ap (λ (x : Reply). x .answer .code) er ∙ e)
-
-pub place-of : {a : Answer} {d : Device} {p : Place} {r : Reply} → r ≡ record { answer = a; device = d; place = p } → Canonical p → Canonical (r .place)
-place-of er h = subst (λ (x : Reply). Canonical (x .place)) (sym er) h
-
--- a group number is one number
-pub other-group {ℓ} : {A : Type ℓ} {g m n : ℕ} → g ≡ m → g ≡ n → (m ≡ n → ⊥) → A
-other-group e f d = absurd (d (sym e ∙ f))

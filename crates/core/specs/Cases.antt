@@ -1,4 +1,7 @@
--- 01, group 10 and 'Codes and the order of checks': the code and count for each case of an injection.
+-- Which set requests are about pending records alone; and, 01, group 10 and 'Codes and the order of checks', the code and count for each case of an injection.
+use Prim.Native.Nat.{ℕ}
+use mathlib.Core.Bool.{Bool, _||_}
+use lib.Dec.{eqb}
 use Rattle.rules.specs.Outcome.{EINVAL, EBUSY}
 use Rattle.answers.specs.declared.Answer.{Answer}
 use Rattle.adapters.specs.declared.Injection.{Injection}
@@ -9,3 +12,7 @@ answerFor NoAdapter = record { code = EINVAL; count = 0 }
 answerFor Dropped = record { code = 0; count = 0 }
 answerFor Full = record { code = EBUSY; count = 0 }
 answerFor (Appended isc) = record { code = 0; count = 1 }
+
+-- whether a set request is about pending records alone: ENQUEUE, CLEAR_IRQS, CLEAR_IO_IRQ
+unfoldable pub onRecords : ℕ → Bool
+onRecords group = eqb group 2 || (eqb group 3 || eqb group 8)

@@ -1,10 +1,10 @@
 -- From what the inner functions promise to what the public calls promise.
-use Prim.Native.Nat.{ℕ, _≤_}
+use Prim.Native.Nat.{ℕ, _-_, _^_, _≤_, _<_}
 use mathlib.Core.Path.{_≡_, refl, ap, sym, _∙_, subst}
 use mathlib.Core.Bool.{Bool, true, false}
 use mathlib.Core.List.{List, map}
 use native.Mathlib.Omega.{arith}
-use lib.ListN.{length, getD, set, take, replicate, length-take, length-replicate, length-map, List·getD-map}
+use lib.ListN.{length, getD, set, take, replicate, length-set, length-take, length-replicate, length-map, List·getD-map}
 use lib.Seq.{set-getD}
 use lib.Dec.{eqb}
 use borrow.Author.Tests.{eq-eqb, ne-eqb, eqb-true, eqb-false}
@@ -28,23 +28,62 @@ use Rattle.image_places.proofs.Laws.{places-take}
 use Rattle.play.specs.Play.{stateOf as imageState}
 use Rattle.table.specs.Table.{snapTo, restored}
 use Rattle.table.proofs.Tables.{snap-all, restored-none, restored-all, restored-whole}
-use Rattle.values.specs.States.{aboutOf, stateWith}
+use Rattle.values.specs.States.{aboutOf, stateWith, Within, changeOf, enters, masks, keeps}
 use Rattle.flic.specs.declared.Controller.{Controller}
 use Rattle.flic.specs.declared.Decision.{Decision}
 use Rattle.flic.specs.declared.Started.{Started}
 use Rattle.flic.specs.Surface.{stateOf, Valid, Steps, Made, Requested, Played}
-use Rattle.flic.specs.Inner.{Began, playedState, Replayed, Wrote, placeAfter, Decided, Got}
-use Rattle.flic.proofs.Tables.{map-set, map-replicate, put-and-change}
+use Rattle.flic.specs.Inner.{Began, playedState, Replayed, Wrote, Recorded, ifGroup, placeAfter, Decided, Got}
+use Rattle.table.proofs.Places.{set-past}
+use Rattle.flic.proofs.Tables.{map-set, map-replicate}
 
 canonical-unused : Canonical unused
 canonical-unused = record { unusedOne = λ e. refl; iscSmall = omega arith; maskedMaskable = λ e. e }
 
--- ---- the table after a place is entered at an id and its masked field is set
-abbrev pub tableAfter : List Place → ℕ → Decision → List Place
-tableAfter t id r = set (set t id (r .entered)) id (withMasked (r .masked) (getD (set t id (r .entered)) id unused))
+-- ---- the place of a request's adapter: as it was, and with the change that its group makes
+pub place-same : (group : ℕ) (p : Place) → choose (eqb group 6) p (choose (eqb group 7) (withMasked (p .masked) p) p) ≡ p
+unfolding choose
+place-same group p = go (eqb group 6) (eqb group 7)
+  where
+    go : (x y : Bool) → choose x p (choose y (withMasked (p .masked) p) p) ≡ p
+    go true y = refl
+    go false true = refl
+    go false false = refl
 
-table-is : (t : List Place) (id : ℕ) (r : Decision) → tableAfter t id r ≡ set t id (placeAfter r)
-table-is t id r = put-and-change (withMasked (r .masked)) t id (r .entered) unused
+pub place-changed : (group : ℕ) (p q : Place) → Within (changeOf group) p q → choose (eqb group 6) q (choose (eqb group 7) (withMasked (q .masked) p) p) ≡ q
+unfolding changeOf choose
+place-changed group p q = go (eqb group 6) (eqb group 7)
+  where
+    go : (x y : Bool) → Within (choose x enters (choose y masks keeps)) p q → choose x q (choose y (withMasked (q .masked) p) p) ≡ q
+    go true y w = refl
+    go false true w = sym w
+    go false false w = sym w
+
+-- ---- the table after a place is entered at an id, and the masked field of one at an id is set
+abbrev pub enteredIn : List Place → Decision → List Place
+enteredIn t r = set t (r .enters .0) (r .entered)
+
+abbrev pub tableAfter : List Place → Decision → List Place
+tableAfter t r = set (enteredIn t r) (r .masks .0) (withMasked (r .masked) (getD (enteredIn t r) (r .masks .0) unused))
+
+-- it is the table with the place of the request's adapter changed
+table-is : (t : List Place) (group id : ℕ) (r : Decision) → length t < 2 ^ 64 → (r .enters .0 ≡ ifGroup group 6 id) × (r .masks .0 ≡ ifGroup group 7 id)
+    → tableAfter t r ≡ set t id (placeAfter group (getD t id unused) r)
+unfolding ifGroup choose
+table-is t group id r few ids = go (eqb group 6) (eqb group 7) (λ x y. sym (eqb-true group 6 x) ∙ eqb-true group 7 y) ids
+  where
+    not-entered : r .enters .0 ≡ 2 ^ 64 - 1 → t ≡ enteredIn t r
+    not-entered e = set-past t (r .enters .0) (r .entered) (omega (arith, few, e))
+
+    not-masked : r .masks .0 ≡ 2 ^ 64 - 1 → enteredIn t r ≡ tableAfter t r
+    not-masked e = set-past (enteredIn t r) (r .masks .0) _ (omega (arith, few, e, length-set t (r .enters .0) (r .entered)))
+
+    go : (x y : Bool) → (x ≡ true → y ≡ true → _≡_ {A = ℕ} 6 7) → (r .enters .0 ≡ choose x id (2 ^ 64 - 1)) × (r .masks .0 ≡ choose y id (2 ^ 64 - 1))
+        → tableAfter t r ≡ set t id (choose x (r .entered) (choose y (withMasked (r .masked) (getD t id unused)) (getD t id unused)))
+    go true true n e = let z : ⊥ = omega (arith, n refl refl) in absurd z
+    go true false n e = sym (not-masked (e .1)) ∙ ap (λ (k : ℕ). set t k (r .entered)) (e .0)
+    go false true n e = λ i. set ((sym (not-entered (e .0))) i) (e .1 i) (withMasked (r .masked) (getD ((sym (not-entered (e .0))) i) (e .1 i) unused))
+    go false false n e = sym (not-masked (e .1)) ∙ sym (not-entered (e .0)) ∙ sym (set-getD t id unused)
 
 module _ (c c′ : Controller) (d : Device) (t : List Place) where
   pub may-decide : (id : ℕ) → (length t ≡ paperLimits .places → Valid c d t)
@@ -91,36 +130,63 @@ by-length {A = A} n f g = go (eqb n (paperLimits .places)) refl
 pub not-zero : {a : Answer} → a ≡ record { code = 14; count = 0 } → a .code ≡ 0 → ⊥
 not-zero e z = let y : _≡_ {A = ℕ} 14 0 = sym (ap (λ (x : Answer). x .code) e) ∙ z in omega (arith, y)
 
+-- a set request about pending records alone: the device record and the table are as they were
+module _ (group attr : ℕ) (c c′ : Controller) (d : Device) (t : List Place) (b : List ℕ) (r : Answer) (a : c′ .ais ≡ c .ais) (f : Recorded (length t) group attr c c′ b r) where
+  record-steps : Steps (setAttr group attr) c c′ d d t t b b r
+  unfolding step outcome result stateOf
+  record-steps =
+      by-length (length t)
+      (λ e. ap (result paperLimits (stateOf c d t) b) (right-table (length t) 14 _ e) ∙ f .answer e (stateOf c d t) refl
+      ∙ (λ i. record { code = r .code; count = r .count; next = record { ais = (sym a) i; adapters = map placeOf t; pending = pendingOf (c′ .order) (c′ .counts) (c′ .slots) (c′ .singles); device = deviceOf d }; buffer = b }))
+      (λ e. let w = f .wrong e in
+      ap (result paperLimits (stateOf c d t) b) (wrong-table (length t) 14 _ e)
+      ∙ (λ i. record { code = (sym w) i .code; count = (sym w) i .count; next = stateOf ((sym (f .kept (not-zero w))) i) d t; buffer = b }))
+
+  pub record-promises : (length t ≡ paperLimits .places → Valid c d t) → Requested (setAttr group attr) c c′ d d t t b b r
+  record-promises h =
+      record {
+        steps = record-steps;
+        kept = λ n. (f .kept n, refl, refl, refl);
+        valid = λ e. record { ready = f .held e; places = h e .places; sound = next-sound (setAttr group attr) c c′ d d t t b b r (h e) record-steps };
+      }
+
+-- any other
 module _ (group attr : ℕ) (c c′ : Controller) (d : Device) (t : List Place) (b : List ℕ) (r : Decision) where
   abbrev id : ℕ
   id = aboutOf group attr b
 
-  module _ (a : c′ .ais ≡ c .ais) (f : Decided (length t) group attr c c′ d (getD t id unused) b r) where
-    -- nothing was changed
-    same : (r .answer .code ≡ 0 → ⊥) → (c′ ≡ c) × (r .device ≡ d) × (tableAfter t id r ≡ t) × (b ≡ b)
-    same n = let k = f .kept n in (k .0, k .1, table-is t id r ∙ ap (set t id) (k .2) ∙ set-getD t id unused, refl)
+  abbrev place : Place
+  place = placeAfter group (getD t id unused) r
 
-    set-steps : Steps (setAttr group attr) c c′ d (r .device) t (tableAfter t id r) b b (r .answer)
+  module _ (a : c′ .ais ≡ c .ais) (few : length t < 2 ^ 64) (f : Decided (length t) group attr id c c′ d (getD t id unused) b r) where
+    changed : tableAfter t r ≡ set t id place
+    changed = table-is t group id r few (f .ids)
+
+    -- nothing was changed
+    same : (r .answer .code ≡ 0 → ⊥) → (c′ ≡ c) × (r .device ≡ d) × (tableAfter t r ≡ t) × (b ≡ b)
+    same n = let k = f .kept n in (k .0, k .1, changed ∙ ap (set t id) (k .2) ∙ set-getD t id unused, refl)
+
+    set-steps : Steps (setAttr group attr) c c′ d (r .device) t (tableAfter t r) b b (r .answer)
     unfolding step outcome result stateOf
     set-steps =
         by-length (length t)
         (λ e. ap (result paperLimits (stateOf c d t) b) (right-table (length t) 14 _ e)
         ∙ f .answer e paperLimits (stateOf c d t) refl refl refl refl refl (seen-place c c′ d t id)
-        ∙ (λ i. record { code = r .answer .code; count = r .answer .count; next = (next-state c c′ d t id (r .device) (placeAfter r) a ∙ ap (stateOf c′ (r .device)) (sym (table-is t id r))) i; buffer = b }))
+        ∙ (λ i. record { code = r .answer .code; count = r .answer .count; next = (next-state c c′ d t id (r .device) place a ∙ ap (stateOf c′ (r .device)) (sym changed)) i; buffer = b }))
         (λ e. let w = f .wrong e in let k = same (not-zero w) in
         ap (result paperLimits (stateOf c d t) b) (wrong-table (length t) 14 _ e)
         ∙ (λ i. record { code = (sym w) i .code; count = (sym w) i .count; next = stateOf ((sym (k .0)) i) ((sym (k .1)) i) ((sym (k .2)) i); buffer = b }))
 
     pub set-promises : (length t ≡ paperLimits .places → Valid c d t)
-        → Requested (setAttr group attr) c c′ d (r .device) t (tableAfter t id r) b b (r .answer)
+        → Requested (setAttr group attr) c c′ d (r .device) t (tableAfter t r) b b (r .answer)
     set-promises h =
         record {
           steps = set-steps;
           kept = same;
           valid = λ e. record {
             ready = f .held e .0;
-            places = subst (All Canonical) (sym (table-is t id r)) (all-set Canonical t id (placeAfter r) (h e .places) (f .held e .1));
-            sound = next-sound (setAttr group attr) c c′ d (r .device) t (tableAfter t id r) b b (r .answer) (h e) set-steps;
+            places = subst (All Canonical) (sym changed) (all-set Canonical t id place (h e .places) (f .held e .1));
+            sound = next-sound (setAttr group attr) c c′ d (r .device) t (tableAfter t r) b b (r .answer) (h e) set-steps;
           };
         }
 

@@ -1,8 +1,8 @@
--- Laws of lists for tables: a map, and an element that is put and then changed.
+-- Laws of maps of lists.
 use Prim.Native.Nat.{ℕ, zero, suc}
 use mathlib.Core.Path.{_≡_, refl, ap}
 use mathlib.Core.List.{List, [], _∷_, map}
-use lib.ListN.{getD, set, replicate}
+use lib.ListN.{set, replicate}
 
 pub map-set {ℓ} : {A B : Type ℓ} (f : A → B) (t : List A) (i : ℕ) (x : A) → map f (set t i x) ≡ set (map f t) i (f x)
 map-set f [] i x = refl
@@ -12,9 +12,3 @@ map-set f (y ∷ t) (suc i) x = ap (λ l. f y ∷ l) (map-set f t i x)
 pub map-replicate {ℓ} : {A B : Type ℓ} (f : A → B) (n : ℕ) (x : A) → map f (replicate n x) ≡ replicate n (f x)
 map-replicate f zero x = refl
 map-replicate f (suc n) x = ap (λ l. f x ∷ l) (map-replicate f n x)
-
--- one that is not there is not changed either
-pub put-and-change {ℓ} : {A : Type ℓ} (f : A → A) (t : List A) (i : ℕ) (x d : A) → set (set t i x) i (f (getD (set t i x) i d)) ≡ set t i (f x)
-put-and-change f [] i x d = refl
-put-and-change f (y ∷ t) zero x d = refl
-put-and-change f (y ∷ t) (suc i) x d = ap (λ l. y ∷ l) (put-and-change f t i x d)

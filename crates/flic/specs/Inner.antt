@@ -1,12 +1,12 @@
 -- What the inner functions of the public calls promise, on the controller's arrays and with one adapter place by value.
-use Prim.Native.Nat.{ℕ}
+use Prim.Native.Nat.{ℕ, _-_, _^_}
 use mathlib.Core.Path.{_≡_}
 use mathlib.Core.Bool.{Bool, false}
 use mathlib.Core.List.{List, map}
 use lib.ListN.{take, replicate}
 use lib.Dec.{eqb}
 use Rattle.rules.specs.Bytes.{choose}
-use Rattle.rules.specs.State.{State, nothing, paperLimits}
+use Rattle.rules.specs.State.{State, nothing, withPending, paperLimits}
 use Rattle.rules.specs.Requests.{setRequest, getRequest, request}
 use Rattle.rules.specs.Outcome.{refuse}
 use Rattle.rules.specs.MoveList.{writes, plays}
@@ -72,19 +72,33 @@ pub record Wrote (table : ℕ) (c : Controller) (d : Device) (image b b′ : Lis
       → Answers paperLimits s b (writes s b) r s b′
   pub kept : (r .code ≡ 0 → ⊥) → b′ ≡ b
 
--- the adapter place after a set request
-abbrev pub placeAfter : Decision → Place
-placeAfter r = withMasked (r .masked) (r .entered)
+-- A set request about pending records alone, with a table of so many places.
+pub record Recorded (table group attr : ℕ) (c c′ : Controller) (b : List ℕ) (r : Answer) : Type 0 where
+  pub wrong : (table ≡ paperLimits .places → ⊥) → r ≡ record { code = 14; count = 0 }
+  pub answer : table ≡ paperLimits .places → (s : State) → s .pending ≡ pendingOf (c .order) (c .counts) (c .slots) (c .singles)
+      → Answers paperLimits s b (request paperLimits s (setRequest group) attr b) r
+      (withPending (pendingOf (c′ .order) (c′ .counts) (c′ .slots) (c′ .singles)) s) b
+  pub kept : (r .code ≡ 0 → ⊥) → c′ ≡ c
+  pub held : table ≡ paperLimits .places → Ready c′
 
--- A set request with a table of so many places, on the place p of the adapter that it is about.
-pub record Decided (table group attr : ℕ) (c c′ : Controller) (d : Device) (p : Place) (b : List ℕ) (r : Decision) : Type 0 where
+-- the id where a request is of a group, else one that no table has
+unfoldable pub ifGroup : (group wanted id : ℕ) → ℕ
+ifGroup group wanted id = choose (eqb group wanted) id (2 ^ 64 - 1)
+
+-- the adapter place after any other set request: REGISTER enters it, MODIFY sets its masked field
+abbrev pub placeAfter : ℕ → Place → Decision → Place
+placeAfter group p r = choose (eqb group 6) (r .entered) (choose (eqb group 7) (withMasked (r .masked) p) p)
+
+-- Any other set request with a table of so many places, on the place p of the adapter that it is about, at an id.
+pub record Decided (table group attr id : ℕ) (c c′ : Controller) (d : Device) (p : Place) (b : List ℕ) (r : Decision) : Type 0 where
   pub wrong : (table ≡ paperLimits .places → ⊥) → r .answer ≡ record { code = 14; count = 0 }
+  pub ids : (r .enters .0 ≡ ifGroup group 6 id) × (r .masks .0 ≡ ifGroup group 7 id)
   pub answer : table ≡ paperLimits .places
       → Replies (paperLimits .places) (paperLimits .room) (c .ais) d p (aboutOf group attr b) b (λ L s. request L s (setRequest group) attr b)
       (pendingOf (c .order) (c .counts) (c .slots) (c .singles)) (pendingOf (c′ .order) (c′ .counts) (c′ .slots) (c′ .singles))
-      (record { answer = r .answer; device = r .device; place = placeAfter r })
-  pub kept : (r .answer .code ≡ 0 → ⊥) → (c′ ≡ c) × (r .device ≡ d) × (placeAfter r ≡ p)
-  pub held : table ≡ paperLimits .places → Ready c′ × Canonical (placeAfter r)
+      (record { answer = r .answer; device = r .device; place = placeAfter group p r })
+  pub kept : (r .answer .code ≡ 0 → ⊥) → (c′ ≡ c) × (r .device ≡ d) × (placeAfter group p r ≡ p)
+  pub held : table ≡ paperLimits .places → Ready c′ × Canonical (placeAfter group p r)
 
 -- A get request with a table of so many places.
 pub record Got (table group attr : ℕ) (c : Controller) (d : Device) (b b′ : List ℕ) (r : Answer) : Type 0 where

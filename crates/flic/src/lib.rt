@@ -1,18 +1,21 @@
 // The public calls: what a caller may use is this crate, with the records `adapters::Device` and `adapters::Place` that he lends and the `answers::Answer`
 // that he gets. `Decision` and `Started` pass between its own functions.
 ghost use mathlib.Core.Path.{_≡_};
-ghost use mathlib.Core.Bool.{Bool, true};
+ghost use mathlib.Core.Bool.{Bool, true, false};
 ghost use Rattle.rules.specs.State.{paperLimits};
 ghost use Rattle.rules.specs.Machine.{setAttr, getAttr, writeList};
-ghost use Rattle.adapters.specs.Values.{Canonical, withMasked};
+ghost use Rattle.adapters.specs.Values.{Canonical};
+ghost use Rattle.core.specs.Cases.{onRecords};
 ghost use Rattle.queues.specs.Queues.{Held};
 ghost use Rattle.flic.specs.Surface.{Ready, Premise, Made, Requested, Taken, Played};
-ghost use Rattle.flic.specs.Inner.{controller, Began, Replayed, Wrote, Decided, Got};
+ghost use Rattle.flic.specs.Inner.{controller, Began, Replayed, Wrote, Recorded, ifGroup, Decided, Got};
 use adapters::Device;
 use adapters::Place;
 use answers::Answer;
 use answers::EFAULT;
 use words::ADAPTER_MODIFY;
+use words::ADAPTER_REGISTER;
+use words::AdapterId;
 use words::PLACES;
 use words::QUEUES;
 use words::ROOM;
@@ -29,24 +32,25 @@ pub struct Controller {
     pub ais: bool,
 }
 
-// What a set request comes to: the place of its adapter is `entered`, masked as `masked` says.
+// What a set request comes to: `entered` is the place at the id `enters`, and the place at the id `masks` is masked as `masked` says. An id that no
+// table has stands for nowhere.
 pub struct Decision {
     pub answer: Answer,
     pub device: Device,
+    pub enters: AdapterId,
     pub entered: Place,
+    pub masks: AdapterId,
     pub masked: bool,
 }
 
-// The place that is entered in the table: of a MODIFY the one before it, since the table's own function sets the masked field.
-fn entered(group: u32, before: Place, after: Place) -> Place
-    ensures { λ r. ⌜ ((group ≡ 7 → before .used ≡ true → after ≡ withMasked (after .masked) before) → withMasked (after .masked) r ≡ after) ⌝ }
+// The id where the request is of this group, else one that no table has.
+fn if_group(group: u32, wanted: u32, id: AdapterId) -> AdapterId
+    ensures { λ r. ⌜ r .0 ≡ ifGroup group wanted (id .0) ⌝ }
 {
-    if group == ADAPTER_MODIFY {
-        if before.used {
-            return before;
-        }
+    if group == wanted {
+        return id;
     }
-    after
+    AdapterId(18446744073709551615)
 }
 
 // What a call that makes a controller fresh comes to: the first `restored` places of its table are those of the image.
@@ -159,7 +163,28 @@ fn write_from(
     write::write_list(slots, order, counts, singles, ais, device, image, out)
 }
 
-// A set request on the controller's arrays, the device record and the adapter's place by value.
+// A set request about pending records alone, on the controller's arrays.
+fn on_records(
+    slots: &mut [u8; SLOT_BYTES],
+    order: &mut [u8; ROOM],
+    counts: &mut [usize; QUEUES],
+    singles: &mut [u8; SINGLES_BYTES],
+    table: usize,
+    group: u32,
+    attr: u64,
+    payload: &[u8],
+) -> Answer
+    requires { ⌜ (table ≡ paperLimits .places → Held (now order) (now counts)) × (onRecords group ≡ true) ⌝ }
+    ensures { λ r. ⌜ ((ais : Bool) → Recorded table group attr (controller (now (slots .entry)) (now (order .entry)) (now (counts .entry)) (now (singles .entry)) ais) (controller (now (slots .exit)) (now (order .exit)) (now (counts .exit)) (now (singles .exit)) ais) (now (payload .entry)) r) ⌝ }
+{
+    if table != PLACES { // checked before anything else
+        return answers::refuse(EFAULT);
+    }
+    core::set_records(slots, order, counts, singles, ROOM, group, attr, payload)
+}
+
+// Any other set request, on the controller's arrays, the device record and the adapter's place by value. REGISTER enters a place in the table, MODIFY sets
+// its masked field, and no other group changes the table.
 fn decide(
     slots: &mut [u8; SLOT_BYTES],
     order: &mut [u8; ROOM],
@@ -168,27 +193,31 @@ fn decide(
     table: usize,
     ais: bool,
     device: Device,
+    id: AdapterId,
     place: Place,
     group: u32,
     attr: u64,
     payload: &[u8],
 ) -> Decision
-    requires { ⌜ (table ≡ paperLimits .places → Held (now order) (now counts) × Canonical place) ⌝ }
-    ensures { λ r. ⌜ Decided table group attr (controller (now (slots .entry)) (now (order .entry)) (now (counts .entry)) (now (singles .entry)) ais) (controller (now (slots .exit)) (now (order .exit)) (now (counts .exit)) (now (singles .exit)) ais) device place (now (payload .entry)) r ⌝ }
+    requires { ⌜ (table ≡ paperLimits .places → Held (now order) (now counts) × Canonical place) × (onRecords group ≡ false) ⌝ }
+    ensures { λ r. ⌜ Decided table group attr (id .0) (controller (now (slots .entry)) (now (order .entry)) (now (counts .entry)) (now (singles .entry)) ais) (controller (now (slots .exit)) (now (order .exit)) (now (counts .exit)) (now (singles .exit)) ais) device place (now (payload .entry)) r ⌝ }
 {
+    let enters = if_group(group, ADAPTER_REGISTER, id);
+    let masks = if_group(group, ADAPTER_MODIFY, id);
     if table != PLACES { // checked before anything else
         return Decision {
             answer: answers::refuse(EFAULT),
             device,
+            enters,
             entered: place,
+            masks,
             masked: place.masked,
         };
     }
-    let r = core::set_request(
+    let r = core::set_others(
         slots,
         order,
         counts,
-        singles,
         PLACES as u64,
         ROOM,
         ais,
@@ -204,7 +233,9 @@ fn decide(
     Decision {
         answer,
         device: modes,
-        entered: entered(group, place, after),
+        enters,
+        entered: after,
+        masks,
         masked: after.masked,
     }
 }
@@ -297,6 +328,18 @@ pub extern "C" fn flic_set(
     requires { ⌜ Premise (now c) (now d) (now t) ⌝ }
     ensures { λ r. ⌜ Requested (setAttr group attr) (now (c .entry)) (now (c .exit)) (now (d .entry)) (now (d .exit)) (now (t .entry)) (now (t .exit)) (now (payload .entry)) (now (payload .entry)) r ⌝ }
 {
+    if core::on_records(group) {
+        return on_records(
+            &mut c.slots,
+            &mut c.order,
+            &mut c.counts,
+            &mut c.singles,
+            t.len(),
+            group,
+            attr,
+            payload,
+        );
+    }
     let id = values::about(group, attr, payload);
     let place = table::look_up(t, id);
     let device = table::read_device(d);
@@ -308,14 +351,15 @@ pub extern "C" fn flic_set(
         t.len(),
         c.ais,
         device,
+        id,
         place,
         group,
         attr,
         payload,
     );
     table::store_device(d, r.device);
-    table::register(t, id, r.entered);
-    table::mask(t, id, r.masked);
+    table::register(t, r.enters, r.entered);
+    table::mask(t, r.masks, r.masked);
     r.answer
 }
 

@@ -76,27 +76,33 @@ module _ (end at : ℕ) (e : Slot) (es : List Slot) (h : formed end at (e ∷ es
   unfolding formed
   here-at = eqb-true (e .at) at (left (eqb (e .at) at) _ h)
 
+  here-movable : movable (e .group) ≡ true
+  unfolding formed
+  here-movable = left (movable (e .group)) _ (right (isZero (e .zeroWord)) _ (right (eqb (e .at) at) _ h))
+
 reaches : (end at : ℕ) (es : List Slot) → formed end at es ≡ true → at ≤ end
 unfolding formed
 reaches end at [] h = let e = eqb-true at end h in omega arith
 reaches end at (e ∷ es) h = let r = reaches end (at + e .size) es (rest-formed end at e es h) in omega arith
 
 within : (end at n place : ℕ) (b : List ℕ) → place < n → formed end at (slotsIn n b) ≡ true
-    → slotIn (drop (slotBytes * place) b) .at + slotIn (drop (slotBytes * place) b) .size ≤ end
+    → (slotIn (drop (slotBytes * place) b) .at + slotIn (drop (slotBytes * place) b) .size ≤ end) × (movable (slotIn (drop (slotBytes * place) b) .group) ≡ true)
 unfolding slotsIn
 within end at zero place b p h = absurd (not-suc-le-zero p)
 within end at (suc n) zero b p h =
     let r = reaches end (at + slotIn b .size) (slotsIn n (drop slotBytes b)) (rest-formed end at (slotIn b) (slotsIn n (drop slotBytes b)) h) in
     let e = here-at end at (slotIn b) (slotsIn n (drop slotBytes b)) h in
-    omega arith
+    (omega arith, here-movable end at (slotIn b) (slotsIn n (drop slotBytes b)) h)
 within end at (suc n) (suc place) b p h =
     let e : slotBytes * suc place ≡ slotBytes + slotBytes * place = omega arith in
     rw (e, ← drop-drop (slotBytes * place) slotBytes b)
     (within end (at + slotIn b .size) n place (drop slotBytes b) (le-of-suc-le-suc p)
     (rest-formed end at (slotIn b) (slotsIn n (drop slotBytes b)) h))
 
-pub payload-within : (b : List ℕ) (place : ℕ) → Formed b → place < countIn b → slotAt place b .at + slotAt place b .size ≤ length b
-payload-within b place h p =
+-- the payload of a table entry lies within the list, and its group may be moved
+pub slot-within : (b : List ℕ) (place : ℕ) → Formed b → place < countIn b
+    → (slotAt place b .at + slotAt place b .size ≤ length b) × (movable (slotAt place b .group) ≡ true)
+slot-within b place h p =
     rw (← drop-drop (slotBytes * place) headerBytes b) (within (length b) (payloadsAt (countIn b)) (countIn b) place (drop headerBytes b) p (h .slots))
 
 -- ---- the checks of a list that are left after the first, the second, ..

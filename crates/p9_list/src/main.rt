@@ -1,5 +1,6 @@
 // P9 by the requests themselves, on the covered core: with AIS, adapter 5 of subclass 3 (maskable, no swap, suppressible) is registered, SINGLE is set for its
 // subclass, and it injects once. Writes the move list of that controller to standard output, if it has the paper's length.
+ghost use mathlib.Core.Path.{_≡_};
 ghost use Rattle.queues.specs.Queues.{Held};
 ghost use Rattle.adapters.specs.Values.{Canonical};
 use libc::STDOUT_FILENO;
@@ -13,27 +14,25 @@ use words::ROOM;
 use words::SINGLES_BYTES;
 use words::SLOT_BYTES;
 
-// A set request, on the device record and the adapter place that the call before it left.
+// A set request that is not about records alone, on the device record and the adapter place that the call before it left.
 fn set(
     slots: &mut [u8; SLOT_BYTES],
     order: &mut [u8; ROOM],
     counts: &mut [usize; QUEUES],
-    singles: &mut [u8; SINGLES_BYTES],
     last: Reply,
     group: u32,
     attr: u64,
     payload: &[u8],
 ) -> Reply
-    requires { ⌜ Held (now order) (now counts) × Canonical (last .place) ⌝ }
+    requires { ⌜ Held (now order) (now counts) × Canonical (last .place) × (group ≡ 2 → ⊥) × (group ≡ 3 → ⊥) × (group ≡ 8 → ⊥) ⌝ }
     ensures { λ r. ⌜ Held (now (order .exit)) (now (counts .exit)) × Canonical (r .place) ⌝ }
 {
     let device = last.device;
     let place = last.place;
-    core::set_request(
+    core::set_others(
         slots,
         order,
         counts,
-        singles,
         PLACES as u64,
         ROOM,
         true,
@@ -62,14 +61,13 @@ fn main() {
         &mut s,
         &mut o,
         &mut c,
-        &mut g,
         fresh,
         ADAPTER_REGISTER,
         0,
         &register,
     );
-    let single = set(&mut s, &mut o, &mut c, &mut g, registered, AISM, 0, &mode);
-    let injected = set(&mut s, &mut o, &mut c, &mut g, single, AIRQ_INJECT, 5, b"");
+    let single = set(&mut s, &mut o, &mut c, registered, AISM, 0, &mode);
+    let injected = set(&mut s, &mut o, &mut c, single, AIRQ_INJECT, 5, b"");
     let mut image = image::empty();
     image::put_place(&mut image, 5, injected.place);
     let mut list = [0u8; 174];

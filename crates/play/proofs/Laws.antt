@@ -34,16 +34,17 @@ use Rattle.image.specs.Image.{imageSize}
 
 -- a reply about one place of an image, as an answer about the state that the image stands for
 pub as-state : (places room : ℕ) (ais : Bool) (device : Device) (place : Place) (id : ℕ) (image image′ b : List ℕ) (o : Limits → State → Outcome) (p₀ p₁ : Pending) (r : Reply)
-    → Replies places room ais device place id b o p₀ p₁ r → placeOf place ≡ getD (take places (placesOf image)) id rules.free
+    (a : Answer) (d : Device) → Replies places room ais device place id b o p₀ p₁ r → a ≡ r .answer → d ≡ r .device
+    → placeOf place ≡ getD (take places (placesOf image)) id rules.free
     → take places (placesOf image′) ≡ set (take places (placesOf image)) id (placeOf (r .place))
-    → Answers (limitsOf places room) (stateOf ais places image p₀ device) b (o (limitsOf places room) (stateOf ais places image p₀ device)) (r .answer)
-    (stateOf ais places image′ p₁ (r .device)) b
-as-state places room ais device place id image image′ b o p₀ p₁ r h f g =
+    → Answers (limitsOf places room) (stateOf ais places image p₀ device) b (o (limitsOf places room) (stateOf ais places image p₀ device)) a
+    (stateOf ais places image′ p₁ d) b
+as-state places room ais device place id image image′ b o p₀ p₁ r a d h ea ed f g =
     h (limitsOf places room) (stateOf ais places image p₀ device) refl refl refl refl refl (sym f)
     ∙ (λ i. record {
-      code = r .answer .code;
-      count = r .answer .count;
-      next = record { ais = ais; adapters = (sym g) i; pending = p₁; device = deviceOf (r .device) };
+      code = (sym ea) i .code;
+      count = (sym ea) i .count;
+      next = record { ais = ais; adapters = (sym g) i; pending = p₁; device = deviceOf ((sym ed) i) };
       buffer = b;
     })
 

@@ -1,5 +1,6 @@
 // Inner crate: playing a move list on lent memory, with the adapter places in an image of bytes.
 ghost use mathlib.Core.Path.{_≡_};
+ghost use mathlib.Core.Bool.{true};
 ghost use Prim.Native.Nat.{ℕ, _≤_, _<_};
 ghost use lib.ListN.{take, replicate};
 ghost use lib.Dec.{eqb};
@@ -7,7 +8,7 @@ ghost use Rattle.rules.specs.Bytes.{choose, part};
 ghost use Rattle.rules.specs.State.{Limits, State};
 ghost use Rattle.rules.specs.Outcome.{refuse};
 ghost use Rattle.rules.specs.Requests.{setRequest, request};
-ghost use Rattle.rules.specs.MoveList.{countIn, entriesIn, applies, plays};
+ghost use Rattle.rules.specs.MoveList.{countIn, movable, entriesIn, applies, plays};
 ghost use Rattle.answers.specs.Answers.{Answers};
 ghost use Rattle.queues.specs.Queues.{Held};
 ghost use Rattle.records.specs.Memory.{pendingOf};
@@ -19,14 +20,20 @@ ghost use Rattle.image.specs.Image.{imageSize};
 ghost use Rattle.slots.specs.Slots.{slotCount};
 use adapters::Device;
 use answers::Answer;
-use values::Reply;
+use words::ENQUEUE;
 use words::PLACES;
 use words::QUEUES;
 use words::ROOM;
 use words::SINGLES_BYTES;
 use words::SLOT_BYTES;
 
-// A set request, on the place of the image that it is about.
+// What came of a request: its answer; or of a list's requests: code 0 and their number, or the code and place of the refused one. And the device record.
+struct Ran {
+    answer: Answer,
+    device: Device,
+}
+
+// A set request of a list, on the place of the image that it is about, by the functions that answer a single request of its group.
 fn apply(
     slots: &mut [u8; SLOT_BYTES],
     order: &mut [u8; ROOM],
@@ -40,29 +47,28 @@ fn apply(
     group: u32,
     attr: u64,
     payload: &[u8],
-) -> Reply
-    requires { ⌜ (room ≤ slotCount) × (places ≤ imageSize) × Held (now order) (now counts) × AllCanonical (now image) ⌝ }
+) -> Ran
+    requires { ⌜ (room ≤ slotCount) × (places ≤ imageSize) × Held (now order) (now counts) × AllCanonical (now image) × (movable group ≡ true) ⌝ }
     ensures answer { λ r. ⌜ Answers (limitsOf places room) (stateOf ais places (now (image .entry)) (pendingOf (now (order .entry)) (now (counts .entry)) (now (slots .entry)) (now (singles .entry))) device) (now (payload .entry)) (request (limitsOf places room) (stateOf ais places (now (image .entry)) (pendingOf (now (order .entry)) (now (counts .entry)) (now (slots .entry)) (now (singles .entry))) device) (setRequest group) attr (now (payload .entry))) (r .answer) (stateOf ais places (now (image .exit)) (pendingOf (now (order .exit)) (now (counts .exit)) (now (slots .exit)) (now (singles .exit))) (r .device)) (now (payload .entry)) ⌝ }
     ensures held { λ _. ⌜ Held (now (order .exit)) (now (counts .exit)) × AllCanonical (now (image .exit)) ⌝ }
 {
+    if group == ENQUEUE {
+        let a = records::enqueue_irqs(slots, order, counts, singles, room, attr, payload);
+        return Ran {
+            answer: answers::by_fields(a),
+            device,
+        };
+    }
     let id = values::about(group, attr, payload);
     let place = image_places::look_up(image, places, id);
-    let r = core::set_request(
-        slots,
-        order,
-        counts,
-        singles,
-        places,
-        room,
-        ais,
-        device,
-        place,
-        group,
-        attr,
-        payload,
-    );
+    let r = values::set_values(places, ais, device, place, group, attr, payload);
+    let answer = r.answer;
+    let modes = r.device;
     image_places::put(image, places, id, r.place);
-    r
+    Ran {
+        answer: answers::by_fields(answer),
+        device: adapters::by_fields(modes),
+    }
 }
 
 // The request of the table entry at a place.
@@ -78,7 +84,7 @@ fn apply_at(
     image: &mut [u8; PLACES],
     list: &[u8],
     place: usize,
-) -> Reply
+) -> Ran
     requires { ⌜ (room ≤ slotCount) × (places ≤ imageSize) × Held (now order) (now counts) × AllCanonical (now image) × Formed (now list) × (place < countIn (now list)) ⌝ }
     ensures answer { λ r. ⌜ Answers (limitsOf places room) (stateOf ais places (now (image .entry)) (pendingOf (now (order .entry)) (now (counts .entry)) (now (slots .entry)) (now (singles .entry))) device) (part (slotAt place (now (list .entry)) .at) (slotAt place (now (list .entry)) .size) (now (list .entry))) (requestIn (limitsOf places room) (stateOf ais places (now (image .entry)) (pendingOf (now (order .entry)) (now (counts .entry)) (now (slots .entry)) (now (singles .entry))) device) (now (list .entry)) (slotAt place (now (list .entry)))) (r .answer) (stateOf ais places (now (image .exit)) (pendingOf (now (order .exit)) (now (counts .exit)) (now (slots .exit)) (now (singles .exit))) (r .device)) (part (slotAt place (now (list .entry)) .at) (slotAt place (now (list .entry)) .size) (now (list .entry))) ⌝ }
     ensures held { λ _. ⌜ Held (now (order .exit)) (now (counts .exit)) × AllCanonical (now (image .exit)) ⌝ }
@@ -87,7 +93,7 @@ fn apply_at(
     let at = words::read_be(list, e, 4) as usize;
     let group = words::read_be(list, e + 4, 4) as u32;
     let end = at + words::read_be(list, e + 8, 4) as usize;
-    let attr = words::read_be(list, e + 16, 8);
+    let attr = words::read_doubleword(list, e + 16);
     apply(
         slots,
         order,
@@ -102,12 +108,6 @@ fn apply_at(
         attr,
         &list[at..end],
     )
-}
-
-// What came of a list's requests: code 0 and their number, or the code and place of the refused one; and the device record.
-struct Ran {
-    answer: Answer,
-    device: Device,
 }
 
 // The requests one after another, to the first that is refused.

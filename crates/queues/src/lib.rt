@@ -33,15 +33,14 @@ pub fn queued(c: &[usize; QUEUES]) -> usize
     start(c, QUEUES)
 }
 
-// Appends r to queue q.
-fn append(b: &mut [u8], o: &mut [u8], c: &mut [usize], q: usize, r: [u8; 72])
-    requires { ⌜ (q < length (now c)) × (sum (now c) < slotCount) × (length (now o) ≡ slotCount) × (slotCount * 72 ≤ length (now b)) × Held (now o) (now c) ⌝ }
+// Appends r to queue q, where the queues hold n records.
+fn append(b: &mut [u8], o: &mut [u8], c: &mut [usize], q: usize, n: usize, r: [u8; 72])
+    requires { ⌜ (q < length (now c)) × (n ≡ sum (now c)) × (sum (now c) < slotCount) × (length (now o) ≡ slotCount) × (slotCount * 72 ≤ length (now b)) × Held (now o) (now c) ⌝ }
     ensures queue { λ _. ⌜ queues (now (o .exit)) (now (c .exit)) (now (b .exit)) ≡ set (queues (now (o .entry)) (now (c .entry)) (now (b .entry))) q (getD (queues (now (o .entry)) (now (c .entry)) (now (b .entry))) q [] ++ (r ∷ [])) ⌝ }
     ensures held { λ _. ⌜ Held (now (o .exit)) (now (c .exit)) ⌝ }
     ensures count { λ _. ⌜ sum (now (c .exit)) ≡ sum (now (c .entry)) + 1 ⌝ }
 {
     let at = start(c, q + 1);
-    let n = start(c, c.len());
     slots::insert(b, o, n, at, r);
     c[q] = c[q] + 1;
 }
@@ -69,36 +68,38 @@ fn read(b: &[u8], o: &[u8], c: &[usize], q: usize, j: usize) -> [u8; 72]
     slots::read(b, o, n, k)
 }
 
-// An I/O record joins the queue of its subclass.
+// An I/O record joins the queue of its subclass, where the nine hold n records.
 pub fn append_io(
     b: &mut [u8; SLOT_BYTES],
     o: &mut [u8; ROOM],
     c: &mut [usize; QUEUES],
     isc: Subclass,
+    n: usize,
     r: [u8; 72],
 )
-    requires { ⌜ (isc .0 < 8) × (sum (now c) < slotCount) × Held (now o) (now c) ⌝ }
+    requires { ⌜ (isc .0 < 8) × (n ≡ sum (now c)) × (sum (now c) < slotCount) × Held (now o) (now c) ⌝ }
     ensures queue { λ _. ⌜ queues (now (o .exit)) (now (c .exit)) (now (b .exit)) ≡ set (queues (now (o .entry)) (now (c .entry)) (now (b .entry))) (isc .0) (getD (queues (now (o .entry)) (now (c .entry)) (now (b .entry))) (isc .0) [] ++ (r ∷ [])) ⌝ }
     ensures held { λ _. ⌜ Held (now (o .exit)) (now (c .exit)) ⌝ }
     ensures count { λ _. ⌜ sum (now (c .exit)) ≡ sum (now (c .entry)) + 1 ⌝ }
 {
     let q = words::index(isc.0);
-    append(b, o, c, q, r);
+    append(b, o, c, q, n, r);
 }
 
-// A finished page fault joins its queue.
+// A finished page fault joins its queue, where the nine hold n records.
 pub fn append_done(
     b: &mut [u8; SLOT_BYTES],
     o: &mut [u8; ROOM],
     c: &mut [usize; QUEUES],
+    n: usize,
     r: [u8; 72],
 )
-    requires { ⌜ (sum (now c) < slotCount) × Held (now o) (now c) ⌝ }
+    requires { ⌜ (n ≡ sum (now c)) × (sum (now c) < slotCount) × Held (now o) (now c) ⌝ }
     ensures queue { λ _. ⌜ queues (now (o .exit)) (now (c .exit)) (now (b .exit)) ≡ set (queues (now (o .entry)) (now (c .entry)) (now (b .entry))) 8 (getD (queues (now (o .entry)) (now (c .entry)) (now (b .entry))) 8 [] ++ (r ∷ [])) ⌝ }
     ensures held { λ _. ⌜ Held (now (o .exit)) (now (c .exit)) ⌝ }
     ensures count { λ _. ⌜ sum (now (c .exit)) ≡ sum (now (c .entry)) + 1 ⌝ }
 {
-    append(b, o, c, 8, r);
+    append(b, o, c, 8, n, r);
 }
 
 // Record j of the queue of a subclass leaves it.

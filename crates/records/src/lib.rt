@@ -43,7 +43,7 @@ pub fn kind_at(b: &[u8], at: usize) -> Kind
     requires { ⌜ at + 72 ≤ length (now b) ⌝ }
     ensures { λ r. ⌜ r ≡ kindOf (part at 72 (now (b .entry))) ⌝ }
 {
-    let t = words::read_be(b, at, 8);
+    let t = words::read_doubleword(b, at);
     if t <= 0xfffd_ffff {
         return Kind::Io(subclass_at(b, at));
     }
@@ -101,7 +101,7 @@ fn answer_to(b: &[u8], n: usize, queued: usize, room: usize) -> Answer
     answers::accept(n as u64)
 }
 
-// Adds the record at index at of b.
+// Adds the record at index at of b, where so many are queued; how many are then.
 fn add_one(
     slots: &mut [u8; SLOT_BYTES],
     order: &mut [u8; ROOM],
@@ -109,26 +109,37 @@ fn add_one(
     singles: &mut [u8; SINGLES_BYTES],
     b: &[u8],
     at: usize,
-)
-    requires { ⌜ (at + 72 ≤ length (now b)) × Held (now order) (now counts) × (sum (now counts) + wants (kind (part at 72 (now b))) ≤ slotCount) ⌝ }
+    queued: usize,
+) -> usize
+    requires { ⌜ (at + 72 ≤ length (now b)) × (queued ≡ sum (now counts)) × Held (now order) (now counts) × (sum (now counts) + wants (kind (part at 72 (now b))) ≤ slotCount) ⌝ }
     ensures pending { λ _. ⌜ pendingOf (now (order .exit)) (now (counts .exit)) (now (slots .exit)) (now (singles .exit)) ≡ add (part at 72 (now (b .entry))) (pendingOf (now (order .entry)) (now (counts .entry)) (now (slots .entry)) (now (singles .entry))) ⌝ }
-    ensures held { λ _. ⌜ Held (now (order .exit)) (now (counts .exit)) × (sum (now (counts .exit)) ≡ sum (now (counts .entry)) + wants (kind (part at 72 (now (b .entry))))) ⌝ }
+    ensures held { λ r. ⌜ Held (now (order .exit)) (now (counts .exit)) × (r ≡ sum (now (counts .exit))) × (r ≡ queued + wants (kind (part at 72 (now (b .entry))))) ⌝ }
 {
-    let r = words::load(b, at);
+    // The record is loaded for its kind: the merge of a machine check would split the copy of all kinds.
     match kind_at(b, at) {
-        Kind::Io(isc) => queues::append_io(slots, order, counts, isc, r),
+        Kind::Io(isc) => {
+            queues::append_io(slots, order, counts, isc, queued, words::load(b, at));
+            queued + 1
+        }
         Kind::Done => {
             // a slice's length is known to the proof
             let lent: &[usize] = counts;
-            queues::append_done(slots, order, counts, r)
+            queues::append_done(slots, order, counts, queued, words::load(b, at));
+            queued + 1
         }
-        Kind::Service => singles::add_service(singles, r),
-        Kind::MachineCheck => singles::add_mchk(singles, r),
-        Kind::Other => {}
+        Kind::Service => {
+            singles::add_service(singles, words::load(b, at));
+            queued
+        }
+        Kind::MachineCheck => {
+            singles::add_mchk(singles, words::load(b, at));
+            queued
+        }
+        Kind::Other => queued,
     }
 }
 
-// Adds the first n records of b in order.
+// Adds the first n records of b in order, where so many are queued.
 fn add_all(
     slots: &mut [u8; SLOT_BYTES],
     order: &mut [u8; ROOM],
@@ -136,15 +147,17 @@ fn add_all(
     singles: &mut [u8; SINGLES_BYTES],
     b: &[u8],
     n: usize,
+    queued: usize,
 )
-    requires { ⌜ (n ≤ 258) × (n * 72 ≤ length (now b)) × Held (now order) (now counts) × (sum (now counts) + allWant (recordsIn n (now b)) ≤ slotCount) ⌝ }
+    requires { ⌜ (n ≤ 258) × (n * 72 ≤ length (now b)) × (queued ≡ sum (now counts)) × Held (now order) (now counts) × (sum (now counts) + allWant (recordsIn n (now b)) ≤ slotCount) ⌝ }
     ensures pending { λ _. ⌜ pendingOf (now (order .exit)) (now (counts .exit)) (now (slots .exit)) (now (singles .exit)) ≡ addAll (recordsIn n (now (b .entry))) (pendingOf (now (order .entry)) (now (counts .entry)) (now (slots .entry)) (now (singles .entry))) ⌝ }
     ensures held { λ _. ⌜ Held (now (order .exit)) (now (counts .exit)) ⌝ }
     ensures kept { λ _. ⌜ (n ≡ 0 → (now (slots .exit) ≡ now (slots .entry)) × (now (order .exit) ≡ now (order .entry)) × (now (counts .exit) ≡ now (counts .entry)) × (now (singles .exit) ≡ now (singles .entry))) ⌝ }
 {
+    let mut held = queued;
     let mut i = 0;
     while i < n {
-        add_one(slots, order, counts, singles, b, i * 72);
+        held = add_one(slots, order, counts, singles, b, i * 72, held);
         i += 1;
     }
 }
@@ -181,9 +194,10 @@ pub fn enqueue_irqs(
     // slices' lengths are known to the proof
     let listed: &[u8] = order;
     let counted: &[usize] = counts;
-    let answer = answer_to(payload, n, queues::queued(counts), room);
+    let queued = queues::queued(counts);
+    let answer = answer_to(payload, n, queued, room);
     let added = if answer.code == 0 { n } else { 0 };
-    add_all(slots, order, counts, singles, payload, added);
+    add_all(slots, order, counts, singles, payload, added, queued);
     answer
 }
 
@@ -198,16 +212,17 @@ fn interrupt(isc: Subclass) -> [u8; 72]
     r
 }
 
-// Group 10, where there is room: the interrupt joins the queue of its subclass.
+// Group 10, where n records are queued and there is room: the interrupt joins the queue of its subclass.
 pub fn append_interrupt(
     slots: &mut [u8; SLOT_BYTES],
     order: &mut [u8; ROOM],
     counts: &mut [usize; QUEUES],
     isc: Subclass,
+    n: usize,
 )
-    requires { ⌜ (isc .0 ≤ 7) × (sum (now counts) < slotCount) × Held (now order) (now counts) ⌝ }
+    requires { ⌜ (isc .0 ≤ 7) × (n ≡ sum (now counts)) × (sum (now counts) < slotCount) × Held (now order) (now counts) ⌝ }
     ensures pending { λ _. ⌜ ((singles : List ℕ) → pendingOf (now (order .exit)) (now (counts .exit)) (now (slots .exit)) singles ≡ addIo (isc .0) (adapterInterrupt (isc .0)) (pendingOf (now (order .entry)) (now (counts .entry)) (now (slots .entry)) singles)) ⌝ }
     ensures held { λ _. ⌜ Held (now (order .exit)) (now (counts .exit)) ⌝ }
 {
-    queues::append_io(slots, order, counts, isc, interrupt(isc));
+    queues::append_io(slots, order, counts, isc, n, interrupt(isc));
 }

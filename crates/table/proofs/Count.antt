@@ -30,3 +30,16 @@ after (switch c a) = skip
 after (exit n) = skip
 after return = skip
 after (call f xs d) = skip
+
+-- the first arm of a test
+abbrev pub taken : Code → Code
+taken skip = skip
+taken (seq a b) = skip
+taken (assign p r) = skip
+taken (block b) = skip
+taken (loop b) = skip
+taken (cond c a b) = a
+taken (switch c a) = skip
+taken (exit n) = skip
+taken return = skip
+taken (call f xs d) = skip

@@ -19,7 +19,7 @@ use Rattle.adapters.specs.declared.Place.{Place}
 use Rattle.adapters.specs.Values.{placeOf, deviceOf, Canonical, withMasked, modeSet}
 use Rattle.answers.specs.declared.Answer.{Answer}
 use Rattle.values.specs.declared.Reply.{Reply}
-use Rattle.values.specs.States.{payloadId, aboutOf, stateWith, Replied}
+use Rattle.values.specs.States.{payloadId, aboutOf, stateWith, Replied, Change, keeps, masks, enters, Within, changeOf}
 
 -- the state that the values stand for is the state itself
 pub as-it-was : (s : State) (id : ℕ) (device : Device) (place : Place) → s .device ≡ deviceOf device → getD (s .adapters) id rules.free ≡ placeOf place
@@ -31,6 +31,12 @@ as-it-was s id device place d p =
       pending = s .pending;
       device = d i;
     }
+
+-- a place that did not change
+within-same : (change : Change) (place : Place) → Within change place place
+within-same keeps place = refl
+within-same masks place = refl
+within-same enters place = tt
 
 module _ (places room : ℕ) (ais : Bool) (device : Device) (place : Place) (id : ℕ) (b : List ℕ) (o : Limits → State → Outcome) where
   -- for every state that the values stand for
@@ -61,30 +67,30 @@ module _ (places room : ℕ) (ais : Bool) (device : Device) (place : Place) (id 
       ∙ (λ i. record { code = 0; count = 0; next = stateWith s id (placeOf place′) (e4 i) (deviceOf device′); buffer = b })
 
   -- from what the calls that make a reply ensure
-  pub refused : (code : ℕ) {a : Answer} {r : Reply} → a ≡ record { code = code; count = 0 } → r ≡ record { answer = a; device = device; place = place }
-      → Gives (λ L s. refuse code) → Replied places room ais device place id b o r
-  refused code ea er f =
-      subst (Replied places room ais device place id b o)
+  pub refused : (code : ℕ) {change : Change} {a : Answer} {r : Reply} → a ≡ record { code = code; count = 0 } → r ≡ record { answer = a; device = device; place = place }
+      → Gives (λ L s. refuse code) → Replied places room ais device place id b o change r
+  refused code {change} ea er f =
+      subst (Replied places room ais device place id b o change)
       (sym (er ∙ ap (λ (x : Answer). record { answer = x; device = device; place = place }) ea))
       (record {
         answer = λ p L s e1 e2 e3 e4 e5 e6. refuses code f p L s e1 e3 e4 e5 e6;
         kept = λ k. (refl, refl);
         canonical = λ k. k;
-        others = λ u. refl;
+        within = within-same change place;
       })
 
-  pub accepted : {device′ : Device} {place′ : Place} {a : Answer} {r : Reply} → a ≡ record { code = 0; count = 0 }
+  pub accepted : {change : Change} {device′ : Device} {place′ : Place} {a : Answer} {r : Reply} → a ≡ record { code = 0; count = 0 }
       → r ≡ record { answer = a; device = device′; place = place′ } → (Canonical place → Canonical place′)
-      → (place .used ≡ true → place′ ≡ withMasked (place′ .masked) place)
-      → Gives (λ L s. accept 0 (stateWith s id (placeOf place′) (s .pending) (deviceOf device′)) []) → Replied places room ais device place id b o r
-  accepted {device′} {place′} ea er k m f =
-      subst (Replied places room ais device place id b o)
+      → Within change place place′
+      → Gives (λ L s. accept 0 (stateWith s id (placeOf place′) (s .pending) (deviceOf device′)) []) → Replied places room ais device place id b o change r
+  accepted {change} {device′} {place′} ea er k m f =
+      subst (Replied places room ais device place id b o change)
       (sym (er ∙ ap (λ (x : Answer). record { answer = x; device = device′; place = place′ }) ea))
       (record {
         answer = λ p L s e1 e2 e3 e4 e5 e6. accepts device′ place′ f p L s e1 e3 e4 e5 e6;
         kept = λ n. absurd (n refl);
         canonical = k;
-        others = m;
+        within = m;
       })
 
   -- where the place is as it was
@@ -182,10 +188,10 @@ no-set (suc (suc (suc (suc (suc (suc (suc (suc (suc (suc (suc (suc n))))))))))))
 
 -- a reply to the request of one group number is one to that of an equal number
 pub as-group : {places room : ℕ} {ais : Bool} {device : Device} {place : Place} {b : List ℕ} {r : Reply} (attr k : ℕ) {g : ℕ} → g ≡ k
-    → Replied places room ais device place (aboutOf k attr b) b (λ L s. request L s (setRequest k) attr b) r
-    → Replied places room ais device place (aboutOf g attr b) b (λ L s. request L s (setRequest g) attr b) r
+    → Replied places room ais device place (aboutOf k attr b) b (λ L s. request L s (setRequest k) attr b) (changeOf k) r
+    → Replied places room ais device place (aboutOf g attr b) b (λ L s. request L s (setRequest g) attr b) (changeOf g) r
 as-group {places} {room} {ais} {device} {place} {b} {r} attr k e h =
-    subst (λ (x : ℕ). Replied places room ais device place (aboutOf x attr b) b (λ L s. request L s (setRequest x) attr b) r) (sym e) h
+    subst (λ (x : ℕ). Replied places room ais device place (aboutOf x attr b) b (λ L s. request L s (setRequest x) attr b) (changeOf x) r) (sym e) h
 
 -- ---- the first two bytes written
 pub two-written : (l : List ℕ) (x y : ℕ) → 2 ≤ length l → set (set l 0 x) 1 y ≡ x ∷ y ∷ drop 2 l

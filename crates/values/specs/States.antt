@@ -36,10 +36,24 @@ Replies places room ais device place id b o before after r =
     → getD (s .adapters) id rules.free ≡ placeOf place
     → Answers L s b (o L s) (r .answer) (stateWith s id (placeOf (r .place)) after (deviceOf (r .device))) b
 
+-- What a set request may do to the place of its adapter: nothing, set its masked field, or enter another.
+pub data Change : Type 0 where
+  keeps masks enters : Change
+
+-- the change that a place underwent
+abbrev pub Within : Change → Place → Place → Type 0
+Within keeps p p′ = p′ ≡ p
+Within masks p p′ = p′ ≡ withMasked (p′ .masked) p
+Within enters p p′ = Unit
+
+-- REGISTER enters a place, MODIFY sets its masked field, every other group leaves it
+unfoldable pub changeOf : ℕ → Change
+changeOf group = choose (eqb group 6) enters (choose (eqb group 7) masks keeps)
+
 -- What a request that touches no pending record promises of its reply: the answer; a refusal leaves the values equal; a place made here stays so;
--- of a used place no field but `masked` changes.
-pub record Replied (places room : ℕ) (ais : Bool) (device : Device) (place : Place) (id : ℕ) (b : List ℕ) (o : Limits → State → Outcome) (r : Reply) : Type 0 where
+-- the place changes no more than so.
+pub record Replied (places room : ℕ) (ais : Bool) (device : Device) (place : Place) (id : ℕ) (b : List ℕ) (o : Limits → State → Outcome) (change : Change) (r : Reply) : Type 0 where
   pub answer : (p : Pending) → Replies places room ais device place id b o p p r
   pub kept : (r .answer .code ≡ 0 → ⊥) → (r .device ≡ device) × (r .place ≡ place)
   pub canonical : Canonical place → Canonical (r .place)
-  pub others : place .used ≡ true → r .place ≡ withMasked (r .place .masked) place
+  pub within : Within change place (r .place)

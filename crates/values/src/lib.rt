@@ -9,7 +9,7 @@ ghost use Rattle.rules.specs.Bytes.{choose};
 ghost use Rattle.rules.specs.Requests.{apfEnable, apfDisableWait, adapterRegister, adapterModify, aism, setAismAll, getAismAll, setRequest, request};
 ghost use Rattle.answers.specs.Answers.{Answers};
 ghost use Rattle.adapters.specs.Values.{deviceOf};
-ghost use Rattle.values.specs.States.{payloadId, aboutOf, Replied};
+ghost use Rattle.values.specs.States.{payloadId, aboutOf, keeps, masks, enters, changeOf, Replied};
 use adapters::Device;
 use adapters::Place;
 use answers::Answer;
@@ -71,7 +71,7 @@ pub fn about(group: u32, attr: u64, payload: &[u8]) -> AdapterId
 
 // Groups 4 and 5: the page-fault flag.
 fn set_flag(device: Device, place: Place, attr: u64, on: bool) -> Reply
-    ensures { λ r. ⌜ ((id places room : ℕ) (ais : Bool) (b : List ℕ) → Replied places room ais device place id b (λ L s. request L s (choose on apfEnable apfDisableWait) attr b) r) ⌝ }
+    ensures { λ r. ⌜ ((id places room : ℕ) (ais : Bool) (b : List ℕ) → Replied places room ais device place id b (λ L s. request L s (choose on apfEnable apfDisableWait) attr b) keeps r) ⌝ }
 {
     let next = adapters::apf_set(device, on);
     if attr != 0 {
@@ -82,7 +82,7 @@ fn set_flag(device: Device, place: Place, attr: u64, on: bool) -> Reply
 
 // Group 6: an adapter is registered at the place of its id.
 fn register(places: u64, device: Device, place: Place, attr: u64, payload: &[u8]) -> Reply
-    ensures { λ r. ⌜ ((room : ℕ) (ais : Bool) → Replied places room ais device place (payloadId (now (payload .entry))) (now (payload .entry)) (λ L s. request L s adapterRegister attr (now (payload .entry))) r) ⌝ }
+    ensures { λ r. ⌜ ((room : ℕ) (ais : Bool) → Replied places room ais device place (payloadId (now (payload .entry))) (now (payload .entry)) (λ L s. request L s adapterRegister attr (now (payload .entry))) enters r) ⌝ }
 {
     if attr != 0 {
         return with_answer(answers::refuse(EINVAL), device, place);
@@ -111,7 +111,7 @@ fn register(places: u64, device: Device, place: Place, attr: u64, payload: &[u8]
 
 // Group 7: the adapter is masked or unmasked by type 1; types 2 and 3 do nothing.
 fn modify(places: u64, device: Device, place: Place, attr: u64, payload: &[u8]) -> Reply
-    ensures { λ r. ⌜ ((room : ℕ) (ais : Bool) → Replied places room ais device place (payloadId (now (payload .entry))) (now (payload .entry)) (λ L s. request L s adapterModify attr (now (payload .entry))) r) ⌝ }
+    ensures { λ r. ⌜ ((room : ℕ) (ais : Bool) → Replied places room ais device place (payloadId (now (payload .entry))) (now (payload .entry)) (λ L s. request L s adapterModify attr (now (payload .entry))) masks r) ⌝ }
 {
     if attr != 0 {
         return with_answer(answers::refuse(EINVAL), device, place);
@@ -147,7 +147,7 @@ fn modify(places: u64, device: Device, place: Place, attr: u64, payload: &[u8]) 
 
 // Group 9: the mode of one subclass.
 fn set_mode(ais: bool, device: Device, place: Place, attr: u64, payload: &[u8]) -> Reply
-    ensures { λ r. ⌜ ((id : ℕ) (places : ℕ) (room : ℕ) → Replied places room ais device place id (now (payload .entry)) (λ L s. request L s aism attr (now (payload .entry))) r) ⌝ }
+    ensures { λ r. ⌜ ((id : ℕ) (places : ℕ) (room : ℕ) → Replied places room ais device place id (now (payload .entry)) (λ L s. request L s aism attr (now (payload .entry))) keeps r) ⌝ }
 {
     if attr != 0 {
         return with_answer(answers::refuse(EINVAL), device, place);
@@ -175,7 +175,7 @@ fn set_mode(ais: bool, device: Device, place: Place, attr: u64, payload: &[u8]) 
 
 // Group 11, set: both masks.
 fn set_masks(ais: bool, device: Device, place: Place, attr: u64, payload: &[u8]) -> Reply
-    ensures { λ r. ⌜ ((id : ℕ) (places : ℕ) (room : ℕ) → Replied places room ais device place id (now (payload .entry)) (λ L s. request L s setAismAll attr (now (payload .entry))) r) ⌝ }
+    ensures { λ r. ⌜ ((id : ℕ) (places : ℕ) (room : ℕ) → Replied places room ais device place id (now (payload .entry)) (λ L s. request L s setAismAll attr (now (payload .entry))) keeps r) ⌝ }
 {
     if attr != 0 {
         return with_answer(answers::refuse(EINVAL), device, place);
@@ -223,7 +223,7 @@ pub fn set_values(
     payload: &[u8],
 ) -> Reply
     requires { ⌜ (group ≡ 2 → ⊥) × (group ≡ 3 → ⊥) × (group ≡ 8 → ⊥) × (group ≡ 10 → ⊥) ⌝ }
-    ensures { λ r. ⌜ ((room : ℕ) → Replied places room ais device place (aboutOf group attr (now (payload .entry))) (now (payload .entry)) (λ L s. request L s (setRequest group) attr (now (payload .entry))) r) ⌝ }
+    ensures { λ r. ⌜ ((room : ℕ) → Replied places room ais device place (aboutOf group attr (now (payload .entry))) (now (payload .entry)) (λ L s. request L s (setRequest group) attr (now (payload .entry))) (changeOf group) r) ⌝ }
 {
     if group == APF_ENABLE {
         return set_flag(device, place, attr, true);

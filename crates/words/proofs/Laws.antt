@@ -2,11 +2,11 @@
 use mathlib.Core.Path.{_≡_, sym, ap, _∙_}
 use mathlib.Core.List.{List, [], _∷_, _++_, append-assoc, append-nil}
 use Prim.Native.Nat.{ℕ, zero, suc, _+_, _-_, _*_, _/_, _%_, _^_, _≤_, _<_}
-use native.Mathlib.Nat.{zero-add, suc-add, mul-assoc, pow-suc, pow-le-pow-right, div-div-eq-div-mul}
+use native.Mathlib.Nat.{zero-add, suc-add, add-zero, add-suc, mul-one, pow-zero, mul-assoc, pow-suc, pow-le-pow-right, div-div-eq-div-mul}
 use native.Mathlib.Numerals.{add-one}
 use native.Mathlib.Omega.{arith}
 use lib.ListN.{length, take, drop, getD, set, length-drop, length-append, drop-of-length-le}
-use lib.Seq.{take-nil, take-at, drop-at, take-append-le, take-take, take-all, take-suc, drop-drop, drop-paste, getD-drop, length-take-le, set-at, paste, paste-zero, paste-suc}
+use lib.Seq.{take-nil, take-at, drop-at, take-append-le, take-take, take-all, take-suc, take-add, drop-drop, drop-paste, getD-drop, length-take-le, set-at, paste, paste-zero, paste-suc}
 use Rattle.rules.specs.Bytes.{number, bytes}
 
 module _ {ℓ} {A : Type ℓ} where
@@ -72,6 +72,32 @@ pub read-turn : (l : List ℕ) (at i v x : ℕ) → at + i < length l → v ≡ 
 read-turn l at i v x h e b ex bx =
     let k : i < length (drop at l) = simp length-drop (omega arith) in
     (rw (add-one i, take-suc (drop at l) i 0 k, getD-drop, number-more, e, ex), rw (add-one i, pow-suc) (omega arith))
+
+-- a number in two parts, and in two words
+pow-add : (a m n : ℕ) → a ^ (m + n) ≡ a ^ m * a ^ n
+pow-add a m zero = rw (add-zero, pow-zero, mul-one)
+pow-add a m (suc n) =
+    ap (λ (k : ℕ). a ^ k) (add-suc m n) ∙ pow-suc a (m + n) ∙ ap (λ (x : ℕ). x * a) (pow-add a m n) ∙ mul-assoc (a ^ m) (a ^ n) a ∙ ap (λ (x : ℕ). a ^ m * x) (sym (pow-suc a n))
+
+number-append : (xs ys : List ℕ) → number (xs ++ ys) ≡ number xs * 256 ^ length ys + number ys
+unfolding number
+number-append [] ys = omega arith
+number-append (b ∷ xs) ys =
+    let e : b * 256 ^ length (xs ++ ys) ≡ b * 256 ^ length xs * 256 ^ length ys = rw (length-append, pow-add, mul-assoc) in
+    omega (arith, number-append xs ys)
+
+number-parts : (l : List ℕ) (at m n : ℕ) → at + m + n ≤ length l
+    → number (take (m + n) (drop at l)) ≡ number (take m (drop at l)) * 256 ^ n + number (take n (drop (at + m) l))
+number-parts l at m n h =
+    let k : n ≤ length (drop (at + m) l) = simp length-drop (omega arith) in
+    let e : length (take n (drop (at + m) l)) ≡ n = length-take-le n (drop (at + m) l) k in
+    ap number (take-add m n (drop at l) ∙ ap (λ (r : List ℕ). take m (drop at l) ++ take n r) (drop-drop m at l))
+    ∙ number-append (take m (drop at l)) (take n (drop (at + m) l))
+    ∙ ap (λ (j : ℕ). number (take m (drop at l)) * 256 ^ j + number (take n (drop (at + m) l))) e
+
+pub number-words : (l : List ℕ) (at : ℕ) → at + 8 ≤ length l
+    → number (take 4 (drop at l)) * 4294967296 + number (take 4 (drop (at + 4) l)) ≡ number (take 8 (drop at l))
+number-words l at h = sym (number-parts l at 4 4 (omega arith))
 
 -- eight bytes fit
 pub read-fits : (v i n : ℕ) → v < 256 ^ i → i < n → n ≤ 8 → v * 256 + 256 ≤ 2 ^ 64

@@ -78,6 +78,14 @@ pub fn read_be(b: &[u8], at: usize, n: usize) -> u64
     v
 }
 
+// The number that the 8 bytes from index at say, read as two of 4: a loop over 8 bytes compiles to a load for each.
+pub fn read_doubleword(b: &[u8], at: usize) -> u64
+    requires { ⌜ at + 8 ≤ length (now b) ⌝ }
+    ensures { λ r. ⌜ (r ≡ field at 8 (now (b .entry))) × (r < 256 ^ 8) ⌝ }
+{
+    read_be(b, at, 4) * 4294967296 + read_be(b, at + 4, 4)
+}
+
 // Writes the n lowest bytes of v from index at, the highest of them first.
 pub fn write_be(b: &mut [u8], at: usize, n: usize, v: u64)
     requires { ⌜ (n ≤ 8) × (at + n ≤ length (now b)) ⌝ }

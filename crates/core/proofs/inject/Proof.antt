@@ -19,7 +19,7 @@ use Rattle.core.specs.Cases.{answerFor}
 use Rattle.values.specs.declared.Reply.{Reply}
 use Rattle.values.specs.States.{stateWith}
 use Rattle.answers.proofs.Laws.{refused-as, accepted}
-use Rattle.core.proofs.Laws.{as-it-was, replies, none-there, dropped-there, full-there, appended-there, out-of-range, nobody-there, is-dropped, is-full, is-appended, injected-is, code-of, place-of}
+use Rattle.core.proofs.Laws.{as-it-was, replies, none-there, dropped-there, full-there, appended-there, out-of-range, nobody-there, is-dropped, is-full, is-appended, injected-is, code-of}
 use borrow.Author.Needs.{needs}
 use Rattle.core.proofs.inject.Statement.{statement}
 use Rattle.core.proofs.inject.Tie as tie
@@ -40,9 +40,9 @@ returns c =
           (out-of-range L s (a .ais) (a .device) (a .place) (a .id .0) b (omega (arith, e1, c .before .before .if1 .taken)))
           (c .before .refuse .ensures)),
       (
-        (f .pre .1, place-of (c .with-answer .ensures) (f .pre .2)),
+        (f .pre .1, ap (λ (x : Reply). x .place) (c .with-answer .ensures)),
         (
-          λ n. (ap (λ (x : Reply). x .device) (c .with-answer .ensures), ap (λ (x : Reply). x .place) (c .with-answer .ensures), refl, refl, refl),
+          λ n. (ap (λ (x : Reply). x .device) (c .with-answer .ensures), refl, refl, refl),
           λ h. let z : ⊥ = omega (arith, h, c .before .before .if1 .taken) in absurd z,
         ),
       ),
@@ -115,6 +115,7 @@ append-interrupt-requires c κs =
     let f = start j in
     let d = appended-there _ _ _ _ _ (sym (j .inject .ensures) ∙ c .before .before .before .before .what .given .1) in (
       omega (arith, ap (λ (x : Subclass). x .0) (d .3), f .pre .2 .iscSmall),
+      j .before .before .queued .ensures,
       omega (arith, leb-false (f .args .room) (j .before .before .queued .result) (d .2), j .before .before .queued .ensures, f .pre .0),
       f .pre .1,
     )
@@ -137,9 +138,9 @@ returns-2 c =
           (none-there _ _ _ _ (sym (j .inject .ensures) ∙ c .before .before .enum-told .given .1)))
           (c .before .refuse2 .ensures)),
       (
-        (f .pre .1, place-of (c .with-answer2 .ensures) (f .pre .2)),
+        (f .pre .1, ap (λ (x : Reply). x .place) (c .with-answer2 .ensures)),
         (
-          λ n. (ap (λ (x : Reply). x .device) (c .with-answer2 .ensures), ap (λ (x : Reply). x .place) (c .with-answer2 .ensures), refl, refl, refl),
+          λ n. (ap (λ (x : Reply). x .device) (c .with-answer2 .ensures), refl, refl, refl),
           λ h. ap (λ (x : Reply). x .answer) (c .with-answer2 .ensures) ∙ c .before .refuse2 .ensures ∙ case-told j (c .before .before .enum-told .given .1),
         ),
       ),
@@ -158,9 +159,9 @@ returns-3 c =
           ∙ ap (λ (t : State). accept 0 t []) (as-it-was s _ _ _ _ e4 e5 e6))
           (c .before .accept .ensures) refl),
       (
-        (f .pre .1, place-of (c .with-answer3 .ensures) (f .pre .2)),
+        (f .pre .1, ap (λ (x : Reply). x .place) (c .with-answer3 .ensures)),
         (
-          λ n. (ap (λ (x : Reply). x .device) (c .with-answer3 .ensures), ap (λ (x : Reply). x .place) (c .with-answer3 .ensures), refl, refl, refl),
+          λ n. (ap (λ (x : Reply). x .device) (c .with-answer3 .ensures), refl, refl, refl),
           λ h. ap (λ (x : Reply). x .answer) (c .with-answer3 .ensures) ∙ c .before .accept .ensures ∙ case-told j (c .before .before .enum-told2 .given .1),
         ),
       ),
@@ -179,9 +180,9 @@ returns-4 c =
           (omega (arith, e2, leb-true (a .room) (j .before .before .queued .result) (d .2), ap queued e4, all-counted j g)))
           (c .before .refuse3 .ensures)),
       (
-        (f .pre .1, place-of (c .with-answer4 .ensures) (f .pre .2)),
+        (f .pre .1, ap (λ (x : Reply). x .place) (c .with-answer4 .ensures)),
         (
-          λ n. (ap (λ (x : Reply). x .device) (c .with-answer4 .ensures), ap (λ (x : Reply). x .place) (c .with-answer4 .ensures), refl, refl, refl),
+          λ n. (ap (λ (x : Reply). x .device) (c .with-answer4 .ensures), refl, refl, refl),
           λ h. ap (λ (x : Reply). x .answer) (c .with-answer4 .ensures) ∙ c .before .refuse3 .ensures ∙ case-told j (c .before .before .enum-told3 .given .1),
         ),
       ),
@@ -207,7 +208,7 @@ returns-5 c =
           (deviceOf (sym (j .before .after-injection .ensures) i)))))
           (c .before .accept2 .ensures) refl),
       (
-        (c .before .before .append-interrupt .ensures .1, place-of (c .with-answer5 .ensures) (f .pre .2)),
+        (c .before .before .append-interrupt .ensures .1, ap (λ (x : Reply). x .place) (c .with-answer5 .ensures)),
         (
           λ n. absurd (code-of (c .with-answer5 .ensures) n (ap (λ (x : Answer). x .code) (c .before .accept2 .ensures))),
           λ h. ap (λ (x : Reply). x .answer) (c .with-answer5 .ensures) ∙ c .before .accept2 .ensures ∙ case-told j (k .what .given .1),

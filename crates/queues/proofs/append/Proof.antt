@@ -1,8 +1,7 @@
 -- The record joins the listing behind those of its queue.
-use mathlib.Core.Path.{_≡_, _∙_}
+use mathlib.Core.Path.{sym, _∙_}
 use native.Mathlib.Omega.{arith}
 use borrow.Author.Needs.{needs}
-use Rattle.queues.specs.Queues.{sum}
 use Rattle.queues.proofs.Laws.{sum-part, sum-next, sum-all, append-leaves}
 use Rattle.queues.proofs.append.Statement.{statement}
 use Rattle.queues.proofs.append.Tie as tie
@@ -13,15 +12,11 @@ add-start c = search needs
 start-requires : tie.Need-start-requires
 start-requires c κs = search needs
 
-start-requires-2 : tie.Need-start-requires-2
-start-requires-2 c κs = search needs
-
 insert-requires : tie.Need-insert-requires
 insert-requires c κs =
     let s = c .before .before in
-    let f = s .before .before .before .before .before .before .before in
-    let n : s .start2 .result ≡ sum (f .args .c .now) = s .start2 .ensures ∙ sum-all (f .args .c .now) in
-    (rw (n, s .before .before .start .ensures) (search sum-part), omega arith, f .pre .3, f .pre .4 .apart)
+    let f = s .before .before .before .before .before in
+    (rw (f .pre .1, s .start .ensures) (search sum-part), omega arith, f .pre .4, f .pre .5 .apart)
 
 mul-c : tie.Need-mul-c
 mul-c c = search needs
@@ -31,7 +26,7 @@ slice-read-c c = search needs
 
 add-c : tie.Need-add-c
 add-c c =
-    let f = c .before .before .before .before .before .before .before .before .before .before .before .before .before .before .before in
+    let f = c .before .before .before .before .before .before .before .before .before .before .before .before .before in
     omega (arith, sum-next (f .args .c .now) (f .args .q) (f .pre .0))
 
 mul-c-2 : tie.Need-mul-c-2
@@ -53,10 +48,10 @@ returns : tie.Need-returns
 returns c =
     let i = c .before .before .before .before .before in
     let s = i .before .before .before in
-    let f = s .before .before .before .before .before .before .before in
+    let f = s .before .before .before .before .before in
     let a = f .args in
-    append-leaves (a .o .now) (a .c .now) (a .q) _ (f .pre .0) (omega arith) (s .start2 .ensures) _ (i .insert .ensures .1) (a .b .now) _ (a .r) _ (f .pre .1)
-    (s .before .before .start .ensures) (i .insert .ensures .0)
+    append-leaves (a .o .now) (a .c .now) (a .q) _ (f .pre .0) (omega arith) (f .pre .1 ∙ sym (sum-all (a .c .now))) _ (i .insert .ensures .1) (a .b .now) _ (a .r) _ (f .pre .2)
+    (s .start .ensures) (i .insert .ensures .0)
 
 pub append-spec : {M : Type 1} → statement M
 append-spec =
@@ -64,7 +59,6 @@ append-spec =
     (tie.spec
     add-start
     start-requires
-    start-requires-2
     insert-requires
     mul-c
     slice-read-c

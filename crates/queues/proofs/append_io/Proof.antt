@@ -7,7 +7,7 @@ index-requires : tie.Need-index-requires
 index-requires c κs = search needs
 
 append-requires : tie.Need-append-requires
-append-requires c κs = (search needs, search needs, search needs, search needs, c .before .before .before .before .pre .2)
+append-requires c κs = (search needs, c .before .before .before .before .pre .1, search needs, search needs, search needs, c .before .before .before .before .pre .3)
 
 returns : tie.Need-returns
 returns c = (rw (c .before .before .before .before .index .ensures .0) at (c .append .ensures .0), c .append .ensures .1)

@@ -1,4 +1,4 @@
--- The invariant: what is left to add, to what is held now, comes to what all come to; and there is room for it.
+-- The invariant: what is left to add, to what is held now, comes to what all come to; and there is room for it; so many are held.
 use native.Mathlib.Omega.{arith}
 use Prim.Native.Nat.{_+_, _-_, _≤_}
 use mathlib.Core.Path.{_≡_, refl, sym, _∙_}
@@ -13,16 +13,16 @@ use Rattle.records.proofs.add_all.Statement.{statement}
 use Rattle.records.proofs.add_all.Tie as tie
 
 abbrev Inv-loop : tie.InvT-loop
-Inv-loop slots₀ order₀ counts₀ singles₀ b n i₀ slots order counts singles i =
-    (i ≤ n) × Held order counts × (sum counts + allWant (recordsFrom i n b) ≤ slotCount)
+Inv-loop slots₀ order₀ counts₀ singles₀ b n queued held₀ i₀ slots order counts singles held i =
+    (i ≤ n) × (held ≡ sum counts) × Held order counts × (sum counts + allWant (recordsFrom i n b) ≤ slotCount)
     × (addAll (recordsIn n b) (pendingOf order₀ counts₀ slots₀ singles₀) ≡ addAll (recordsFrom i n b) (pendingOf order counts slots singles))
     × (n ≡ 0 → (slots ≡ slots₀) × (order ≡ order₀) × (counts ≡ counts₀) × (singles ≡ singles₀))
 
 abbrev μ-loop : tie.MeasureT-loop
-μ-loop slots₀ order₀ counts₀ singles₀ b n i₀ slots order counts singles i = n - i
+μ-loop slots₀ order₀ counts₀ singles₀ b n queued held₀ i₀ slots order counts singles held i = n - i
 
 loop-holds : tie.Need-loop-holds Inv-loop μ-loop
-loop-holds c = (omega arith, c .before .pre .2, rw records-all (c .before .pre .3), rw records-all, λ z. (refl, refl, refl, refl))
+loop-holds c = (omega arith, c .before .pre .2, c .before .pre .3, rw records-all (c .before .pre .4), rw records-all, λ z. (refl, refl, refl, refl))
 
 mul-add-one : tie.Need-mul-add-one Inv-loop μ-loop
 mul-add-one c = search needs
@@ -32,7 +32,7 @@ add-one-requires c κs =
     let j = c .before .before .before .before .before in
     let f = j .before .before in
     let v = j .loop .inv in
-    (omega arith, v .1, omega (arith, v .2, want-next (j .loop .i) (f .args .n) (f .args .b .now) (c .before .before .before .before .loop-test .taken)))
+    (omega arith, v .1, v .2, omega (arith, v .3, want-next (j .loop .i) (f .args .n) (f .args .b .now) (c .before .before .before .before .loop-test .taken)))
 
 add-i : tie.Need-add-i Inv-loop μ-loop
 add-i c = search needs
@@ -48,9 +48,10 @@ loop-again c =
     let a = f .args in
     let v = m .loop .inv in (
       omega arith,
+      c .add-one .ensures .1 .1,
       c .add-one .ensures .1 .0,
-      omega (arith, v .2, c .add-one .ensures .1 .1, want-next (m .loop .i) (a .n) (a .b .now) (j .loop-test .taken)),
-      v .3 ∙ add-next (m .loop .i) (a .n) (a .b .now) _ _ (j .loop-test .taken) (c .add-one .ensures .0),
+      omega (arith, v .1, v .3, c .add-one .ensures .1 .1, c .add-one .ensures .1 .2, want-next (m .loop .i) (a .n) (a .b .now) (j .loop-test .taken)),
+      v .4 ∙ add-next (m .loop .i) (a .n) (a .b .now) _ _ (j .loop-test .taken) (c .add-one .ensures .0),
       λ z. let u : ⊥ = omega (arith, z, j .loop-test .taken) in absurd u,
     )
 
@@ -58,7 +59,7 @@ returns : tie.Need-returns Inv-loop μ-loop
 returns c =
     let f = c .before .before .before in
     let v = c .before .loop .inv in
-    (sym (v .3 ∙ add-ends (c .before .loop .i) (f .args .n) (f .args .b .now) _ (c .loop-test .left)), (v .1, v .4))
+    (sym (v .4 ∙ add-ends (c .before .loop .i) (f .args .n) (f .args .b .now) _ (c .loop-test .left)), (v .2, v .5))
 
 pub add-all-spec : {M : Type 1} → statement M
 add-all-spec =

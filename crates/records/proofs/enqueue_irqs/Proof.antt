@@ -113,7 +113,7 @@ add-all-requires : tie.Need-add-all-requires
 add-all-requires c κs =
     let j = c .before .before .before .before in
     let e = added-fit j in
-    (e .0, e .1, start j .pre .1, e .2)
+    (e .0, e .1, j .before .before .before .queued .ensures, start j .pre .1, e .2)
 
 returns-5 : tie.Need-returns-5
 returns-5 c =

@@ -8,8 +8,8 @@ use Rattle.records.proofs.Laws.{kind-at-is}
 use Rattle.records.proofs.kind_at.Statement.{statement}
 use Rattle.records.proofs.kind_at.Tie as tie
 
-read-be-requires : tie.Need-read-be-requires
-read-be-requires c κs = search needs
+read-doubleword-requires : tie.Need-read-doubleword-requires
+read-doubleword-requires c κs = search needs
 
 subclass-at-requires : tie.Need-subclass-at-requires
 subclass-at-requires c κs = search needs
@@ -19,7 +19,7 @@ unfolding asCase choose rules.kindOf
 returns c =
     let f = c .before .before .before .before in
     rw (
-      kind-at-is (f .args .at) _ (f .args .b .now) (c .before .before .read-be .ensures .0),
+      kind-at-is (f .args .at) _ (f .args .b .now) (c .before .before .read-doubleword .ensures .0),
       le-leb _ 0xfffdffff (c .before .if1 .taken),
       c .subclass-at .ensures,
     )
@@ -29,7 +29,7 @@ unfolding asCase choose rules.kindOf
 returns-2 c =
     let f = c .before .before .before .before in
     rw (
-      kind-at-is (f .args .at) _ (f .args .b .now) (c .before .before .read-be .ensures .0),
+      kind-at-is (f .args .at) _ (f .args .b .now) (c .before .before .read-doubleword .ensures .0),
       lt-leb _ 0xfffdffff (c .before .if1 .left),
       eq-eqb _ 0xfffe0005 (c .if2 .taken),
     )
@@ -39,7 +39,7 @@ unfolding asCase choose rules.kindOf
 returns-3 c =
     let f = c .before .before .before .before .before in
     rw (
-      kind-at-is (f .args .at) _ (f .args .b .now) (c .before .before .before .read-be .ensures .0),
+      kind-at-is (f .args .at) _ (f .args .b .now) (c .before .before .before .read-doubleword .ensures .0),
       lt-leb _ 0xfffdffff (c .before .before .if1 .left),
       ne-eqb _ 0xfffe0005 (c .before .if2 .left),
       eq-eqb _ 0xfffe1000 (c .if3 .taken),
@@ -50,7 +50,7 @@ unfolding asCase choose rules.kindOf
 returns-4 c =
     let f = c .before .before .before .before .before .before in
     rw (
-      kind-at-is (f .args .at) _ (f .args .b .now) (c .before .before .before .before .read-be .ensures .0),
+      kind-at-is (f .args .at) _ (f .args .b .now) (c .before .before .before .before .read-doubleword .ensures .0),
       lt-leb _ 0xfffdffff (c .before .before .before .if1 .left),
       ne-eqb _ 0xfffe0005 (c .before .before .if2 .left),
       ne-eqb _ 0xfffe1000 (c .before .if3 .left),
@@ -62,7 +62,7 @@ unfolding asCase choose rules.kindOf
 returns-5 c =
     let f = c .before .before .before .before .before .before in
     rw (
-      kind-at-is (f .args .at) _ (f .args .b .now) (c .before .before .before .before .read-be .ensures .0),
+      kind-at-is (f .args .at) _ (f .args .b .now) (c .before .before .before .before .read-doubleword .ensures .0),
       lt-leb _ 0xfffdffff (c .before .before .before .if1 .left),
       ne-eqb _ 0xfffe0005 (c .before .before .if2 .left),
       ne-eqb _ 0xfffe1000 (c .before .if3 .left),
@@ -73,7 +73,7 @@ pub kind-at-spec : {M : Type 1} → statement M
 kind-at-spec =
     tie.close
     (tie.spec
-    read-be-requires
+    read-doubleword-requires
     subclass-at-requires
     returns
     returns-2

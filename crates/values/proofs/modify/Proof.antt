@@ -108,7 +108,7 @@ with-answer-requires-7 c κs = search needs
 returns-7 : tie.Need-returns-7
 unfolding request modifies maskedAs
 returns-7 c = λ room ais.
-    accepted _ room ais _ _ _ _ _ (c .before .accept .ensures) (c .with-answer7 .ensures) (λ k. k) (λ u. refl)
+    accepted _ room ais _ _ _ _ _ (c .before .accept .ensures) (c .with-answer7 .ensures) (λ k. k) refl
     (λ L s e1 e2 e3 e4. modifying L s _ (c .before .before .before .before .before .before .before .before .before .before .before .before .before .args .payload .now) (c .before .before .before .before .before .before .before .before .before .before .before .if1 .left) (c .before .before .before .before .before .before .before .before .before .before .if2 .left) ∙ passes _ _ _ (lt-ltb (field 0 4 (c .before .before .before .before .before .before .before .before .before .before .before .before .before .args .payload .now)) (L .places) (omega (arith, e1, c .before .before .before .before .before .before .before .before .if3 .left, c .before .before .before .before .before .before .before .before .before .read-be .ensures .0)))
     ∙ found _ (adapterOf (c .before .before .before .before .before .before .before .before .before .before .before .before .before .args .place)) _ _ (place-there (c .before .before .before .before .before .before .before .before .before .before .before .before .before .args .payload .now) (omega arith) (s .adapters) e4 ∙ place-used (c .before .before .before .before .before .before .before .before .before .before .before .before .before .args .place) (not-false _ (c .before .before .before .before .before .before .if4 .left)))
     ∙ passes _ _ _ (both _ _ (le-leb 1 (byte 4 (c .before .before .before .before .before .before .before .before .before .before .before .before .before .args .payload .now)) (omega (arith, c .before .before .before .before .if5 .left))) (le-leb (byte 4 (c .before .before .before .before .before .before .before .before .before .before .before .before .before .args .payload .now)) 3 (c .before .before .before .if6 .left)))
@@ -145,7 +145,7 @@ with-answer-requires-9 c κs = search needs
 returns-9 : tie.Need-returns-9
 unfolding request modifies maskedAs
 returns-9 c = λ room ais.
-    accepted _ room ais _ _ _ _ _ (c .before .before .before .accept2 .ensures) (c .with-answer9 .ensures) (λ k. c .before .mask-set .ensures .1 .0 k (λ m. not-false _ (c .before .before .before .before .if8 .left))) (λ u. c .before .mask-set .ensures .1 .1)
+    accepted _ room ais _ _ _ _ _ (c .before .before .before .accept2 .ensures) (c .with-answer9 .ensures) (λ k. c .before .mask-set .ensures .1 .0 k (λ m. not-false _ (c .before .before .before .before .if8 .left))) (c .before .mask-set .ensures .1 .1)
     (λ L s e1 e2 e3 e4. modifying L s _ (c .before .before .before .before .before .before .before .before .before .before .before .before .before .before .before .before .before .args .payload .now) (c .before .before .before .before .before .before .before .before .before .before .before .before .before .before .before .if1 .left) (c .before .before .before .before .before .before .before .before .before .before .before .before .before .before .if2 .left) ∙ passes _ _ _ (lt-ltb (field 0 4 (c .before .before .before .before .before .before .before .before .before .before .before .before .before .before .before .before .before .args .payload .now)) (L .places) (omega (arith, e1, c .before .before .before .before .before .before .before .before .before .before .before .before .if3 .left, c .before .before .before .before .before .before .before .before .before .before .before .before .before .read-be .ensures .0)))
     ∙ found _ (adapterOf (c .before .before .before .before .before .before .before .before .before .before .before .before .before .before .before .before .before .args .place)) _ _ (place-there (c .before .before .before .before .before .before .before .before .before .before .before .before .before .before .before .before .before .args .payload .now) (omega arith) (s .adapters) e4 ∙ place-used (c .before .before .before .before .before .before .before .before .before .before .before .before .before .before .before .before .before .args .place) (not-false _ (c .before .before .before .before .before .before .before .before .before .before .if4 .left)))
     ∙ passes _ _ _ (both _ _ (le-leb 1 (byte 4 (c .before .before .before .before .before .before .before .before .before .before .before .before .before .before .before .before .before .args .payload .now)) (omega (arith, c .before .before .before .before .before .before .before .before .if5 .left))) (le-leb (byte 4 (c .before .before .before .before .before .before .before .before .before .before .before .before .before .before .before .before .before .args .payload .now)) 3 (c .before .before .before .before .before .before .before .if6 .left)))

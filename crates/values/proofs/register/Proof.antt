@@ -105,7 +105,7 @@ returns-6 : tie.Need-returns-6
 unfolding request registers adapterIn
 returns-6 c = λ room ais.
     accepted _ room ais _ _ _ _ _ (c .before .accept .ensures) (c .with-answer6 .ensures) (λ k. c .before .before .registered .ensures .1 (c .before .before .before .before .before .before .if5 .left))
-    (λ u. absurd (true≢false (sym u ∙ c .before .before .before .before .before .before .before .before .if4 .left)))
+    tt
     (λ L s e1 e2 e3 e4. registering L s _ (c .before .before .before .before .before .before .before .before .before .before .before .before .before .before .args .payload .now) (c .before .before .before .before .before .before .before .before .before .before .before .before .if1 .left) (c .before .before .before .before .before .before .before .before .before .before .before .if2 .left) ∙ passes _ _ _ (lt-ltb (field 0 4 (c .before .before .before .before .before .before .before .before .before .before .before .before .before .before .args .payload .now)) (L .places) (omega (arith, e1, c .before .before .before .before .before .before .before .before .before .if3 .left, c .before .before .before .before .before .before .before .before .before .before .read-be .ensures .0)))
     ∙ passes _ _ _ (ap isFree (place-there (c .before .before .before .before .before .before .before .before .before .before .before .before .before .before .args .payload .now) (omega arith) (s .adapters) e4 ∙ place-free (c .before .before .before .before .before .before .before .before .before .before .before .before .before .before .args .place) (c .before .before .before .before .before .before .before .before .if4 .left)))
     ∙ passes _ _ _ (le-leb _ _ (c .before .before .before .before .before .before .if5 .left))

@@ -29,7 +29,7 @@ with-answer-requires-2 c κs = search needs
 
 returns-2 : tie.Need-returns-2
 returns-2 c = λ id places room ais b.
-    accepted places room ais _ _ id b _ (c .before .accept .ensures) (c .with-answer2 .ensures) (λ k. k) (λ u. refl)
+    accepted places room ais _ _ id b _ (c .before .accept .ensures) (c .with-answer2 .ensures) (λ k. k) refl
     (λ L s e1 e2 e3 e4. flag-accepted L s _ b (c .before .before .before .before .args .on) (c .before .before .if1 .left)
     ∙ devised s id _ _ _ (ap (λ (d : rules.Device). record { simm = d .simm; nimm = d .nimm; apf = c .before .before .before .before .args .on }) e3 ∙ sym (ap deviceOf (c .before .before .before .apf-set .ensures))) e4)
 

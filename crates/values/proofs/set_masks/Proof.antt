@@ -67,7 +67,7 @@ with-answer-requires-4 c κs = search needs
 returns-4 : tie.Need-returns-4
 unfolding request
 returns-4 c = λ id places room.
-    accepted places room _ _ _ id _ _ (c .before .before .before .before .accept .ensures) (c .with-answer4 .ensures) (λ k. k) (λ u. refl)
+    accepted places room _ _ _ id _ _ (c .before .before .before .before .accept .ensures) (c .with-answer4 .ensures) (λ k. k) refl
     (λ L s e1 e2 e3 e4. passes _ _ _ (eq-eqb _ 0 (c .before .before .before .before .before .before .before .if1 .left)) ∙ passes _ _ _ (e2 ∙ not-false _ (c .before .before .before .before .before .before .if2 .left)) ∙ passes _ _ _ (le-leb 2 (length (c .before .before .before .before .before .before .before .before .before .args .payload .now)) (c .before .before .before .before .before .if3 .left))
     ∙ devised s id _ _ _ (sym (ap deviceOf (c .before .masks-set .ensures) ∙ ap (λ (d : rules.Device). record { simm = byte 0 (c .before .before .before .before .before .before .before .before .before .args .payload .now); nimm = byte 1 (c .before .before .before .before .before .before .before .before .before .args .payload .now); apf = d .apf }) (sym e3))) e4)
 

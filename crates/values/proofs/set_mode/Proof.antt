@@ -93,7 +93,7 @@ with-answer-requires-6 c κs = search needs
 returns-6 : tie.Need-returns-6
 unfolding request setsMode
 returns-6 c = λ id places room.
-    accepted places room _ _ _ id _ _ (c .before .before .accept .ensures) (c .with-answer6 .ensures) (λ k. k) (λ u. refl)
+    accepted places room _ _ _ id _ _ (c .before .before .accept .ensures) (c .with-answer6 .ensures) (λ k. k) refl
     (λ L s e1 e2 e3 e4. moding L s _ (c .before .before .before .before .before .before .before .before .before .before .before .args .payload .now) (c .before .before .before .before .before .before .before .before .before .if1 .left) (e2 ∙ not-false _ (c .before .before .before .before .before .before .before .before .if2 .left)) (c .before .before .before .before .before .before .before .if3 .left) ∙ passes _ _ _ (le-leb _ _ (c .before .before .before .before .before .if4 .left))
     ∙ passes _ _ _ (le-leb (field 2 2 (c .before .before .before .before .before .before .before .before .before .before .before .args .payload .now)) 1 (omega (arith, c .before .before .before .if5 .left, c .before .before .before .before .read-be .ensures .0)))
     ∙ devised s id _ _ _ (mode-is s (c .before .before .before .before .before .before .before .before .before .before .before .args .device) (byte 0 (c .before .before .before .before .before .before .before .before .before .before .before .args .payload .now)) (field 2 2 (c .before .before .before .before .before .before .before .before .before .before .before .args .payload .now)) _ e3 (omega (arith, c .before .before .before .if5 .left, c .before .before .before .before .read-be .ensures .0)) (ap (λ (m : ℕ). eqb m 1) (c .before .before .before .before .read-be .ensures .0)) ∙ sym (c .before .mode-set .ensures)) e4)

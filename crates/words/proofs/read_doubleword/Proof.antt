@@ -1,0 +1,34 @@
+-- The two words say what the eight bytes say.
+use Prim.Native.Nat.{_*_, _+_}
+use mathlib.Core.Path.{_∙_}
+use native.Mathlib.Omega.{arith}
+use borrow.Author.Needs.{needs}
+use Rattle.words.proofs.Laws.{number-words}
+use Rattle.words.proofs.read_doubleword.Statement.{statement}
+use Rattle.words.proofs.read_doubleword.Tie as tie
+
+read-be-requires : tie.Need-read-be-requires
+read-be-requires c κs = search needs
+
+mul-result : tie.Need-mul-result
+mul-result c = search needs
+
+add-read-be : tie.Need-add-read-be
+add-read-be c = search needs
+
+read-be-requires-2 : tie.Need-read-be-requires-2
+read-be-requires-2 c κs = search needs
+
+add-result : tie.Need-add-result
+add-result c = search needs
+
+returns : tie.Need-returns
+returns c =
+    let a = c .before .before .before .args in
+    let e = number-words (a .b .now) (a .at) (c .before .before .before .pre) in
+    ((λ i. c .before .read-be .ensures .0 i * 4294967296 + c .read-be2 .ensures .0 i) ∙ e, omega (arith, c .before .read-be .ensures .1, c .read-be2 .ensures .1))
+
+pub read-doubleword-spec : {M : Type 1} → statement M
+read-doubleword-spec =
+    tie.close
+    (tie.spec read-be-requires mul-result add-read-be read-be-requires-2 add-result returns)

@@ -3,13 +3,13 @@ use mathlib.Core.Path.{_≡_, refl, sym, ap, _∙_}
 use mathlib.Core.Bool.{Bool, true, false, not, _&&_}
 use mathlib.Core.Option.{Option, none, some}
 use mathlib.Core.List.{List, [], _∷_, _++_, flatten, append-assoc, append-nil}
-use Prim.Native.Nat.{ℕ, zero, suc, _+_, _*_, _≤_, _<_}
-use native.Mathlib.Nat.{not-suc-le-zero, le-of-suc-le-suc}
+use Prim.Native.Nat.{ℕ, zero, suc, _+_, _-_, _*_, _≤_, _<_}
+use native.Mathlib.Nat.{not-suc-le-zero}
 use native.Mathlib.Omega.{arith}
-use borrow.Author.Tests.{le-leb, lt-leb, ne-eqb, ltb-false}
-use lib.ListN.{length, take, drop, getD, set, replicate, length-append, length-take, length-drop}
+use borrow.Author.Tests.{le-leb, lt-leb, ne-eqb, ltb-true, ltb-false}
+use lib.ListN.{length, take, drop, getD, set, replicate, length-append, length-take, length-drop, take-append-drop, List·getD-append}
 use lib.Dec.{eqb, ltb}
-use lib.Seq.{take-all, take-suc, take-at, drop-at, drop-drop, take-set-le, getD-take, getD-set-same, getD-set-other, paste, length-paste}
+use lib.Seq.{take-all, take-suc, take-at, drop-at, drop-drop, take-set-le, getD-set-same, paste, length-paste}
 use Rattle.rules.specs.Bytes.{choose, byte, part, field}
 use Rattle.rules.specs.State.{Limits, State, Record, Pending, nothing, withPending, single, listing}
 use Rattle.rules.specs.Outcome.{refuse, accept}
@@ -21,14 +21,14 @@ use Rattle.answers.specs.Answers.{Answers}
 use Rattle.answers.proofs.Laws.{same-state, accepted}
 use Rattle.answers.specs.declared.Answer.{Answer}
 use Rattle.slots.specs.Slots.{removeAt}
-use Rattle.queues.specs.Queues.{sum, cut, queues}
-use Rattle.queues.proofs.Laws.{length-queues, length-flatten-queues, queues-none}
+use Rattle.queues.specs.Queues.{sum, cut, queues, withoutAt}
+use Rattle.queues.proofs.Laws.{without-here, without-past, length-queues, length-flatten-queues, queues-none}
 use Rattle.singles.specs.Singles.{ifThere, serviceOf, mchkOf}
 use Rattle.singles.proofs.Laws.{absent-if, there-if}
 use Rattle.search.specs.declared.Found.{Found}
 use Rattle.search.specs.declared.Found.the-variants.{At, None}
 use Rattle.search.specs.Search.{searchQueues, leftAt, handedAt}
-use Rattle.search.proofs.Laws.{found-first, take-is, clear-is}
+use Rattle.search.proofs.Laws.{found-below, take-is, clear-is}
 use Rattle.records.specs.Memory.{pendingOf}
 
 -- ---- the listing of nine queues and two records
@@ -128,11 +128,32 @@ wrote-queues o c b out d n en k m f e =
     }
 
 -- ---- what a removal leaves
-take-set : {A : Type 0} (n : ℕ) (l : List A) (i : ℕ) (a : A) → i < n → take n (set l i a) ≡ set (take n l) i a
-take-set zero l i a h = absurd (not-suc-le-zero h)
-take-set (suc n) [] i a h = refl
-take-set (suc n) (x ∷ l) zero a h = refl
-take-set (suc n) (x ∷ l) (suc i) a h = ap (λ (t : List _). x ∷ t) (take-set n l i a (le-of-suc-le-suc h))
+-- without a record of the first n queues: what is left of these, and the queue behind them
+abbrev Leaves : ℕ → ℕ → List (List Record) → Type 0
+Leaves n k qs = (take n (withoutAt k qs) ≡ withoutAt k (take n qs)) × (getD (withoutAt k qs) n [] ≡ getD qs n [])
+
+leaves-by : (n k : ℕ) (q : List Record) (qs : List (List Record)) (t : Bool) → ltb k (length q) ≡ t
+    → ((m : ℕ) → k ≡ length q + m → Leaves n m qs) → Leaves (suc n) k (q ∷ qs)
+leaves-by n k q qs true e ih =
+    let l = ltb-true k (length q) e in
+    (rw (without-here k q qs l, without-here k q (take n qs) l), rw (without-here k q qs l))
+leaves-by n k q qs false e ih =
+    let m : ℕ = k - length q in
+    let ek : k ≡ length q + m = omega (arith, ltb-false k (length q) e) in
+    let h = ih m ek in
+    (rw (ek, without-past, without-past, h .0), rw (ek, without-past) (h .1))
+
+leaves : (n k : ℕ) (qs : List (List Record)) → k < length (flatten (take n qs)) → Leaves n k qs
+unfolding flatten
+leaves zero k qs h = absurd (not-suc-le-zero h)
+leaves (suc n) k [] h = absurd (not-suc-le-zero h)
+leaves (suc n) k (q ∷ qs) h = leaves-by n k q qs _ refl (λ m e. leaves n m qs (omega (arith, length-append q (flatten (take n qs)))))
+
+-- a record of the first n queues is one of all, at the same place
+record-of : (n k : ℕ) (qs : List (List Record)) → k < length (flatten (take n qs)) → getD (flatten qs) k [] ≡ getD (flatten (take n qs)) k []
+record-of n k qs h =
+    let e : flatten qs ≡ flatten (take n qs) ++ flatten (drop n qs) = ap flatten (sym (take-append-drop n qs)) ∙ flatten-append (take n qs) (drop n qs) in
+    rw e (List·getD-append (flatten (take n qs)) (flatten (drop n qs)) [] k h)
 
 within : (qs : List (List Record)) (i : ℕ) → 0 < length (getD qs i []) → i < length qs
 within [] i h = absurd (not-suc-le-zero h)
@@ -140,13 +161,13 @@ within (q ∷ qs) zero h = omega arith
 within (q ∷ qs) (suc i) h = omega (arith, within qs i h)
 
 module _ (o c u v b g : List ℕ) where
-  pub io-left : (x j : ℕ) → x < 8 → queues u v b ≡ set (queues o c b) x (removeAt j (getD (queues o c b) x []))
+  pub io-left : (k : ℕ) → k < length (flatten (take 8 (queues o c b))) → queues u v b ≡ withoutAt k (queues o c b)
       → let p = pendingOf o c b g in
-      pendingOf u v b g ≡ record { io = set (p .io) x (removeAt j (getD (p .io) x [])); done = p .done; service = p .service; mchk = p .mchk }
+      pendingOf u v b g ≡ record { io = withoutAt k (p .io); done = p .done; service = p .service; mchk = p .mchk }
   unfolding pendingOf
-  io-left x j h e =
-      let k : 8 ≡ x → ⊥ = omega arith in
-      rw (e, take-set 8 (queues o c b) x _ h, getD-set-other (queues o c b) x 8 _ [] k, getD-take 8 (queues o c b) x [] h)
+  io-left k h e =
+      let l = leaves 8 k (queues o c b) h in
+      rw (e, l .0, l .1)
 
   pub done-left : 0 < length (pendingOf o c b g .done) → queues u v b ≡ set (queues o c b) 8 (removeAt 0 (getD (queues o c b) 8 []))
       → let p = pendingOf o c b g in
@@ -171,7 +192,7 @@ pub none-left : (o c b g : List ℕ) → c ≡ replicate 9 0 → serviceOf g ≡
 unfolding pendingOf
 none-left o c b g e f k = rw (e, f, k, queues-none o b)
 
--- ---- where a search ends
+-- ---- a queue has no more records than counted
 cut-short : {A : Type 0} (cs : List ℕ) (l : List A) (q : ℕ) → length (getD (cut cs l) q []) ≤ getD cs q 0
 unfolding cut
 cut-short [] l q = omega arith
@@ -181,13 +202,6 @@ cut-short (c ∷ cs) l (suc q) = cut-short cs (drop c l) q
 pub queue-short : (o c b : List ℕ) (q : ℕ) → length (getD (queues o c b) q []) ≤ getD c q 0
 unfolding queues
 queue-short o c b q = cut-short c _ q
-
-pub found-at : (f : Record → Bool) (mask : ℕ) (o c b : List ℕ) (v : Found) (x j : ℕ) → v ≡ At (record { 0 = x }) j → v ≡ searchQueues f mask 0 (take 8 (queues o c b))
-    → (x < 8) × (j < getD c x 0)
-found-at f mask o c b v x j w e =
-    let h = found-first f mask (take 8 (queues o c b)) x j (sym e ∙ w) in
-    let k : x < 8 = omega (arith, length-take 8 (queues o c b)) in
-    (k, omega (arith, rw (getD-take 8 (queues o c b) x [] k) at (h .1), queue-short o c b x))
 
 -- ---- CLEAR_IO_IRQ: both words of the subchannel are 0, or one is not
 module _ (b : List ℕ) (x y : ℕ) (ex : x ≡ field 0 2 b) (ey : y ≡ field 2 2 b) where
@@ -202,20 +216,22 @@ module _ (b : List ℕ) (x y : ℕ) (ex : x ≡ field 0 2 b) (ey : y ≡ field 2
 
 -- what the rules do by the answer of the search
 module _ (L : Limits) (s : State) (attr : ℕ) (b : List ℕ) (x y : ℕ) (ex : x ≡ field 0 2 b) (ey : y ≡ field 2 2 b) (h : 4 ≤ attr) (k : 4 ≤ length b) (z : (isZero (field 0 2 b) && isZero (field 2 2 b)) ≡ false) (o c m g : List ℕ) (e : s .pending ≡ pendingOf o c m g) where
-  clears-by : (v : Found) → v ≡ searchQueues (isFor x y) 255 0 (take 8 (queues o c m)) → request L s clearIoIrq attr b ≡ removes s (leftAt v (take 8 (queues o c m)))
+  clears-by : (v : Found) → v ≡ searchQueues (isFor x y) 255 0 0 (take 8 (queues o c m)) → request L s clearIoIrq attr b ≡ removes s (leftAt v (take 8 (queues o c m)))
   unfolding request clearsIo pendingOf
   clears-by v f =
       passes _ _ _ (le-leb 4 attr h) ∙ passes _ _ _ (le-leb 4 (length b) k) ∙ passes _ _ _ (ap not z)
       ∙ rw (e, ← ex, ← ey, clear-is (isFor x y) (take 8 (queues o c m)) (omega (arith, length-take 8 (queues o c m))), f)
 
-  pub clears-none : (v : Found) → v ≡ None → v ≡ searchQueues (isFor x y) 255 0 (take 8 (queues o c m)) → request L s clearIoIrq attr b ≡ accept 0 (withPending (pendingOf o c m g) s) []
+  pub clears-none : (v : Found) → v ≡ None → v ≡ searchQueues (isFor x y) 255 0 0 (take 8 (queues o c m)) → request L s clearIoIrq attr b ≡ accept 0 (withPending (pendingOf o c m g) s) []
   unfolding removes
   clears-none v w f = clears-by None (sym w ∙ f) ∙ ap (λ (t : State). accept 0 t []) (sym (same-state s (pendingOf o c m g) e))
 
-  pub clears-one : (v : Found) (i j : ℕ) (u d : List ℕ) → i < 8 → v ≡ At (record { 0 = i }) j → v ≡ searchQueues (isFor x y) 255 0 (take 8 (queues o c m))
-      → queues u d m ≡ set (queues o c m) i (removeAt j (getD (queues o c m) i [])) → request L s clearIoIrq attr b ≡ accept 1 (withPending (pendingOf u d m g) s) []
+  pub clears-one : (v : Found) (i k : ℕ) (u d : List ℕ) → v ≡ At (record { 0 = i }) k → v ≡ searchQueues (isFor x y) 255 0 0 (take 8 (queues o c m))
+      → queues u d m ≡ withoutAt k (queues o c m) → request L s clearIoIrq attr b ≡ accept 1 (withPending (pendingOf u d m g) s) []
   unfolding removes
-  clears-one v i j u d l w f q = clears-by (At (record { 0 = i }) j) (sym w ∙ f) ∙ rw (io-left o c u d m g i j l q, e) (unfold pendingOf in refl)
+  clears-one v i k u d w f q =
+      let l = found-below (isFor x y) 255 (take 8 (queues o c m)) i k (sym f ∙ w) in
+      clears-by (At (record { 0 = i }) k) (sym w ∙ f) ∙ rw (io-left o c u d m g k l q, e) (unfold pendingOf in refl)
 
 -- ---- the take: a class of records that hands nothing out
 abbrev pub NoMchk : Pending → Bool → Type 0
@@ -280,20 +296,21 @@ module _ (o c b g : List ℕ) (m : ℕ) (e k : Bool) where
           rw (done-left o c u v b g (rw f (omega arith)) q, n₁, n₂, ee, f)
 
       module _ (n₃ : NoDone (pendingOf o c b g) e) where
-        hands-by : (v : Found) → v ≡ searchQueues (λ r. true) m 0 (take 8 (queues o c b))
+        hands-by : (v : Found) → v ≡ searchQueues (λ r. true) m 0 0 (take 8 (queues o c b))
             → let p = pendingOf o c b g in
             handed p m e k ≡ handIo p (handedAt v (p .io))
         unfolding handed orElse pendingOf
         hands-by v f = rw (n₁, n₂, n₃, take-is m (take 8 (queues o c b)), f)
 
-        pub hands-nothing : (v : Found) → v ≡ None → v ≡ searchQueues (λ r. true) m 0 (take 8 (queues o c b)) → handed (pendingOf o c b g) m e k ≡ none
+        pub hands-nothing : (v : Found) → v ≡ None → v ≡ searchQueues (λ r. true) m 0 0 (take 8 (queues o c b)) → handed (pendingOf o c b g) m e k ≡ none
         hands-nothing v w f = hands-by None (sym w ∙ f)
 
-        pub hands-io : (v : Found) (x j : ℕ) (u d r : List ℕ) → x < 8 → v ≡ At (record { 0 = x }) j → v ≡ searchQueues (λ r. true) m 0 (take 8 (queues o c b))
-            → r ≡ getD (getD (queues o c b) x []) j [] → queues u d b ≡ set (queues o c b) x (removeAt j (getD (queues o c b) x []))
+        pub hands-io : (v : Found) (x n : ℕ) (u d r : List ℕ) → v ≡ At (record { 0 = x }) n → v ≡ searchQueues (λ r. true) m 0 0 (take 8 (queues o c b))
+            → r ≡ getD (flatten (queues o c b)) n [] → queues u d b ≡ withoutAt n (queues o c b)
             → handed (pendingOf o c b g) m e k ≡ some (record { given = r; left = pendingOf u d b g })
-        hands-io v x j u d r h w f er q =
-            hands-by (At (record { 0 = x }) j) (sym w ∙ f) ∙ rw (io-left o c u d b g x j h q, er) (unfold pendingOf in rw (getD-take 8 (queues o c b) x [] h))
+        hands-io v x n u d r w f er q =
+            let l = found-below (λ r. true) m (take 8 (queues o c b)) x n (sym f ∙ w) in
+            hands-by (At (record { 0 = x }) n) (sym w ∙ f) ∙ rw (io-left o c u d b g n l q, er, record-of 8 n (queues o c b) l) (unfold pendingOf in refl)
 
 -- from what is handed out to the answer
 module _ (L : Limits) (s : State) (p : Pending) (m : ℕ) (e k : Bool) (b : List ℕ) (a : Answer) (x : s .pending ≡ p) (h : 72 ≤ length b) where

@@ -9,7 +9,7 @@ ghost use Rattle.rules.specs.State.{Limits, State, withPending, listing};
 ghost use Rattle.rules.specs.Requests.{clearIrqs, getAllIrqs, clearIoIrq, request};
 ghost use Rattle.rules.specs.Take.{takes};
 ghost use Rattle.slots.specs.Slots.{slotCount, removeAt};
-ghost use Rattle.queues.specs.Queues.{sum, queues, Held};
+ghost use Rattle.queues.specs.Queues.{sum, queues, withoutAt, InQueue, Held};
 ghost use Rattle.singles.specs.Singles.{serviceOf, mchkOf};
 ghost use Rattle.answers.specs.Answers.{Answers};
 ghost use Rattle.records.specs.Memory.{pendingOf};
@@ -142,10 +142,10 @@ pub fn clear_io(
     if id.0 == 0 && nr.0 == 0 {
         return answers::refuse(EINVAL);
     }
-    let Found::At(isc, j) = search::find(slots, order, counts, 255, false, id, nr) else {
+    let Found::At(isc, at) = search::find(slots, order, counts, 255, false, id, nr) else {
         return answers::accept(0); // no record is for it
     };
-    queues::remove_io(order, counts, isc, j);
+    queues::remove_io(order, counts, isc, at);
     answers::accept(1)
 }
 
@@ -190,19 +190,19 @@ fn take_done(
     r
 }
 
-// Record k of the queue of a subclass, out of that queue.
+// The record at place at of all, out of the queue of its subclass.
 fn take_io(
     slots: &[u8; SLOT_BYTES],
     order: &mut [u8; ROOM],
     counts: &mut [usize; QUEUES],
     isc: Subclass,
-    k: usize,
+    at: usize,
 ) -> [u8; 72]
-    requires { ⌜ (isc .0 < 8) × (k < getD (now counts) (isc .0) 0) × Held (now order) (now counts) ⌝ }
-    ensures { λ r. ⌜ (r ≡ getD (getD (queues (now (order .entry)) (now (counts .entry)) (now (slots .entry))) (isc .0) []) k []) × ((b : List ℕ) → queues (now (order .exit)) (now (counts .exit)) b ≡ set (queues (now (order .entry)) (now (counts .entry)) b) (isc .0) (removeAt k (getD (queues (now (order .entry)) (now (counts .entry)) b) (isc .0) []))) × Held (now (order .exit)) (now (counts .exit)) ⌝ }
+    requires { ⌜ (isc .0 < 8) × InQueue (now counts) (isc .0) at × Held (now order) (now counts) ⌝ }
+    ensures { λ r. ⌜ (r ≡ getD (flatten (queues (now (order .entry)) (now (counts .entry)) (now (slots .entry)))) at []) × ((b : List ℕ) → queues (now (order .exit)) (now (counts .exit)) b ≡ withoutAt at (queues (now (order .entry)) (now (counts .entry)) b)) × Held (now (order .exit)) (now (counts .exit)) ⌝ }
 {
-    let r = queues::read_io(slots, order, counts, isc, k);
-    queues::remove_io(order, counts, isc, k);
+    let r = queues::read(slots, order, counts, at);
+    queues::remove_io(order, counts, isc, at);
     r
 }
 
@@ -237,7 +237,7 @@ pub fn take(
         let r = take_done(slots, order, counts);
         return hand(out, r);
     }
-    let Found::At(isc, j) = search::find(
+    let Found::At(isc, at) = search::find(
         slots,
         order,
         counts,
@@ -248,6 +248,6 @@ pub fn take(
     ) else {
         return answers::accept(0); // the buffer is not touched
     };
-    let r = take_io(slots, order, counts, isc, j);
+    let r = take_io(slots, order, counts, isc, at);
     hand(out, r)
 }

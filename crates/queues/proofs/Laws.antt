@@ -2,16 +2,18 @@
 use mathlib.Core.Path.{_≡_, refl, sym, ap, _∙_}
 use mathlib.Core.List.{List, [], _∷_, _++_, flatten, append-assoc, append-nil}
 use Prim.Native.Nat.{ℕ, zero, suc, _+_, _-_, _*_, _≤_, _<_}
-use native.Mathlib.Nat.{zero-add, add-assoc, suc-mul, not-suc-le-zero, le-of-suc-le-suc}
+use native.Mathlib.Nat.{add-assoc, suc-mul, not-suc-le-zero, le-of-suc-le-suc}
 use native.Mathlib.Numerals.{add-one}
 use native.Mathlib.Omega.{arith}
+use borrow.Author.Tests.{lt-ltb, le-ltb}
 use lib.ListN.{length, take, drop, getD, set, replicate, length-drop, length-append, take-append-drop}
-use lib.Seq.{take-all, take-length, take-suc, append-snoc, length-take-le, take-at, drop-at, drop-drop, take-append-add, drop-append-add, take-append-le, drop-append-le, getD-take, getD-drop, paste}
+use lib.Seq.{take-all, take-length, take-suc, append-snoc, length-take-le, take-at, drop-at, drop-drop, take-append-add, drop-append-add, take-append-le, drop-append-le, getD-append-add, paste}
+use Rattle.rules.specs.Bytes.{choose}
 use Rattle.rules.specs.State.{Record}
 use Rattle.rules.proofs.Lists.{All, flatten-append}
 use Rattle.slots.specs.Slots.{slotCount, insertAt, removeAt, listed, Apart}
 use Rattle.slots.proofs.Laws.{length-removeAt, length-listed, every-record}
-use Rattle.queues.specs.Queues.{sum, cut, queues, Held}
+use Rattle.queues.specs.Queues.{sum, cut, queues, withoutAt, InQueue, Held}
 
 -- ---- sums of counts
 sum-more : (cs : List ℕ) (i : ℕ) → i < length cs → sum (take (suc i) cs) ≡ sum (take i cs) + getD cs i 0
@@ -75,26 +77,59 @@ module _ {A : Type 0} where
       let r = cut-insert cs (drop c l) q x (le-of-suc-le-suc h) (length-drop c l ∙ omega arith) in
       rw (f, take-at p (insertAt k x (drop c l)) c lp, drop-at p (insertAt k x (drop c l)) c lp, r)
 
-  cut-remove : (cs : List ℕ) (l : List A) (q j : ℕ) → q < length cs → j < getD cs q 0 → length l ≡ sum cs
-      → cut (set cs q (getD cs q 0 - 1)) (removeAt (sum (take q cs) + j) l) ≡ set (cut cs l) q (removeAt j (getD (cut cs l) q []))
+  -- a place within the first queue, and a place past it
+  pub without-here : (k : ℕ) (q : List A) (qs : List (List A)) → k < length q → withoutAt k (q ∷ qs) ≡ removeAt k q ∷ qs
+  unfolding withoutAt choose
+  without-here k q qs h = rw (lt-ltb k (length q) h)
+
+  pub without-past : (k : ℕ) (q : List A) (qs : List (List A)) → withoutAt (length q + k) (q ∷ qs) ≡ q ∷ withoutAt k qs
+  unfolding withoutAt choose
+  without-past k q qs =
+      let e : length q + k - length q ≡ k = omega arith in
+      rw (le-ltb (length q + k) (length q) (omega arith), e)
+
+  cut-remove : (cs : List ℕ) (l : List A) (q k : ℕ) → sum (take q cs) ≤ k → k < sum (take (suc q) cs) → length l ≡ sum cs
+      → cut (set cs q (getD cs q 0 - 1)) (removeAt k l) ≡ withoutAt k (cut cs l)
   unfolding sum cut
-  cut-remove [] l q j h k e = absurd (not-suc-le-zero h)
-  cut-remove (c ∷ cs) l zero j h k e =
+  cut-remove [] l q k f b e = absurd (not-suc-le-zero b)
+  cut-remove (c ∷ cs) l zero k f b e =
       let p : List A = take c l in
       let lp : length p ≡ c = length-take-le c l (omega arith) in
-      let lr : length (removeAt j p) ≡ c - 1 = length-removeAt j p (omega arith) ∙ ap (λ (n : ℕ). n - 1) lp in
-      let f : removeAt (0 + j) l ≡ removeAt j p ++ drop c l =
-      (λ i. removeAt (zero-add j i) (sym (take-append-drop c l) i)) ∙ removeAt-front j p (drop c l) (omega arith) in
-      rw (f, take-at (removeAt j p) (drop c l) (c - 1) lr, drop-at (removeAt j p) (drop c l) (c - 1) lr)
-  cut-remove (c ∷ cs) l (suc q) j h k e =
+      let lr : length (removeAt k p) ≡ c - 1 = length-removeAt k p (omega arith) ∙ ap (λ (n : ℕ). n - 1) lp in
+      let g : removeAt k l ≡ removeAt k p ++ drop c l =
+      (λ i. removeAt k (sym (take-append-drop c l) i)) ∙ removeAt-front k p (drop c l) (omega arith) in
+      rw (g, take-at (removeAt k p) (drop c l) (c - 1) lr, drop-at (removeAt k p) (drop c l) (c - 1) lr)
+      (sym (without-here k p (cut cs (drop c l)) (omega arith)))
+  cut-remove (c ∷ cs) l (suc q) k f b e =
       let p : List A = take c l in
-      let m : ℕ = sum (take q cs) + j in
+      let m : ℕ = k - c in
       let lp : length p ≡ c = length-take-le c l (omega arith) in
-      let a : c + sum (take q cs) + j ≡ length p + m = omega arith in
-      let f : removeAt (c + sum (take q cs) + j) l ≡ p ++ removeAt m (drop c l) =
+      let a : k ≡ length p + m = omega arith in
+      let g : removeAt k l ≡ p ++ removeAt m (drop c l) =
       (λ i. removeAt (a i) (sym (take-append-drop c l) i)) ∙ removeAt-past m p (drop c l) in
-      let r = cut-remove cs (drop c l) q j (le-of-suc-le-suc h) k (length-drop c l ∙ omega arith) in
-      rw (f, take-at p (removeAt m (drop c l)) c lp, drop-at p (removeAt m (drop c l)) c lp, r)
+      let r = cut-remove cs (drop c l) q m (omega arith) (omega arith) (length-drop c l ∙ omega arith) in
+      rw (g, take-at p (removeAt m (drop c l)) c lp, drop-at p (removeAt m (drop c l)) c lp, r)
+      (sym (ap (λ (n : ℕ). withoutAt n (p ∷ cut cs (drop c l))) a ∙ without-past m p (cut cs (drop c l))))
+
+  -- the place of the first record of a queue is the number of records before that queue
+  first-of : (q : ℕ) (qs : List (List A)) (d : A) → 0 < length (getD qs q [])
+      → let k = length (flatten (take q qs)) in
+      (withoutAt k qs ≡ set qs q (removeAt 0 (getD qs q []))) × (getD (flatten qs) k d ≡ getD (getD qs q []) 0 d)
+  unfolding flatten
+  first-of zero [] d h = absurd (not-suc-le-zero h)
+  first-of zero ([] ∷ qs) d h = absurd (not-suc-le-zero h)
+  first-of zero ((x ∷ q) ∷ qs) d h = (without-here 0 (x ∷ q) qs h, refl)
+  first-of (suc n) [] d h = absurd (not-suc-le-zero h)
+  first-of (suc n) (q ∷ qs) d h =
+      let r = first-of n qs d h in
+      (rw (length-append, without-past, r .0), rw (length-append, getD-append-add, r .1))
+
+  length-flatten-cut : (n : ℕ) (cs : List ℕ) (l : List A) → sum cs ≤ length l → length (flatten (take n (cut cs l))) ≡ sum (take n cs)
+  unfolding sum cut flatten
+  length-flatten-cut zero cs l h = refl
+  length-flatten-cut (suc n) [] l h = refl
+  length-flatten-cut (suc n) (c ∷ cs) l h =
+      rw (length-append, length-take-le c l (omega arith), length-flatten-cut n cs (drop c l) (rw length-drop (omega arith)))
 
   length-cut : (cs : List ℕ) (l : List A) → length (cut cs l) ≡ length cs
   unfolding cut
@@ -150,6 +185,10 @@ pub flatten-queues : (o c b : List ℕ) → sum c ≤ length o → flatten (queu
 unfolding queues
 flatten-queues o c b h = flatten-cut c (listed 72 o (sum c) b) (length-listed 72 o (sum c) b h)
 
+length-flatten-first : (o c b : List ℕ) (n : ℕ) → sum c ≤ length o → length (flatten (take n (queues o c b))) ≡ sum (take n c)
+unfolding queues
+length-flatten-first o c b n h = length-flatten-cut n c (listed 72 o (sum c) b) (omega (arith, length-listed 72 o (sum c) b h))
+
 pub length-flatten-queues : (o c b : List ℕ) → sum c ≤ length o → length (flatten (queues o c b)) ≡ sum c
 length-flatten-queues o c b h = ap length (flatten-queues o c b h) ∙ length-listed 72 o (sum c) b h
 
@@ -165,15 +204,10 @@ pub sum-none : sum (replicate 9 0) ≡ 0
 unfolding sum
 sum-none = refl
 
--- ---- what read, append and remove leave
+-- ---- what append and remove leave
 module _ (o c : List ℕ) (q n : ℕ) (h : q < length c) (k : sum c ≤ length o) (en : n ≡ sum (take (length c) c)) where
   en′ : n ≡ sum c
   en′ = en ∙ sum-all c
-
-  pub read-gives : (b : List ℕ) (j at : ℕ) (r : Record) → j < getD c q 0 → at ≡ sum (take q c) → r ≡ getD (listed 72 o n b) (at + j) []
-      → r ≡ getD (getD (queues o c b) q []) j []
-  unfolding queues
-  read-gives b j at r hj ea e = rw (e, cut-at c (listed 72 o (sum c) b) q h, getD-take, getD-drop, ea, en′)
 
   module _ (u : List ℕ) (a : Apart u) where
     pub append-leaves : (b d r : List ℕ) (at : ℕ) → sum c < slotCount → at ≡ sum (take (q + 1) c) → listed 72 u (n + 1) d ≡ insertAt at r (listed 72 o n b)
@@ -185,15 +219,26 @@ module _ (o c : List ℕ) (q n : ℕ) (h : q < length c) (k : sum c ≤ length o
         let e′ : listed 72 u (sum c + 1) d ≡ insertAt (sum (take (suc q) c)) r (listed 72 o (sum c) b) = rw (en′, ea, add-one q) at e in
         (rw (s, e′) (cut-insert c (listed 72 o (sum c) b) q r h (length-listed 72 o (sum c) b k)), (record { apart = a; few = omega arith }, s))
 
-    pub remove-leaves : (j at : ℕ) → j < getD c q 0 → sum c ≤ slotCount → at ≡ sum (take q c) → ((b : List ℕ) → listed 72 u (n - 1) b ≡ removeAt (at + j) (listed 72 o n b))
-        → ((b : List ℕ) → queues u (set c q (getD c q 0 - 1)) b ≡ set (queues o c b) q (removeAt j (getD (queues o c b) q [])))
+    pub remove-leaves : (at : ℕ) → InQueue c q at → sum c ≤ slotCount → ((b : List ℕ) → listed 72 u (n - 1) b ≡ removeAt at (listed 72 o n b))
+        → ((b : List ℕ) → queues u (set c q (getD c q 0 - 1)) b ≡ withoutAt at (queues o c b))
         × (Held u (set c q (getD c q 0 - 1)) × (sum (set c q (getD c q 0 - 1)) ≡ sum c - 1))
     unfolding queues
-    remove-leaves j at hj m ea e =
-        let s : sum (set c q (getD c q 0 - 1)) ≡ sum c - 1 = omega (arith, sum-set c q (getD c q 0 - 1) h) in (
-          λ b. rw (s, (rw (en′, ea) at (e b))) (cut-remove c (listed 72 o (sum c) b) q j h hj (length-listed 72 o (sum c) b k)),
+    remove-leaves at i m e =
+        let s : sum (set c q (getD c q 0 - 1)) ≡ sum c - 1 = omega (arith, sum-set c q (getD c q 0 - 1) h, sum-next c q h) in (
+          λ b. rw (s, (rw en′ at (e b))) (cut-remove c (listed 72 o (sum c) b) q at (i .from) (rw add-one at (i .below)) (length-listed 72 o (sum c) b k)),
           (record { apart = a; few = omega arith }, s),
         )
+
+-- ---- the oldest record of a queue
+module _ (o c : List ℕ) (q n : ℕ) (h : q < length c) (few : sum c ≤ length o) (k : 0 < getD c q 0) (en : n ≡ sum (take q c)) where
+  pub oldest-in : InQueue c q n
+  oldest-in = record { from = omega arith; below = omega (arith, sum-next c q h) }
+
+  pub oldest-is : (b : List ℕ) → (withoutAt n (queues o c b) ≡ set (queues o c b) q (removeAt 0 (getD (queues o c b) q [])))
+      × (getD (flatten (queues o c b)) n [] ≡ getD (getD (queues o c b) q []) 0 [])
+  oldest-is b =
+      let e : length (flatten (take q (queues o c b))) ≡ n = length-flatten-first o c b q few ∙ sym en in
+      rw e at (first-of q (queues o c b) [] (omega (arith, length-queue o c b q h few)))
 
 -- ---- a turn of list: a record of w bytes is pasted where k records end
 flatten-next : (l : List Record) (k : ℕ) → k < length l → flatten (take (k + 1) l) ≡ flatten (take k l) ++ getD l k []

@@ -5,7 +5,7 @@ ghost use mathlib.Core.List.{List, [], _∷_, _++_, flatten};
 ghost use Prim.Native.Nat.{ℕ, _+_, _*_, _-_, _≤_, _<_};
 ghost use lib.ListN.{length, getD, set, take, drop, replicate};
 ghost use Rattle.slots.specs.Slots.{slotCount, removeAt};
-ghost use Rattle.queues.specs.Queues.{sum, queues, Held};
+ghost use Rattle.queues.specs.Queues.{sum, queues, withoutAt, InQueue, Held};
 use words::QUEUES;
 use words::ROOM;
 use words::SLOT_BYTES;
@@ -45,27 +45,25 @@ fn append(b: &mut [u8], o: &mut [u8], c: &mut [usize], q: usize, n: usize, r: [u
     c[q] = c[q] + 1;
 }
 
-// Takes record j out of queue q.
-fn remove(o: &mut [u8], c: &mut [usize], q: usize, j: usize)
-    requires { ⌜ (q < length (now c)) × (j < getD (now c) q 0) × (length (now o) ≡ slotCount) × Held (now o) (now c) ⌝ }
-    ensures queue { λ _. ⌜ ((b : List ℕ) → queues (now (o .exit)) (now (c .exit)) b ≡ set (queues (now (o .entry)) (now (c .entry)) b) q (removeAt j (getD (queues (now (o .entry)) (now (c .entry)) b) q []))) ⌝ }
+// Takes the record at place at of all out of queue q, in which it is.
+fn remove(o: &mut [u8], c: &mut [usize], q: usize, at: usize)
+    requires { ⌜ (q < length (now c)) × InQueue (now c) q at × (length (now o) ≡ slotCount) × Held (now o) (now c) ⌝ }
+    ensures queue { λ _. ⌜ ((b : List ℕ) → queues (now (o .exit)) (now (c .exit)) b ≡ withoutAt at (queues (now (o .entry)) (now (c .entry)) b)) ⌝ }
     ensures held { λ _. ⌜ Held (now (o .exit)) (now (c .exit)) ⌝ }
     ensures count { λ _. ⌜ sum (now (c .exit)) ≡ sum (now (c .entry)) - 1 ⌝ }
 {
-    let at = start(c, q) + j;
     let n = start(c, c.len());
     slots::remove(o, n, at);
     c[q] = c[q] - 1;
 }
 
-// Record j of queue q.
-fn read(b: &[u8], o: &[u8], c: &[usize], q: usize, j: usize) -> [u8; 72]
-    requires { ⌜ (q < length (now c)) × (j < getD (now c) q 0) × (length (now o) ≡ slotCount) × (slotCount * 72 ≤ length (now b)) × Held (now o) (now c) ⌝ }
-    ensures { λ r. ⌜ r ≡ getD (getD (queues (now (o .entry)) (now (c .entry)) (now (b .entry))) q []) j [] ⌝ }
+// The record at place at of all.
+pub fn read(b: &[u8; SLOT_BYTES], o: &[u8; ROOM], c: &[usize; QUEUES], at: usize) -> [u8; 72]
+    requires { ⌜ (at < sum (now c)) × Held (now o) (now c) ⌝ }
+    ensures { λ r. ⌜ r ≡ getD (flatten (queues (now (o .entry)) (now (c .entry)) (now (b .entry)))) at [] ⌝ }
 {
-    let k = start(c, q) + j;
-    let n = start(c, c.len());
-    slots::read(b, o, n, k)
+    let n = queued(c);
+    slots::read(b, o, n, at)
 }
 
 // An I/O record joins the queue of its subclass, where the nine hold n records.
@@ -102,15 +100,15 @@ pub fn append_done(
     append(b, o, c, 8, n, r);
 }
 
-// Record j of the queue of a subclass leaves it.
-pub fn remove_io(o: &mut [u8; ROOM], c: &mut [usize; QUEUES], isc: Subclass, j: usize)
-    requires { ⌜ (isc .0 < 8) × (j < getD (now c) (isc .0) 0) × Held (now o) (now c) ⌝ }
-    ensures queue { λ _. ⌜ ((b : List ℕ) → queues (now (o .exit)) (now (c .exit)) b ≡ set (queues (now (o .entry)) (now (c .entry)) b) (isc .0) (removeAt j (getD (queues (now (o .entry)) (now (c .entry)) b) (isc .0) []))) ⌝ }
+// The record at place at of all leaves the queue of its subclass.
+pub fn remove_io(o: &mut [u8; ROOM], c: &mut [usize; QUEUES], isc: Subclass, at: usize)
+    requires { ⌜ (isc .0 < 8) × InQueue (now c) (isc .0) at × Held (now o) (now c) ⌝ }
+    ensures queue { λ _. ⌜ ((b : List ℕ) → queues (now (o .exit)) (now (c .exit)) b ≡ withoutAt at (queues (now (o .entry)) (now (c .entry)) b)) ⌝ }
     ensures held { λ _. ⌜ Held (now (o .exit)) (now (c .exit)) ⌝ }
     ensures count { λ _. ⌜ sum (now (c .exit)) ≡ sum (now (c .entry)) - 1 ⌝ }
 {
     let q = words::index(isc.0);
-    remove(o, c, q, j);
+    remove(o, c, q, at);
 }
 
 // The oldest finished page fault leaves its queue.
@@ -120,22 +118,8 @@ pub fn remove_done(o: &mut [u8; ROOM], c: &mut [usize; QUEUES])
     ensures held { λ _. ⌜ Held (now (o .exit)) (now (c .exit)) ⌝ }
     ensures count { λ _. ⌜ sum (now (c .exit)) ≡ sum (now (c .entry)) - 1 ⌝ }
 {
-    remove(o, c, 8, 0);
-}
-
-// Record j of the queue of a subclass.
-pub fn read_io(
-    b: &[u8; SLOT_BYTES],
-    o: &[u8; ROOM],
-    c: &[usize; QUEUES],
-    isc: Subclass,
-    j: usize,
-) -> [u8; 72]
-    requires { ⌜ (isc .0 < 8) × (j < getD (now c) (isc .0) 0) × Held (now o) (now c) ⌝ }
-    ensures { λ r. ⌜ r ≡ getD (getD (queues (now (o .entry)) (now (c .entry)) (now (b .entry))) (isc .0) []) j [] ⌝ }
-{
-    let q = words::index(isc.0);
-    read(b, o, c, q, j)
+    let at = start(c, 8);
+    remove(o, c, 8, at);
 }
 
 // The oldest finished page fault.
@@ -143,7 +127,10 @@ pub fn read_done(b: &[u8; SLOT_BYTES], o: &[u8; ROOM], c: &[usize; QUEUES]) -> [
     requires { ⌜ (0 < getD (now c) 8 0) × Held (now o) (now c) ⌝ }
     ensures { λ r. ⌜ r ≡ getD (getD (queues (now (o .entry)) (now (c .entry)) (now (b .entry))) 8 []) 0 [] ⌝ }
 {
-    read(b, o, c, 8, 0)
+    // As a slice: what makes one of an array says its length.
+    let _o: &[u8] = o;
+    let at = start(c, 8);
+    read(b, o, c, at)
 }
 
 // How many finished page faults wait.

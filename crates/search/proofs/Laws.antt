@@ -1,14 +1,15 @@
 -- Laws of the queues that the order and the counts say, of the search over them, and of what the rules do at the place that it finds. Assumes nothing.
-use mathlib.Core.Path.{_≡_, refl, _∙_}
+use mathlib.Core.Path.{_≡_, refl}
 use mathlib.Core.Bool.{Bool, true, false, _&&_}
 use mathlib.Core.Option.{none, some}
-use mathlib.Core.List.{List, [], _∷_}
+use mathlib.Core.List.{List, [], _∷_, _++_, flatten}
 use Prim.Native.Nat.{ℕ, zero, suc, _+_, _-_, _*_, _≤_, _<_}
+use native.Mathlib.Nat.{add-assoc}
 use native.Mathlib.Numerals.{add-one}
 use native.Mathlib.Omega.{arith}
 use lib.Dec.{eqb}
-use lib.ListN.{length, take, drop, getD, length-take, drop-of-length-le}
-use lib.Seq.{drop-cons, drop-drop, take-take, getD-take, getD-drop}
+use lib.ListN.{length, take, drop, getD, length-take, length-append, drop-of-length-le}
+use lib.Seq.{drop-cons, drop-drop, take-take, getD-take, getD-drop, getD-append-add}
 use Rattle.rules.specs.Bytes.{choose, field}
 use Rattle.rules.specs.State.{Record, hasBit}
 use Rattle.rules.specs.Requests.{isFor, consTo, without, orIn, withoutFirst}
@@ -17,7 +18,7 @@ use Rattle.words.proofs.Laws.{drop-take}
 use Rattle.slots.specs.Slots.{removeAt, slot, listed}
 use Rattle.slots.proofs.Laws.{listed-at}
 use Rattle.queues.specs.Queues.{sum, queues}
-use Rattle.queues.proofs.Laws.{sum-next, cut-at, length-queues, length-queue}
+use Rattle.queues.proofs.Laws.{sum-next, cut-at, without-here, without-past, length-queues, length-queue}
 use Rattle.search.specs.declared.Found.{Found}
 use Rattle.search.specs.declared.Found.the-variants.{At, None}
 use Rattle.search.specs.Search.{searchQueue, searchQueues, leftAt, handedAt}
@@ -45,159 +46,136 @@ queue-record o c b i h few j k =
 
 -- ---- the search of the first eight, turn by turn
 module _ (o c b : List ℕ) (f : Record → Bool) (mask i : ℕ) where
-  abbrev pub later : Found
-  later = searchQueues f mask (i + 1) (drop (i + 1) (take 8 (queues o c b)))
-
-  pub search-over : 8 ≤ i → searchQueues f mask i (drop i (take 8 (queues o c b))) ≡ None
+  pub search-over : (s : ℕ) → 8 ≤ i → searchQueues f mask i s (drop i (take 8 (queues o c b))) ≡ None
   unfolding searchQueues
-  search-over h = rw (drop-of-length-le (take 8 (queues o c b)) {i = i} (rw length-take (omega arith)))
+  search-over s h = rw (drop-of-length-le (take 8 (queues o c b)) {i = i} (rw length-take (omega arith)))
 
-  module _ (h : i < 8) (nine : length c ≡ 9) where
-    pub search-queue : searchQueues f mask i (drop i (take 8 (queues o c b))) ≡ choose (hasBit i mask) (searchQueue f i 0 (getD (queues o c b) i []) later) later
-    unfolding searchQueues
-    search-queue =
-        let n : i < length (take 8 (queues o c b)) = rw (length-take, length-queues) (omega arith) in
-        rw (add-one, drop-cons (take 8 (queues o c b)) i [] n, getD-take 8 (queues o c b) i [] h)
+  -- the queue's records are at the places from s on and before e
+  module _ (e : ℕ) where
+    abbrev pub later : Found
+    later = searchQueues f mask (i + 1) e (drop (i + 1) (take 8 (queues o c b)))
 
-    module _ (few : sum c ≤ length o) (j : ℕ) where
-      pub search-end : getD c i 0 ≤ j → searchQueue f i j (drop j (getD (queues o c b) i [])) later ≡ later
-      unfolding searchQueue
-      search-end k = rw (drop-of-length-le (getD (queues o c b) i []) {i = j} (rw (length-queue o c b i (omega arith) few) k))
+    module _ (h : i < 8) (nine : length c ≡ 9) (few : sum c ≤ length o) (s : ℕ) (ee : e ≡ s + getD c i 0) where
+      pub search-queue : searchQueues f mask i s (drop i (take 8 (queues o c b))) ≡ choose (hasBit i mask) (searchQueue f i s (getD (queues o c b) i []) later) later
+      unfolding searchQueues
+      search-queue =
+          let n : i < length (take 8 (queues o c b)) = rw (length-take, length-queues) (omega arith) in
+          rw (ee, add-one, drop-cons (take 8 (queues o c b)) i [] n, getD-take 8 (queues o c b) i [] h, length-queue o c b i (omega arith) few)
 
-      pub search-record : (w : Found) (on x : Bool) (k : ℕ) → w ≡ choose on (searchQueue f i j (drop j (getD (queues o c b) i [])) later) later → on ≡ true
-          → j < getD c i 0 → k ≡ sum (take i c) → f (slot 72 b (getD o (k + j) 0)) ≡ x
-          → w ≡ choose x (At (record { 0 = i }) j) (searchQueue f i (j + 1) (drop (j + 1) (getD (queues o c b) i [])) later)
-      unfolding searchQueue choose
-      search-record w on x k e t l ek ex =
-          let n : j < length (getD (queues o c b) i []) = rw (length-queue o c b i (omega arith) few) l in
-          rw (e, t, add-one j, drop-cons (getD (queues o c b) i []) j [] n, queue-record o c b i (omega arith) few j l, ← ek, ex)
+      module _ (k : ℕ) (from : s ≤ k) where
+        pub search-end : e ≤ k → searchQueue f i k (drop (k - s) (getD (queues o c b) i [])) later ≡ later
+        unfolding searchQueue
+        search-end l = rw (drop-of-length-le (getD (queues o c b) i []) {i = k - s} (rw (length-queue o c b i (omega arith) few) (omega arith)))
 
--- ---- what holds of every place that is found
-choose-is : (P : Found → Type 0) (t : Bool) (a b : Found) → P a → P b → P (choose t a b)
+        pub search-record : (w : Found) (on x : Bool) → w ≡ choose on (searchQueue f i k (drop (k - s) (getD (queues o c b) i [])) later) later → on ≡ true
+            → k < e → s ≡ sum (take i c) → f (slot 72 b (getD o k 0)) ≡ x
+            → w ≡ choose x (At (record { 0 = i }) k) (searchQueue f i (k + 1) (drop (k + 1 - s) (getD (queues o c b) i [])) later)
+        unfolding searchQueue choose
+        search-record w on x ew t l es ex =
+            let n : k - s < length (getD (queues o c b) i []) = rw (length-queue o c b i (omega arith) few) (omega arith) in
+            let next : k + 1 - s ≡ suc (k - s) = omega arith in
+            let place : sum (take i c) + (k - s) ≡ k = omega arith in
+            rw (ew, t, next, add-one k, drop-cons (getD (queues o c b) i []) (k - s) [] n, queue-record o c b i (omega arith) few (k - s) (omega arith), place, ex)
+
+-- ---- a place that is found is one of the queues' records
+abbrev Below : ℕ → Found → Type 0
+Below n None = Unit {0}
+Below n (At s k) = k < n
+
+below-choose : (n : ℕ) (t : Bool) (v w : Found) → Below n v → Below n w → Below n (choose t v w)
 unfolding choose
-choose-is P true a b h k = h
-choose-is P false a b h k = k
+below-choose n true v w h l = h
+below-choose n false v w h l = l
 
-queue-is : (P : Found → Type 0) (f : Record → Bool) (i j : ℕ) (q : List Record) (later : Found)
-    → ((k : ℕ) → k < length q → P (At (record { 0 = i }) (j + k))) → P later → P (searchQueue f i j q later)
+below-queue : (n : ℕ) (f : Record → Bool) (i k : ℕ) (q : List Record) (later : Found) → k + length q ≤ n → Below n later → Below n (searchQueue f i k q later)
 unfolding searchQueue
-queue-is P f i j [] later h k = k
-queue-is P f i j (r ∷ q) later h k =
-    let e : j + 0 ≡ j = omega arith in
-    choose-is P (f r) _ _ (rw e at (h 0 (omega arith)))
-    (queue-is P f i (suc j) q later (λ m l. let e : suc j + m ≡ j + suc m = omega arith in rw e (h (suc m) (omega arith))) k)
+below-queue n f i k [] later h l = l
+below-queue n f i k (r ∷ q) later h l = below-choose n (f r) _ _ (omega arith) (below-queue n f i (suc k) q later (omega arith) l)
 
-abbrev Within : ℕ → List (List Record) → Found → Type 0
-Within n qs None = Unit {0}
-Within n qs (At s j) = (s .0 < n + length qs) × (n ≤ s .0) × (j < length (getD qs (s .0 - n) []))
+below : (f : Record → Bool) (mask i k : ℕ) (qs : List (List Record)) → Below (k + length (flatten qs)) (searchQueues f mask i k qs)
+unfolding searchQueues flatten
+below f mask i k [] = tt
+below f mask i k (q ∷ qs) =
+    let e : k + length (q ++ flatten qs) ≡ k + length q + length (flatten qs) = omega (arith, length-append q (flatten qs)) in
+    let l = below f mask (suc i) (k + length q) qs in
+    rw e (below-choose _ (hasBit i mask) _ _ (below-queue _ f i k q _ (omega arith) l) l)
 
-within-later : (n : ℕ) (q : List Record) (qs : List (List Record)) (v : Found) → Within (suc n) qs v → Within n (q ∷ qs) v
-within-later n q qs None h = tt
-within-later n q qs (At s j) h =
-    let e : s .0 - n ≡ suc (s .0 - suc n) = omega arith in
-    (omega arith, omega arith, rw e (h .2))
+pub found-below : (f : Record → Bool) (mask : ℕ) (qs : List (List Record)) (x k : ℕ) → searchQueues f mask 0 0 qs ≡ At (record { 0 = x }) k → k < length (flatten qs)
+found-below f mask qs x k e = omega (arith, rw e at (below f mask 0 0 qs))
 
-within : (f : Record → Bool) (mask n : ℕ) (qs : List (List Record)) → Within n qs (searchQueues f mask n qs)
-unfolding searchQueues
-within f mask n [] = tt
-within f mask n (q ∷ qs) =
-    let later = within-later n q qs (searchQueues f mask (suc n) qs) (within f mask (suc n) qs) in
-    let e : n - n ≡ 0 = omega arith in
-    choose-is (Within n (q ∷ qs)) (hasBit n mask) _ _
-    (queue-is (Within n (q ∷ qs)) f n 0 q _ (λ k l. (omega arith, omega arith, rw e (omega arith))) later) later
+-- ---- a search with more records before the queues finds the same, that many places on
+abbrev shift : ℕ → Found → Found
+shift a None = None
+shift a (At s k) = At s (a + k)
 
-pub found-in : (f : Record → Bool) (mask n : ℕ) (qs : List (List Record)) (x j : ℕ) → searchQueues f mask n qs ≡ At (record { 0 = x }) j
-    → (x < n + length qs) × (n ≤ x) × (j < length (getD qs (x - n) []))
-found-in f mask n qs x j e = rw e at (within f mask n qs)
-
-pub found-first : (f : Record → Bool) (mask : ℕ) (qs : List (List Record)) (x j : ℕ) → searchQueues f mask 0 qs ≡ At (record { 0 = x }) j
-    → (x < length qs) × (j < length (getD qs x []))
-found-first f mask qs x j e =
-    let z : x - 0 ≡ x = omega arith in
-    let h = found-in f mask 0 qs x j e in
-    (omega arith, rw z at (h .2))
-
--- ---- places counted from a subclass on: the search of queues is that of the first, then that of the rest one on
-abbrev pub countedFrom : ℕ → Found → Found
-countedFrom n None = None
-countedFrom n (At s j) = At (record { 0 = s .0 - n }) j
-
-abbrev next : Found → Found
-next None = None
-next (At s j) = At (record { 0 = suc (s .0) }) j
-
-counted-next : (n : ℕ) (qs : List (List Record)) (v : Found) → Within (suc n) qs v → countedFrom n v ≡ next (countedFrom (suc n) v)
-counted-next n qs None h = refl
-counted-next n qs (At s j) h =
-    let e : s .0 - n ≡ suc (s .0 - suc n) = omega arith in
-    rw e
-
-counted-choose : (n : ℕ) (t : Bool) (a b : Found) → countedFrom n (choose t a b) ≡ choose t (countedFrom n a) (countedFrom n b)
+shift-choose : (a : ℕ) (t : Bool) (v w : Found) → shift a (choose t v w) ≡ choose t (shift a v) (shift a w)
 unfolding choose
-counted-choose n true a b = refl
-counted-choose n false a b = refl
+shift-choose a true v w = refl
+shift-choose a false v w = refl
 
-counted-queue : (f : Record → Bool) (n j : ℕ) (q : List Record) (later : Found)
-    → countedFrom n (searchQueue f n j q later) ≡ searchQueue f 0 j q (countedFrom n later)
+shift-queue : (a : ℕ) (f : Record → Bool) (i k : ℕ) (q : List Record) (later : Found)
+    → shift a (searchQueue f i k q later) ≡ searchQueue f i (a + k) q (shift a later)
 unfolding searchQueue
-counted-queue f n j [] later = refl
-counted-queue f n j (r ∷ q) later =
-    let e : n - n ≡ 0 = omega arith in
-    rw (counted-choose, counted-queue f n (suc j) q later, e)
+shift-queue a f i k [] later = refl
+shift-queue a f i k (r ∷ q) later =
+    let e : a + suc k ≡ suc (a + k) = omega arith in
+    rw (shift-choose, shift-queue a f i (suc k) q later, e)
 
-counted-queues : (f : Record → Bool) (mask n : ℕ) (q : List Record) (qs : List (List Record))
-    → let later = next (countedFrom (suc n) (searchQueues f mask (suc n) qs)) in
-    countedFrom n (searchQueues f mask n (q ∷ qs)) ≡ choose (hasBit n mask) (searchQueue f 0 0 q later) later
+shift-queues : (a : ℕ) (f : Record → Bool) (mask n k : ℕ) (qs : List (List Record)) → shift a (searchQueues f mask n k qs) ≡ searchQueues f mask n (a + k) qs
 unfolding searchQueues
-counted-queues f mask n q qs =
-    rw (counted-choose, counted-queue, counted-next n qs _ (within f mask (suc n) qs))
+shift-queues a f mask n k [] = refl
+shift-queues a f mask n k (q ∷ qs) =
+    rw (shift-choose, shift-queue, shift-queues a f mask (suc n) (k + length q) qs, add-assoc)
 
-counted-zero : (v : Found) → countedFrom 0 v ≡ v
-counted-zero None = refl
-counted-zero (At s j) =
-    let e : s .0 - 0 ≡ s .0 = omega arith in
-    rw e
+-- the search of the queues behind q
+behind : (q : List Record) (f : Record → Bool) (mask n : ℕ) (qs : List (List Record))
+    → searchQueues f mask n (0 + length q) qs ≡ shift (length q) (searchQueues f mask n 0 qs)
+behind q f mask n qs =
+    let e : 0 + length q ≡ length q + 0 = omega arith in
+    rw (e, shift-queues)
 
 -- ---- the take
-keep-next : (q : List Record) (qs : List (List Record)) (v : Found) → keep q (handedAt v qs) ≡ handedAt (next v) (q ∷ qs)
+keep-next : (q : List Record) (qs : List (List Record)) (v : Found) → keep q (handedAt v qs) ≡ handedAt (shift (length q) v) (q ∷ qs)
+unfolding flatten
 keep-next q qs None = refl
-keep-next q qs (At s j) = refl
+keep-next q qs (At s k) = rw (getD-append-add, without-past)
 
 choose-same : {A : Type 0} (t : Bool) (a : A) → choose t a a ≡ a
 unfolding choose
 choose-same true a = refl
 choose-same false a = refl
 
-take-here : (t : Bool) (r : Record) (q : List Record) (qs : List (List Record)) (v : Found)
-    → choose t (some (record { given = r; left = q ∷ qs })) (keep (r ∷ q) (handedAt v qs)) ≡ handedAt (choose t (At (record { 0 = 0 }) 0) (next v)) ((r ∷ q) ∷ qs)
-unfolding choose removeAt
-take-here true r q qs v = refl
-take-here false r q qs v = keep-next (r ∷ q) qs v
+take-here : (t : Bool) (n : ℕ) (r : Record) (q : List Record) (qs : List (List Record)) (v : Found)
+    → choose t (some (record { given = r; left = q ∷ qs })) (keep (r ∷ q) (handedAt v qs))
+    ≡ handedAt (choose t (At (record { 0 = n }) 0) (shift (length (r ∷ q)) v)) ((r ∷ q) ∷ qs)
+unfolding choose removeAt flatten
+take-here true n r q qs v = rw (without-here 0 (r ∷ q) qs (omega arith))
+take-here false n r q qs v = keep-next (r ∷ q) qs v
 
-pub take-from : (n mask : ℕ) (qs : List (List Record)) → firstAllowed n mask qs ≡ handedAt (countedFrom n (searchQueues (λ r. true) mask n qs)) qs
+take-from : (n mask : ℕ) (qs : List (List Record)) → firstAllowed n mask qs ≡ handedAt (searchQueues (λ r. true) mask n 0 qs) qs
 unfolding firstAllowed searchQueue searchQueues choose
 take-from n mask [] = refl
 take-from n mask ([] ∷ qs) =
-    rw (counted-queues (λ r. true) mask n [] qs, choose-same, take-from (suc n) mask qs)
-    (keep-next [] qs (countedFrom (suc n) (searchQueues (λ r. true) mask (suc n) qs)))
+    rw (choose-same, behind [] (λ r. true) mask (suc n) qs, take-from (suc n) mask qs)
+    (keep-next [] qs (searchQueues (λ r. true) mask (suc n) 0 qs))
 take-from n mask ((r ∷ q) ∷ qs) =
-    rw (counted-queues (λ r. true) mask n (r ∷ q) qs, take-from (suc n) mask qs)
-    (take-here (hasBit n mask) r q qs (countedFrom (suc n) (searchQueues (λ r. true) mask (suc n) qs)))
+    rw (behind (r ∷ q) (λ r. true) mask (suc n) qs, take-from (suc n) mask qs)
+    (take-here (hasBit n mask) n r q qs (searchQueues (λ r. true) mask (suc n) 0 qs))
 
-pub take-is : (mask : ℕ) (qs : List (List Record)) → firstAllowed 0 mask qs ≡ handedAt (searchQueues (λ r. true) mask 0 qs) qs
-take-is mask qs = take-from 0 mask qs ∙ rw counted-zero
+pub take-is : (mask : ℕ) (qs : List (List Record)) → firstAllowed 0 mask qs ≡ handedAt (searchQueues (λ r. true) mask 0 0 qs) qs
+take-is = take-from 0
 
 -- ---- the clear
 data Look (f : Record → Bool) (q : List Record) : Type 0 where
   nowhere : without f q ≡ none → ((i j : ℕ) (later : Found) → searchQueue f i j q later ≡ later) → Look f q
-  here : (k : ℕ) → without f q ≡ some (removeAt k q) → ((i j : ℕ) (later : Found) → searchQueue f i j q later ≡ At (record { 0 = i }) (j + k)) → Look f q
+  here : (k : ℕ) → k < length q → without f q ≡ some (removeAt k q) → ((i j : ℕ) (later : Found) → searchQueue f i j q later ≡ At (record { 0 = i }) (j + k)) → Look f q
 
 look-on : (f : Record → Bool) (r : Record) (q : List Record) (t : Bool) → f r ≡ t → Look f q → Look f (r ∷ q)
 unfolding without searchQueue choose removeAt
-look-on f r q true e l = here 0 (rw e) (λ i j later. let z : j + 0 ≡ j = omega arith in rw (e, z))
+look-on f r q true e l = here 0 (omega arith) (rw e) (λ i j later. let z : j + 0 ≡ j = omega arith in rw (e, z))
 look-on f r q false e (nowhere a b) = nowhere (rw (e, a)) (λ i j later. rw e (b i (suc j) later))
-look-on f r q false e (here k a b) =
-    here (suc k) (let z : suc k + 1 ≡ suc (k + 1) = omega arith in rw (e, a, z))
+look-on f r q false e (here k h a b) =
+    here (suc k) (omega arith) (let z : suc k + 1 ≡ suc (k + 1) = omega arith in rw (e, a, z))
     (λ i j later. let z : suc j + k ≡ j + suc k = omega arith in rw (e, ← z) (b i (suc j) later))
 
 look : (f : Record → Bool) (q : List Record) → Look f q
@@ -217,20 +195,23 @@ every-bit (suc (suc (suc (suc (suc (suc zero)))))) h = refl
 every-bit (suc (suc (suc (suc (suc (suc (suc zero))))))) h = refl
 every-bit (suc (suc (suc (suc (suc (suc (suc (suc n)))))))) h = absurd (omega arith)
 
-cons-next : (q : List Record) (qs : List (List Record)) (v : Found) → consTo q (leftAt v qs) ≡ leftAt (next v) (q ∷ qs)
+cons-next : (q : List Record) (qs : List (List Record)) (v : Found) → consTo q (leftAt v qs) ≡ leftAt (shift (length q) v) (q ∷ qs)
 cons-next q qs None = refl
-cons-next q qs (At s j) = refl
+cons-next q qs (At s k) = rw without-past
 
-clear-here : (f : Record → Bool) (q : List Record) (qs : List (List Record)) (v : Found) → Look f q → orIn (without f q) q qs (leftAt v qs) ≡ leftAt (searchQueue f 0 0 q (next v)) (q ∷ qs)
-clear-here f q qs v (nowhere a b) = rw (a, b) (cons-next q qs v)
-clear-here f q qs v (here k a b) = let z : 0 + k ≡ k = omega arith in rw (a, b, z)
+clear-here : (f : Record → Bool) (n : ℕ) (q : List Record) (qs : List (List Record)) (v : Found) → Look f q
+    → orIn (without f q) q qs (leftAt v qs) ≡ leftAt (searchQueue f n 0 q (shift (length q) v)) (q ∷ qs)
+clear-here f n q qs v (nowhere a b) = rw (a, b) (cons-next q qs v)
+clear-here f n q qs v (here k h a b) =
+    let z : 0 + k ≡ k = omega arith in
+    rw (a, b, z, without-here k q qs h)
 
-pub clear-from : (f : Record → Bool) (n : ℕ) (qs : List (List Record)) → n + length qs ≤ 8 → withoutFirst f qs ≡ leftAt (countedFrom n (searchQueues f 255 n qs)) qs
+clear-from : (f : Record → Bool) (n : ℕ) (qs : List (List Record)) → n + length qs ≤ 8 → withoutFirst f qs ≡ leftAt (searchQueues f 255 n 0 qs) qs
 unfolding withoutFirst searchQueues choose
 clear-from f n [] h = refl
 clear-from f n (q ∷ qs) h =
-    rw (counted-queues f 255 n q qs, every-bit n (omega arith), clear-from f (suc n) qs (omega arith))
-    (clear-here f q qs (countedFrom (suc n) (searchQueues f 255 (suc n) qs)) (look f q))
+    rw (behind q f 255 (suc n) qs, every-bit n (omega arith), clear-from f (suc n) qs (omega arith))
+    (clear-here f n q qs (searchQueues f 255 (suc n) 0 qs) (look f q))
 
-pub clear-is : (f : Record → Bool) (qs : List (List Record)) → length qs ≤ 8 → withoutFirst f qs ≡ leftAt (searchQueues f 255 0 qs) qs
-clear-is f qs h = clear-from f 0 qs (omega arith) ∙ rw counted-zero
+pub clear-is : (f : Record → Bool) (qs : List (List Record)) → length qs ≤ 8 → withoutFirst f qs ≡ leftAt (searchQueues f 255 0 0 qs) qs
+clear-is f qs h = clear-from f 0 qs (omega arith)

@@ -5,7 +5,7 @@ ghost use lib.ListN.{length, getD, take};
 ghost use Rattle.rules.specs.Requests.{isFor};
 ghost use Rattle.slots.specs.Slots.{slotCount, slot};
 ghost use Rattle.queues.specs.Queues.{queues, Held};
-ghost use Rattle.search.specs.Search.{searchQueues, wanted};
+ghost use Rattle.search.specs.Search.{searchQueues, wanted, FoundIn};
 use words::QUEUES;
 use words::ROOM;
 use words::SLOT_BYTES;
@@ -13,7 +13,7 @@ use words::SubchannelId;
 use words::SubchannelNumber;
 use words::Subclass;
 
-// Where a search ended.
+// Where a search ended: at a record of a subclass and its place among all records.
 pub enum Found {
     At(Subclass, usize),
     None,
@@ -39,27 +39,29 @@ pub fn find(
     nr: SubchannelNumber,
 ) -> Found
     requires { ⌜ Held (now o) (now c) ⌝ }
-    ensures { λ r. ⌜ r ≡ searchQueues (wanted any (id .0) (nr .0)) mask 0 (take 8 (queues (now (o .entry)) (now (c .entry)) (now (b .entry)))) ⌝ }
+    ensures first { λ r. ⌜ r ≡ searchQueues (wanted any (id .0) (nr .0)) mask 0 0 (take 8 (queues (now (o .entry)) (now (c .entry)) (now (b .entry)))) ⌝ }
+    ensures place { λ r. ⌜ FoundIn (now (c .entry)) r ⌝ }
 {
     // As slices: what makes one of an array says its length.
     let records: &[u8] = b;
     let order: &[u8] = o;
     let counts: &[usize] = c;
     let mut found = Found::None;
-    let mut k: usize = 0;
+    let mut start: usize = 0;
     let mut isc: u8 = 0;
     'search: while isc < 8 {
-        let n = counts[words::index(isc)];
+        // Its records are at the places from start on and before end.
+        let end = start + counts[words::index(isc)];
         let allowed = adapters::has_bit(Subclass(isc), mask);
-        let mut j: usize = 0;
-        while allowed && j < n {
-            if any || is_for(records, order, k + j, id, nr) {
-                found = Found::At(Subclass(isc), j);
+        let mut k = start;
+        while allowed && k < end {
+            if any || is_for(records, order, k, id, nr) {
+                found = Found::At(Subclass(isc), k);
                 break 'search;
             }
-            j += 1;
+            k += 1;
         }
-        k += n;
+        start = end;
         isc += 1;
     }
     found

@@ -12,7 +12,7 @@ remove-requires c κs =
     (search needs, rw (← c .before .before .index .ensures .0) at (f .pre .1), search needs, f .pre .2)
 
 returns : tie.Need-returns
-returns c = (λ b. rw (c .before .before .before .index .ensures .0) at (c .remove .ensures .0 b), c .remove .ensures .1)
+returns c = search needs
 
 pub remove-io-spec : {M : Type 1} → statement M
 remove-io-spec = tie.close (tie.spec index-requires remove-requires returns)

@@ -9,12 +9,16 @@ use bench::work::{all, goals, Work};
 use code::lists::list;
 use code::steps::Step;
 use model::{Ask, Controller};
+use std::hint::black_box;
 use std::process::exit;
 use std::time::{Duration, Instant};
 
 /// A round takes the fastest of so many batches, each at least so long.
 const BATCHES: usize = 5;
 const BATCH: Duration = Duration::from_micros(150);
+
+/// The bytes of the full machine's list.
+const LIST: usize = 23_278;
 
 fn main() {
     let args: Vec<String> = std::env::args().skip(1).collect();
@@ -84,10 +88,29 @@ fn figures(rounds: usize) {
         let nanoseconds = nanoseconds.map(|values| show(spread(values), 1)).join("; ");
         println!("{name}; {goal}; {nanoseconds}; {}; {}", show(ratio[0], 2), show(ratio[1], 2));
     }
+    println!("# nanoseconds of a copy of the full machine's list, median, least and most");
+    let copy = spread(copies(rounds)).map(|value| format!("{value:.1}")).join(" ");
+    println!("copy; {LIST} bytes; {copy}");
     println!("# bytes of stack below the return address");
     for (name, bytes) in bench::stack::all() {
         println!("stack; {name}; {bytes}");
     }
+}
+
+/// What a copy of a list's bytes takes, in each round.
+fn copies(rounds: usize) -> Vec<f64> {
+    const TIMES: u32 = 1000;
+    let (from, mut to) = (vec![1; LIST], vec![0; LIST]);
+    let mut batch = || {
+        let start = Instant::now();
+        for _ in 0..TIMES {
+            let (from, to): (&Vec<u8>, &mut Vec<u8>) = (black_box(&from), black_box(&mut to));
+            to.copy_from_slice(from);
+        }
+        start.elapsed()
+    };
+    let mut fastest = || (0..BATCHES).map(|_| batch()).min().unwrap();
+    (0..rounds).map(|_| fastest().as_nanos() as f64 / f64::from(TIMES)).collect()
 }
 
 /// One piece of work, from 1, for so many seconds.

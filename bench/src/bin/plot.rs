@@ -27,10 +27,12 @@ fn main() {
     let mut text = String::new();
     std::io::stdin().read_to_string(&mut text).expect("figures");
     let mut rows = Vec::new();
-    for line in text.lines().filter(|line| !line.starts_with(['#', 's'])) {
+    for line in text.lines().filter(|line| !line.starts_with('#')) {
         let fields: Vec<&str> = line.split("; ").collect();
         let [name, goal, proved, plain, _, ratio, _] = fields[..] else {
-            panic!("not a line of figures: {line}")
+            // of one subject alone: a copy, a call's stack
+            assert_eq!(fields.len(), 3, "not a line of figures: {line}");
+            continue;
         };
         rows.push(Row {
             name: name.into(),

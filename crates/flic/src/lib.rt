@@ -177,7 +177,7 @@ fn on_records(
     requires { ⌜ (table ≡ paperLimits .places → Held (now order) (now counts)) × (onRecords group ≡ true) ⌝ }
     ensures { λ r. ⌜ ((ais : Bool) → Recorded table group attr (controller (now (slots .entry)) (now (order .entry)) (now (counts .entry)) (now (singles .entry)) ais) (controller (now (slots .exit)) (now (order .exit)) (now (counts .exit)) (now (singles .exit)) ais) (now (payload .entry)) r) ⌝ }
 {
-    if table != PLACES { // checked before anything else
+    if table != PLACES { // checked first
         return answers::refuse(EFAULT);
     }
     core::set_records(slots, order, counts, singles, ROOM, group, attr, payload)

@@ -13,7 +13,7 @@ use Rattle.rules.proofs.Move.{Move, move, movable-paper}
 use Rattle.answers.specs.declared.Answer.{Answer}
 use Rattle.adapters.specs.declared.Device.{Device}
 use Rattle.adapters.specs.declared.Place.{Place}
-use Rattle.flic.specs.declared.Controller.{Controller}
+use Rattle.controller.specs.declared.Controller.{Controller}
 use Rattle.flic.specs.Surface.{Made, Requested, Played}
 use Rattle.flic.specs.Chain.{Host, its-own, asked, saw, Ran}
 use Rattle.flic.proofs.Follows.{hostState, Good, own-length, Stepped, requested, played, follows}

@@ -12,7 +12,7 @@ use Rattle.answers.specs.declared.Answer.{Answer}
 use Rattle.adapters.specs.declared.Device.{Device}
 use Rattle.adapters.specs.declared.Place.{Place}
 use Rattle.adapters.specs.Values.{placeOf}
-use Rattle.flic.specs.declared.Controller.{Controller}
+use Rattle.controller.specs.declared.Controller.{Controller}
 use Rattle.flic.specs.Surface.{stateOf, Valid, Steps, Requested, Taken, Played}
 use Rattle.flic.specs.Chain.{Host, Lends, its-own, another, asked, saw, Ran, end, set, get, take, write, play}
 use Rattle.flic.proofs.Promises.{next-sound, wrong-table, not-zero}

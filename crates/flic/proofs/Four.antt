@@ -8,8 +8,8 @@ use types.Kit as Kit
 use types.Kit.{mean}
 use mir.Syntax.{Width, Name, Place as Where, Body as Code, Opd as Operand, seq, call}
 use Rattle.table.proofs.Rows.{shares-cell, cell-shared-back, lends-cell, cell-back}
-use Rattle.flic.specs.declared.Controller.{Controller}
-use Rattle.flic.specs.Inner.{controller}
+use Rattle.controller.specs.declared.Controller.{Controller}
+use Rattle.controller.specs.Inner.{controller}
 use Rattle.flic.proofs.Ints.{Ints, ints, FitsInts, ints-tells, ints-makes}
 use Rattle.flic.proofs.Opened.{Has, Arrays}
 use Rattle.flic.proofs.Called.{Told, calls-told}

@@ -20,12 +20,12 @@ use Rattle.table.proofs.Calls.{Restore, restores}
 use Rattle.table.proofs.read_device.Symbol.{name as #read-device}
 use Rattle.table.proofs.store_device.Symbol.{name as #store-device}
 use Rattle.table.proofs.restore.Symbol.{name as #restore}
-use Rattle.flic.specs.declared.Controller.{Controller}
-use Rattle.flic.specs.declared.Started.{Started}
-use Rattle.flic.proofs.Controller as C
-use Rattle.flic.proofs.Controller.Laws as C′
-use Rattle.flic.proofs.Started as St
-use Rattle.flic.proofs.Started.Laws as St′
+use Rattle.controller.specs.declared.Controller.{Controller}
+use Rattle.controller.specs.declared.Started.{Started}
+use Rattle.controller.proofs.Controller as C
+use Rattle.controller.proofs.Controller.Laws as C′
+use Rattle.controller.proofs.Started as St
+use Rattle.controller.proofs.Started.Laws as St′
 use Rattle.flic.proofs.Locals.{Content, blank, holds, since, locals, frees-all, swaps}
 use Rattle.flic.proofs.Opened.{Has}
 use Rattle.flic.proofs.All.{Refs, table, Passed, Open, Closed, opens-all, closes-all}

@@ -29,35 +29,16 @@ use Rattle.play.specs.Play.{stateOf as imageState}
 use Rattle.table.specs.Table.{snapTo, restored}
 use Rattle.table.proofs.Tables.{snap-all, restored-none, restored-all, restored-whole}
 use Rattle.values.specs.States.{aboutOf, stateWith, Within, changeOf, enters, masks, keeps}
-use Rattle.flic.specs.declared.Controller.{Controller}
-use Rattle.flic.specs.declared.Decision.{Decision}
-use Rattle.flic.specs.declared.Started.{Started}
-use Rattle.flic.specs.Surface.{stateOf, Valid, Steps, Made, Requested, Played}
-use Rattle.flic.specs.Inner.{Began, playedState, Replayed, Wrote, Recorded, ifGroup, placeAfter, Decided, Got}
+use Rattle.controller.specs.declared.Controller.{Controller}
+use Rattle.controller.specs.declared.Decision.{Decision}
+use Rattle.controller.specs.declared.Started.{Started}
+use Rattle.flic.specs.Surface.{stateOf, Valid, Steps, Made, Requested, Taken, Played}
+use Rattle.controller.specs.Inner.{Began, playedState, Replayed, Wrote, Recorded, ifGroup, placeAfter, Decided, Got, Handed}
 use Rattle.table.proofs.Places.{set-past}
 use Rattle.flic.proofs.Tables.{map-set, map-replicate}
 
 canonical-unused : Canonical unused
 canonical-unused = record { unusedOne = λ e. refl; iscSmall = omega arith; maskedMaskable = λ e. e }
-
--- ---- the place of a request's adapter: as it was, and with the change that its group makes
-pub place-same : (group : ℕ) (p : Place) → choose (eqb group 6) p (choose (eqb group 7) (withMasked (p .masked) p) p) ≡ p
-unfolding choose
-place-same group p = go (eqb group 6) (eqb group 7)
-  where
-    go : (x y : Bool) → choose x p (choose y (withMasked (p .masked) p) p) ≡ p
-    go true y = refl
-    go false true = refl
-    go false false = refl
-
-pub place-changed : (group : ℕ) (p q : Place) → Within (changeOf group) p q → choose (eqb group 6) q (choose (eqb group 7) (withMasked (q .masked) p) p) ≡ q
-unfolding changeOf choose
-place-changed group p q = go (eqb group 6) (eqb group 7)
-  where
-    go : (x y : Bool) → Within (choose x enters (choose y masks keeps)) p q → choose x q (choose y (withMasked (q .masked) p) p) ≡ q
-    go true y w = refl
-    go false true w = sym w
-    go false false w = sym w
 
 -- ---- the table after a place is entered at an id, and the masked field of one at an id is set
 abbrev pub enteredIn : List Place → Decision → List Place
@@ -203,11 +184,17 @@ module _ (group attr : ℕ) (c : Controller) (d : Device) (t : List Place) (b b�
   pub get-promises : (length t ≡ paperLimits .places → Valid c d t) → Requested (getAttr group attr) c c d d t t b b′ r
   get-promises h = record { steps = get-steps; kept = λ n. (refl, refl, refl, f .kept n); valid = h }
 
--- an answer with another name for the place
-pub place-named : (a : Answer) (s : State) (id : ℕ) (b : List ℕ) (q : Pending) (d : Device) {p p′ : Place} {x : Told} → p ≡ p′
-    → x ≡ record { code = a .code; count = a .count; next = stateWith s id (placeOf p′) q (deviceOf d); buffer = b }
-    → x ≡ record { code = a .code; count = a .count; next = stateWith s id (placeOf p) q (deviceOf d); buffer = b }
-place-named a s id b q d e f = f ∙ (λ i. record { code = a .code; count = a .count; next = stateWith s id (placeOf ((sym e) i)) q (deviceOf d); buffer = b })
+-- ---- a take: for every device record and every table
+pub take-promises : (subclasses : ℕ) (external mcheck : Bool) (c c′ : Controller) (b b′ : List ℕ) (r : Answer) → c′ .ais ≡ c .ais → Handed subclasses external mcheck c c′ b b′ r
+    → Taken subclasses external mcheck c c′ b b′ r
+unfolding step outcome stateOf
+take-promises subclasses external mcheck c c′ b b′ r a f =
+    record {
+      steps = λ d t. f .answer (stateOf c d t) refl
+          ∙ (λ i. record { code = r .code; count = r .count; next = record { ais = (sym a) i; adapters = map placeOf t; pending = pendingOf (c′ .order) (c′ .counts) (c′ .slots) (c′ .singles); device = deviceOf d }; buffer = b′ });
+      kept = f .kept;
+      ready = f .held;
+    }
 
 -- ---- a fresh controller
 -- a table that is restored from an image of zeros
@@ -255,18 +242,6 @@ module _ (ais : Bool) (c c′ : Controller) (d : Device) (t : List Place) (r : S
       }
 
 -- ---- move lists
-pub replayed-answer : (s : State) (ais : Bool) (image b : List ℕ) (p : Pending) (device : Device) (a : Answer) (q : Bool) {x : Told}
-    → x ≡ record { code = a .code; count = a .count; next = choose q s (imageState ais (paperLimits .places) image p device); buffer = b }
-    → x ≡ record { code = a .code; count = a .count; next = choose q s (record { ais = ais; adapters = map placeOf (map unpacked (take (paperLimits .places) image)); pending = p; device = deviceOf device }); buffer = b }
-replayed-answer s ais image b p device a q e =
-    e
-    ∙ (λ i. record {
-      code = a .code;
-      count = a .count;
-      next = choose q s (record { ais = ais; adapters = places-take (paperLimits .places) image i; pending = p; device = deviceOf device });
-      buffer = b;
-    })
-
 module _ (c : Controller) (d : Device) (t : List Place) (b b′ : List ℕ) (r : Answer) (f : Wrote (length t) c d (snapTo t imageSize) b b′ r) where
   imaged : length t ≡ paperLimits .places → All Canonical t → map placeOf t ≡ map placeOf (map unpacked (snapTo t imageSize))
   imaged e h = sym (ap (λ (l : List ℕ). map placeOf (map unpacked l)) (snap-all t e) ∙ ap (map placeOf) (unpacked-table t h))

@@ -21,7 +21,7 @@ use Rattle.singles.specs.Singles.{ifThere, serviceOf, mchkOf}
 use Rattle.memory.specs.Order.{upFrom}
 use Rattle.memory.proofs.Laws.{up-apart}
 use Rattle.records.specs.Memory.{pendingOf}
-use Rattle.flic.specs.declared.Controller.{Controller}
+use Rattle.controller.specs.declared.Controller.{Controller}
 use Rattle.flic.specs.Surface.{stateOf, Ready, Valid}
 use Rattle.flic.specs.Chain.{Host}
 

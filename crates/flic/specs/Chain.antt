@@ -9,7 +9,7 @@ use Rattle.rules.specs.Machine.{Ask, setAttr, getAttr, guestTake, writeList, pl
 use Rattle.answers.specs.declared.Answer.{Answer}
 use Rattle.adapters.specs.declared.Device.{Device}
 use Rattle.adapters.specs.declared.Place.{Place}
-use Rattle.flic.specs.declared.Controller.{Controller}
+use Rattle.controller.specs.declared.Controller.{Controller}
 use Rattle.flic.specs.Surface.{Requested, Taken, Played}
 
 -- A controller with its device record and its own table, as the calls before returned or left them.

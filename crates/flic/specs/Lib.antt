@@ -1,3 +1,2 @@
 pub mod Surface
-pub mod Inner
 pub mod Chain

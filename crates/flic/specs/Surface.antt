@@ -15,7 +15,7 @@ use Rattle.adapters.specs.declared.Place.{Place}
 use Rattle.adapters.specs.Values.{placeOf, deviceOf, Canonical}
 use Rattle.queues.specs.Queues.{Held}
 use Rattle.records.specs.Memory.{pendingOf}
-use Rattle.flic.specs.declared.Controller.{Controller}
+use Rattle.controller.specs.declared.Controller.{Controller}
 
 -- 01, 'What it holds': the plain machine's state.
 unfoldable pub stateOf : Controller → Device → List Place → State

@@ -13,10 +13,10 @@ use Rattle.adapters.proofs.Device as D
 use Rattle.adapters.proofs.Device.Laws as D′
 use Rattle.adapters.proofs.Place as P
 use Rattle.table.proofs.Record.{ReadDevice}
-use Rattle.flic.specs.declared.Controller.{Controller}
+use Rattle.controller.specs.declared.Controller.{Controller}
 use Rattle.flic.specs.Surface.{Valid}
-use Rattle.flic.specs.Inner.{Got}
-use Rattle.flic.proofs.Controller as C
+use Rattle.controller.specs.Inner.{Got}
+use Rattle.controller.proofs.Controller as C
 use Rattle.flic.proofs.Promises.{get-promises}
 use Rattle.flic.proofs.Locals.{Content, blank, holds, since, locals, frees-all, swaps}
 use Rattle.flic.proofs.Opened.{Has, Cells, looks-ctl, shuts-ctl}
@@ -24,9 +24,9 @@ use Rattle.flic.proofs.Four.{shared, at-array, Loan, Toks, Lent, lent-l
 use Rattle.flic.proofs.Calls.{reads-passed}
 use Rattle.table.proofs.read_device.Symbol as read-device-def
 use Rattle.table.proofs.read_device.Met as read-device-thm
-use Rattle.flic.proofs.answer_get as answer-get
-use Rattle.flic.proofs.answer_get.Symbol as answer-get-def
-use Rattle.flic.proofs.answer_get.Met as answer-get-thm
+use Rattle.controller.proofs.answer_get as answer-get
+use Rattle.controller.proofs.answer_get.Symbol as answer-get-def
+use Rattle.controller.proofs.answer_get.Met as answer-get-thm
 use Rattle.flic.proofs.flic_get.Key.{name as #key}
 use Rattle.flic.proofs.flic_get as f
 use Rattle.flic.proofs.flic_get.Statement as stated
@@ -180,4 +180,4 @@ flic-get-spec 𝓤 H 𝓜 𝓖 𝓡 =
     (tables 𝓤 H 𝓜 𝓡 code.env .C) (tables 𝓤 H 𝓜 𝓡 code.env .Λ) #key code.function (code.unfolded 𝓤 H 𝓜 𝓡)
     (meets 𝓤 H (𝓖 .A) (givenOf 𝓤 H 𝓜 𝓖) (𝓜 .mem) (𝓡 .run) (tablesOf 𝓤 H 𝓜 (tables 𝓤 H 𝓜 𝓡 code.env))
     (cited 𝓤 H (ReadDevice 𝓤 H (𝓖 .A) (𝓜 .mem) (𝓡 .run)) 𝓜 𝓡 code.env read-device-def.name read-device-def.routine code.calls-table·read-device (read-device-thm.met 𝓤 H 𝓜 𝓖 𝓡))
-    (cited 𝓤 H (AnswerGet 𝓤 H (𝓖 .A) (𝓜 .mem) (𝓡 .run)) 𝓜 𝓡 code.env answer-get-def.name answer-get-def.routine code.calls-flic·answer-get (answer-get-thm.met 𝓤 H 𝓜 𝓖 𝓡)))
+    (cited 𝓤 H (AnswerGet 𝓤 H (𝓖 .A) (𝓜 .mem) (𝓡 .run)) 𝓜 𝓡 code.env answer-get-def.name answer-get-def.routine code.calls-controller·answer-get (answer-get-thm.met 𝓤 H 𝓜 𝓖 𝓡)))

@@ -11,13 +11,13 @@ use Rattle.adapters.proofs.Device.Laws as D′
 use Rattle.adapters.proofs.Place as P
 use Rattle.table.proofs.Record.{ReadDevice, StoreDevice}
 use Rattle.table.proofs.Calls.{Restore}
-use Rattle.flic.specs.declared.Controller.{Controller}
-use Rattle.flic.specs.declared.Started.{Started}
+use Rattle.controller.specs.declared.Controller.{Controller}
+use Rattle.controller.specs.declared.Started.{Started}
 use Rattle.flic.specs.Surface.{Made}
-use Rattle.flic.specs.Inner.{controller, Began}
-use Rattle.flic.proofs.Controller as C
-use Rattle.flic.proofs.Started as St
-use Rattle.flic.proofs.Started.Laws as St′
+use Rattle.controller.specs.Inner.{controller, Began}
+use Rattle.controller.proofs.Controller as C
+use Rattle.controller.proofs.Started as St
+use Rattle.controller.proofs.Started.Laws as St′
 use Rattle.flic.proofs.Promises.{make-promises}
 use Rattle.flic.proofs.Locals.{Content, blank, holds, locals}
 use Rattle.flic.proofs.Opened.{Has}
@@ -32,9 +32,9 @@ use Rattle.table.proofs.store_device.Symbol as store-device-def
 use Rattle.table.proofs.store_device.Met as store-device-thm
 use Rattle.table.proofs.restore.Symbol as restore-def
 use Rattle.table.proofs.restore.Met as restore-thm
-use Rattle.flic.proofs.start as start
-use Rattle.flic.proofs.start.Symbol as start-def
-use Rattle.flic.proofs.start.Met as start-thm
+use Rattle.controller.proofs.start as start
+use Rattle.controller.proofs.start.Symbol as start-def
+use Rattle.controller.proofs.start.Met as start-thm
 use Rattle.flic.proofs.flic_make.Key.{name as #key}
 use Rattle.flic.proofs.flic_make as f
 use Rattle.flic.proofs.flic_make.Statement as stated
@@ -133,4 +133,4 @@ flic-make-spec 𝓤 H 𝓜 𝓖 𝓡 =
       read-device = cited 𝓤 H (ReadDevice 𝓤 H (𝓖 .A) (𝓜 .mem) (𝓡 .run)) 𝓜 𝓡 code.env read-device-def.name read-device-def.routine code.calls-table·read-device (read-device-thm.met 𝓤 H 𝓜 𝓖 𝓡);
       store-device = cited 𝓤 H (StoreDevice 𝓤 H (𝓖 .A) (𝓜 .mem) (𝓡 .run)) 𝓜 𝓡 code.env store-device-def.name store-device-def.routine code.calls-table·store-device (store-device-thm.met 𝓤 H 𝓜 𝓖 𝓡);
       restore = cited 𝓤 H (Restore 𝓤 H (𝓖 .A) (𝓜 .mem) (𝓡 .run)) 𝓜 𝓡 code.env restore-def.name restore-def.routine code.calls-table·restore (restore-thm.met 𝓤 H 𝓜 𝓖 𝓡);
-    }) (cited 𝓤 H (Start 𝓤 H (𝓖 .A) (𝓜 .mem) (𝓡 .run)) 𝓜 𝓡 code.env start-def.name start-def.routine code.calls-flic·start (start-thm.met 𝓤 H 𝓜 𝓖 𝓡)))
+    }) (cited 𝓤 H (Start 𝓤 H (𝓖 .A) (𝓜 .mem) (𝓡 .run)) 𝓜 𝓡 code.env start-def.name start-def.routine code.calls-controller·start (start-thm.met 𝓤 H 𝓜 𝓖 𝓡)))

@@ -26,13 +26,13 @@ use Rattle.table.proofs.Count.{after, taken}
 use Rattle.table.proofs.Places.{FitsId, typed-id, makes-id}
 use Rattle.table.proofs.Record.{ReadDevice, StoreDevice, reads-device, stores-device}
 use Rattle.table.proofs.Calls.{LookUp, Register, Mask, looks-up, registers, masks}
-use Rattle.flic.specs.declared.Controller.{Controller}
-use Rattle.flic.specs.declared.Decision.{Decision}
+use Rattle.controller.specs.declared.Controller.{Controller}
+use Rattle.controller.specs.declared.Decision.{Decision}
 use Rattle.flic.specs.Surface.{Valid, Requested}
-use Rattle.flic.specs.Inner.{controller, Recorded, Decided}
-use Rattle.flic.proofs.Controller as C
-use Rattle.flic.proofs.Decision as De
-use Rattle.flic.proofs.Decision.Laws as De′
+use Rattle.controller.specs.Inner.{controller, Recorded, Decided}
+use Rattle.controller.proofs.Controller as C
+use Rattle.controller.proofs.Decision as De
+use Rattle.controller.proofs.Decision.Laws as De′
 use Rattle.flic.proofs.Promises.{enteredIn, tableAfter, may-decide, record-promises, set-promises}
 use Rattle.flic.proofs.Locals.{Content, blank, holds, since, locals, frees-all, swaps}
 use Rattle.flic.proofs.Opened.{Has}
@@ -42,18 +42,18 @@ use Rattle.flic.proofs.Calls.{Group, About, asks-group, asks-about}
 use Rattle.core.specs.Cases.{onRecords}
 use Rattle.core.proofs.on_records.Symbol as group-def
 use Rattle.core.proofs.on_records.Met as group-thm
-use Rattle.flic.proofs.on_records as on-records
-use Rattle.flic.proofs.on_records.Symbol as on-records-def
-use Rattle.flic.proofs.on_records.Met as on-records-thm
+use Rattle.controller.proofs.on_records as on-records
+use Rattle.controller.proofs.on_records.Symbol as on-records-def
+use Rattle.controller.proofs.on_records.Met as on-records-thm
 use Rattle.values.proofs.about.Symbol as about-def
 use Rattle.values.proofs.about.Met as about-thm
 use Rattle.table.proofs.look_up.Symbol as look-up-def
 use Rattle.table.proofs.look_up.Met as look-up-thm
 use Rattle.table.proofs.read_device.Symbol as read-device-def
 use Rattle.table.proofs.read_device.Met as read-device-thm
-use Rattle.flic.proofs.decide as decide
-use Rattle.flic.proofs.decide.Symbol as decide-def
-use Rattle.flic.proofs.decide.Met as decide-thm
+use Rattle.controller.proofs.decide as decide
+use Rattle.controller.proofs.decide.Symbol as decide-def
+use Rattle.controller.proofs.decide.Met as decide-thm
 use Rattle.table.proofs.store_device.Symbol as store-device-def
 use Rattle.table.proofs.store_device.Met as store-device-thm
 use Rattle.table.proofs.register.Symbol as register-def
@@ -349,11 +349,11 @@ flic-set-spec 𝓤 H 𝓜 𝓖 𝓡 =
     (tables 𝓤 H 𝓜 𝓡 code.env .C) (tables 𝓤 H 𝓜 𝓡 code.env .Λ) #key code.function (code.unfolded 𝓤 H 𝓜 𝓡)
     (meets 𝓤 H (𝓖 .A) (givenOf 𝓤 H 𝓜 𝓖) (𝓜 .mem) (𝓡 .run) (tablesOf 𝓤 H 𝓜 (tables 𝓤 H 𝓜 𝓡 code.env)) (record {
       looks = cited 𝓤 H (Group 𝓤 H (𝓖 .A) (𝓜 .mem) (𝓡 .run)) 𝓜 𝓡 code.env group-def.name group-def.routine code.calls-core·on-records (group-thm.met 𝓤 H 𝓜 𝓖 𝓡);
-      records = cited 𝓤 H (OnRecords 𝓤 H (𝓖 .A) (𝓜 .mem) (𝓡 .run)) 𝓜 𝓡 code.env on-records-def.name on-records-def.routine code.calls-flic·on-records (on-records-thm.met 𝓤 H 𝓜 𝓖 𝓡);
+      records = cited 𝓤 H (OnRecords 𝓤 H (𝓖 .A) (𝓜 .mem) (𝓡 .run)) 𝓜 𝓡 code.env on-records-def.name on-records-def.routine code.calls-controller·on-records (on-records-thm.met 𝓤 H 𝓜 𝓖 𝓡);
       about = cited 𝓤 H (About 𝓤 H (𝓖 .A) (𝓜 .mem) (𝓡 .run)) 𝓜 𝓡 code.env about-def.name about-def.routine code.calls-values·about (about-thm.met 𝓤 H 𝓜 𝓖 𝓡);
       look-up = cited 𝓤 H (LookUp 𝓤 H (𝓖 .A) (𝓜 .mem) (𝓡 .run)) 𝓜 𝓡 code.env look-up-def.name look-up-def.routine code.calls-table·look-up (look-up-thm.met 𝓤 H 𝓜 𝓖 𝓡);
       read-device = cited 𝓤 H (ReadDevice 𝓤 H (𝓖 .A) (𝓜 .mem) (𝓡 .run)) 𝓜 𝓡 code.env read-device-def.name read-device-def.routine code.calls-table·read-device (read-device-thm.met 𝓤 H 𝓜 𝓖 𝓡);
-      decide = cited 𝓤 H (Decide 𝓤 H (𝓖 .A) (𝓜 .mem) (𝓡 .run)) 𝓜 𝓡 code.env decide-def.name decide-def.routine code.calls-flic·decide (decide-thm.met 𝓤 H 𝓜 𝓖 𝓡);
+      decide = cited 𝓤 H (Decide 𝓤 H (𝓖 .A) (𝓜 .mem) (𝓡 .run)) 𝓜 𝓡 code.env decide-def.name decide-def.routine code.calls-controller·decide (decide-thm.met 𝓤 H 𝓜 𝓖 𝓡);
       store-device = cited 𝓤 H (StoreDevice 𝓤 H (𝓖 .A) (𝓜 .mem) (𝓡 .run)) 𝓜 𝓡 code.env store-device-def.name store-device-def.routine code.calls-table·store-device (store-device-thm.met 𝓤 H 𝓜 𝓖 𝓡);
       register = cited 𝓤 H (Register 𝓤 H (𝓖 .A) (𝓜 .mem) (𝓡 .run)) 𝓜 𝓡 code.env register-def.name register-def.routine code.calls-table·register (register-thm.met 𝓤 H 𝓜 𝓖 𝓡);
       mask = cited 𝓤 H (Mask 𝓤 H (𝓖 .A) (𝓜 .mem) (𝓡 .run)) 𝓜 𝓡 code.env mask-def.name mask-def.routine code.calls-table·mask (mask-thm.met 𝓤 H 𝓜 𝓖 𝓡);

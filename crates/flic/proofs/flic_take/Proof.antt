@@ -4,16 +4,17 @@ use denote.Struct.Laws as LL
 use Rattle.answers.specs.declared.Answer.{Answer}
 use Rattle.answers.proofs.Answer as An
 use Rattle.answers.proofs.Answer.Laws as An′
-use Rattle.flic.specs.declared.Controller.{Controller}
+use Rattle.controller.specs.declared.Controller.{Controller}
 use Rattle.flic.specs.Surface.{Ready, Taken}
-use Rattle.flic.specs.Inner.{controller}
-use Rattle.flic.proofs.Controller as C
+use Rattle.controller.specs.Inner.{controller, Handed}
+use Rattle.flic.proofs.Promises.{take-promises}
+use Rattle.controller.proofs.Controller as C
 use Rattle.flic.proofs.Locals.{Content, blank, holds, since, locals, frees-all, swaps}
 use Rattle.flic.proofs.Opened.{Has, OpenAt, opens-ctl, closes-ctl}
 use Rattle.flic.proofs.Four.{mutably, Loan, Toks, Lent, Left, left-by, lent-lfts, lent-shares, lent-args, lent-vals, calls-four}
-use Rattle.flic.proofs.hand_out as hand-out
-use Rattle.flic.proofs.hand_out.Symbol as hand-out-def
-use Rattle.flic.proofs.hand_out.Met as hand-out-thm
+use Rattle.controller.proofs.hand_out as hand-out
+use Rattle.controller.proofs.hand_out.Symbol as hand-out-def
+use Rattle.controller.proofs.hand_out.Met as hand-out-thm
 use Rattle.flic.proofs.flic_take.Key.{name as #key}
 use Rattle.flic.proofs.flic_take as f
 use Rattle.flic.proofs.flic_take.Statement as stated
@@ -80,7 +81,7 @@ module _ {M : Type 1} (𝓤 : URA M) (H : Heap 𝓤) (A : Atoms 𝓤) (W : Given
   Leaves y = fsep ftrue (fsep ftrue (fsep ftrue (fsep (fsep (finally u8 γo (y .1 .1 .1 .0)) (feq ℕ (length (y .1 .1 .1 .0)) (length bytes))) ftrue)))
 
   abbrev Φ : Answer → Left mutably Y → Type 0
-  Φ z w = (ais : Bool) → Taken subclasses external mcheck (controller (c .slots) (c .order) (c .counts) (c .singles) ais) (controller (w .0) (w .1 .0) (w .1 .1 .0) (w .1 .1 .1 .0) ais) bytes (last w) z
+  Φ z w = (ais : Bool) → Handed subclasses external mcheck (controller (c .slots) (c .order) (c .counts) (c .singles) ais) (controller (w .0) (w .1 .0) (w .1 .1 .0) (w .1 .1 .1 .0) ais) bytes (last w) z
 
   abbrev to-hand-out : Loan → HandOut 𝓤 H A mem′ run .Ghost
   to-hand-out n = ((lent-lfts n (κo, tt), lent-shares (qo, tt), tt, lent-args n c bc oc (subclasses, (external, (mcheck, (xo, tt)))), lent-vals bc oc (vint w8 subclasses ∷ [], (vbool external ∷ [], (vbool mcheck ∷ [], (out ∷ [], tt))))), tt)
@@ -103,7 +104,7 @@ module _ {M : Type 1} (𝓤 : URA M) (H : Heap 𝓤) (A : Atoms 𝓤) (W : Given
         closes-ctl ! tt c (left-by mutably c w) g bc oc $ move ! (4 ∷ []) $ fsplit ! $ drop ! $ fsplit ! $ drop ! $ fsplit ! $ drop ! $ fsplit ! $ fsplit ! $ move ! (1 ∷ []) $ feqL ! (λ e.
         -- [the last bytes; true; obs; the borrow; the token; T; the locals]
         move ! (5 ∷ []) $ split ! $ move ! (4 ∷ 5 ∷ 6 ∷ 0 ∷ 2 ∷ 1 ∷ 3 ∷ []) $ move ! (5 ∷ []) $ drop ! $ move ! (5 ∷ []) $ drop ! $
-        returns ! (look ! 5 refl) $ swaps ! (Rest (left-by mutably c w) (last w)) (locals E (held (holds v) 6) []) $ frees-all ! E (held (holds v) 6) $ by ! (exits (left-by mutably c w) (last w) z v (φ (c .ais)) e is))
+        returns ! (look ! 5 refl) $ swaps ! (Rest (left-by mutably c w) (last w)) (locals E (held (holds v) 6) []) $ frees-all ! E (held (holds v) 6) $ by ! (exits (left-by mutably c w) (last w) z v (take-promises subclasses external mcheck c (left-by mutably c w) bytes (last w) z refl (φ (c .ais))) e is))
 
     calls-it : Has c → Sq W (OpenAt H κc qc γc c c bc oc (‵ OwnO ∷ ‵ (flft κo qo) ∷ locals E (held blank 6) [])) (runs C′ Λ E mir.t-7 (atRet E Post))
     calls-it g =
@@ -152,4 +153,4 @@ flic-take-spec 𝓤 H 𝓜 𝓖 𝓡 =
     entered 𝓤 H (tripleOf 𝓤 H (𝓖 .A) f.signature (f.spec 𝓤 H (𝓖 .A) (𝓜 .mem) (𝓡 .run)))
     (tables 𝓤 H 𝓜 𝓡 code.env .C) (tables 𝓤 H 𝓜 𝓡 code.env .Λ) #key code.function (code.unfolded 𝓤 H 𝓜 𝓡)
     (meets 𝓤 H (𝓖 .A) (givenOf 𝓤 H 𝓜 𝓖) (𝓜 .mem) (𝓡 .run) (tablesOf 𝓤 H 𝓜 (tables 𝓤 H 𝓜 𝓡 code.env))
-    (cited 𝓤 H (HandOut 𝓤 H (𝓖 .A) (𝓜 .mem) (𝓡 .run)) 𝓜 𝓡 code.env hand-out-def.name hand-out-def.routine code.calls-flic·hand-out (hand-out-thm.met 𝓤 H 𝓜 𝓖 𝓡)))
+    (cited 𝓤 H (HandOut 𝓤 H (𝓖 .A) (𝓜 .mem) (𝓡 .run)) 𝓜 𝓡 code.env hand-out-def.name hand-out-def.routine code.calls-controller·hand-out (hand-out-thm.met 𝓤 H 𝓜 𝓖 𝓡)))

@@ -15,10 +15,10 @@ use Rattle.table.specs.Table.{snapTo}
 use Rattle.table.proofs.Images.{Image, imageTy, low-image, FitsImage, image-makes, image-typed}
 use Rattle.table.proofs.Record.{ReadDevice}
 use Rattle.table.proofs.Calls.{Snapshot, snapshots-shared}
-use Rattle.flic.specs.declared.Controller.{Controller}
+use Rattle.controller.specs.declared.Controller.{Controller}
 use Rattle.flic.specs.Surface.{Valid}
-use Rattle.flic.specs.Inner.{Wrote}
-use Rattle.flic.proofs.Controller as C
+use Rattle.controller.specs.Inner.{Wrote}
+use Rattle.controller.proofs.Controller as C
 use Rattle.flic.proofs.Promises.{write-promises}
 use Rattle.flic.proofs.Locals.{Content, blank, holds, since, locals, frees-all, swaps}
 use Rattle.flic.proofs.Opened.{Has, Cells, looks-ctl, shuts-ctl}
@@ -29,9 +29,9 @@ use Rattle.table.proofs.read_device.Symbol as read-device-def
 use Rattle.table.proofs.read_device.Met as read-device-thm
 use Rattle.table.proofs.snapshot.Symbol as snapshot-def
 use Rattle.table.proofs.snapshot.Met as snapshot-thm
-use Rattle.flic.proofs.write_from as write-from
-use Rattle.flic.proofs.write_from.Symbol as write-from-def
-use Rattle.flic.proofs.write_from.Met as write-from-thm
+use Rattle.controller.proofs.write_from as write-from
+use Rattle.controller.proofs.write_from.Symbol as write-from-def
+use Rattle.controller.proofs.write_from.Met as write-from-thm
 use Rattle.flic.proofs.flic_write_list.Key.{name as #key}
 use Rattle.flic.proofs.flic_write_list as f
 use Rattle.flic.proofs.flic_write_list.Statement as stated
@@ -187,5 +187,5 @@ flic-write-list-spec 𝓤 H 𝓜 𝓖 𝓡 =
     (meets 𝓤 H (𝓖 .A) (givenOf 𝓤 H 𝓜 𝓖) (𝓜 .mem) (𝓡 .run) (tablesOf 𝓤 H 𝓜 (tables 𝓤 H 𝓜 𝓡 code.env)) (record {
       read-device = cited 𝓤 H (ReadDevice 𝓤 H (𝓖 .A) (𝓜 .mem) (𝓡 .run)) 𝓜 𝓡 code.env read-device-def.name read-device-def.routine code.calls-table·read-device (read-device-thm.met 𝓤 H 𝓜 𝓖 𝓡);
       snapshot = cited 𝓤 H (Snapshot 𝓤 H (𝓖 .A) (𝓜 .mem) (𝓡 .run)) 𝓜 𝓡 code.env snapshot-def.name snapshot-def.routine code.calls-table·snapshot (snapshot-thm.met 𝓤 H 𝓜 𝓖 𝓡);
-      write-from = cited 𝓤 H (WriteFrom 𝓤 H (𝓖 .A) (𝓜 .mem) (𝓡 .run)) 𝓜 𝓡 code.env write-from-def.name write-from-def.routine code.calls-flic·write-from (write-from-thm.met 𝓤 H 𝓜 𝓖 𝓡);
+      write-from = cited 𝓤 H (WriteFrom 𝓤 H (𝓖 .A) (𝓜 .mem) (𝓡 .run)) 𝓜 𝓡 code.env write-from-def.name write-from-def.routine code.calls-controller·write-from (write-from-thm.met 𝓤 H 𝓜 𝓖 𝓡);
     }))

@@ -1,10 +1,10 @@
--- `flic::on_records` meets its contract. Assumes nothing.
+-- `controller::on_records` meets its contract. Assumes nothing.
 use mathlib.Core.Path.{refl}
 use native.Mathlib.Omega.{arith}
 use borrow.Author.Needs.{needs}
 use Rattle.rules.specs.State.{paperLimits}
-use Rattle.flic.proofs.on_records.Statement.{statement}
-use Rattle.flic.proofs.on_records.Tie as tie
+use Rattle.controller.proofs.on_records.Statement.{statement}
+use Rattle.controller.proofs.on_records.Tie as tie
 
 refuse-requires : tie.Need-refuse-requires
 refuse-requires c κs = search needs

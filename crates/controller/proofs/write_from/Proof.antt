@@ -1,10 +1,10 @@
--- `flic::write_from` meets its contract. Assumes nothing.
+-- `controller::write_from` meets its contract. Assumes nothing.
 use mathlib.Core.Path.{refl, _∙_, sym}
 use Rattle.rules.specs.State.{paperLimits}
 use Rattle.image_places.proofs.Laws.{places-all}
 use borrow.Author.Needs.{needs}
-use Rattle.flic.proofs.write_from.Statement.{statement}
-use Rattle.flic.proofs.write_from.Tie as tie
+use Rattle.controller.proofs.write_from.Statement.{statement}
+use Rattle.controller.proofs.write_from.Tie as tie
 
 refuse-requires : tie.Need-refuse-requires
 refuse-requires c κs = search needs

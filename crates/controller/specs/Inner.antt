@@ -9,6 +9,7 @@ use Rattle.rules.specs.Bytes.{choose}
 use Rattle.rules.specs.State.{State, nothing, withPending, paperLimits}
 use Rattle.rules.specs.Requests.{setRequest, getRequest, request}
 use Rattle.rules.specs.Outcome.{refuse}
+use Rattle.rules.specs.Take.{takes}
 use Rattle.rules.specs.MoveList.{writes, plays}
 use Rattle.rules.proofs.Lists.{All}
 use Rattle.answers.specs.declared.Answer.{Answer}
@@ -19,10 +20,10 @@ use Rattle.adapters.specs.Values.{placeOf, deviceOf, Canonical, withMasked}
 use Rattle.image.specs.Image.{unpacked}
 use Rattle.records.specs.Memory.{pendingOf}
 use Rattle.values.specs.States.{Replies, aboutOf}
-use Rattle.flic.specs.declared.Controller.{Controller}
-use Rattle.flic.specs.declared.Decision.{Decision}
-use Rattle.flic.specs.declared.Started.{Started}
-use Rattle.flic.specs.Surface.{Ready}
+use Rattle.controller.specs.declared.Controller.{Controller}
+use Rattle.controller.specs.declared.Decision.{Decision}
+use Rattle.controller.specs.declared.Started.{Started}
+use Rattle.queues.specs.Queues.{Held}
 
 -- a controller from its arrays and its capability
 abbrev pub controller : (slots order counts singles : List ℕ) → Bool → Controller
@@ -38,7 +39,7 @@ pub record Began (table : ℕ) (ais : Bool) (c c′ : Controller) (d : Device) (
         restored = paperLimits .places;
         image = replicate (paperLimits .places) 0;
       })
-      × (pendingOf (c′ .order) (c′ .counts) (c′ .slots) (c′ .singles) ≡ nothing) × Ready c′
+      × (pendingOf (c′ .order) (c′ .counts) (c′ .slots) (c′ .singles) ≡ nothing) × Held (c′ .order) (c′ .counts)
   pub wrong : (table ≡ paperLimits .places → ⊥)
       → (r .answer ≡ record { code = 14; count = 0 }) × (r .device ≡ d) × (r .restored ≡ 0) × (c′ ≡ c)
 
@@ -57,7 +58,7 @@ pub record Replayed (table : ℕ) (c c′ : Controller) (d : Device) (b : List �
   pub wrong : (table ≡ paperLimits .places → ⊥) → (r .answer ≡ record { code = 14; count = 0 }) × (r .restored ≡ 0)
   pub same : r .restored ≡ 0 → (c′ ≡ c) × (r .device ≡ d)
   pub whole : (r .restored ≡ 0 → ⊥) → r .restored ≡ paperLimits .places
-  pub held : table ≡ paperLimits .places → Ready c′
+  pub held : table ≡ paperLimits .places → Held (c′ .order) (c′ .counts)
   pub canonical : All Canonical (map unpacked (take (paperLimits .places) (r .image)))
   pub answer : table ≡ paperLimits .places → (s : State) → s .ais ≡ c .ais → s .pending ≡ pendingOf (c .order) (c .counts) (c .slots) (c .singles)
       → s .device ≡ deviceOf d
@@ -79,7 +80,7 @@ pub record Recorded (table group attr : ℕ) (c c′ : Controller) (b : List ℕ
       → Answers paperLimits s b (request paperLimits s (setRequest group) attr b) r
       (withPending (pendingOf (c′ .order) (c′ .counts) (c′ .slots) (c′ .singles)) s) b
   pub kept : (r .code ≡ 0 → ⊥) → c′ ≡ c
-  pub held : table ≡ paperLimits .places → Ready c′
+  pub held : table ≡ paperLimits .places → Held (c′ .order) (c′ .counts)
 
 -- the id where a request is of a group, else one that no table has
 unfoldable pub ifGroup : (group wanted id : ℕ) → ℕ
@@ -98,7 +99,7 @@ pub record Decided (table group attr id : ℕ) (c c′ : Controller) (d : Device
       (pendingOf (c .order) (c .counts) (c .slots) (c .singles)) (pendingOf (c′ .order) (c′ .counts) (c′ .slots) (c′ .singles))
       (record { answer = r .answer; device = r .device; place = placeAfter group p r })
   pub kept : (r .answer .code ≡ 0 → ⊥) → (c′ ≡ c) × (r .device ≡ d) × (placeAfter group p r ≡ p)
-  pub held : table ≡ paperLimits .places → Ready c′ × Canonical (placeAfter group p r)
+  pub held : table ≡ paperLimits .places → Held (c′ .order) (c′ .counts) × Canonical (placeAfter group p r)
 
 -- A get request with a table of so many places.
 pub record Got (table group attr : ℕ) (c : Controller) (d : Device) (b b′ : List ℕ) (r : Answer) : Type 0 where
@@ -106,3 +107,10 @@ pub record Got (table group attr : ℕ) (c : Controller) (d : Device) (b b′ : 
   pub answer : table ≡ paperLimits .places → (s : State) → s .ais ≡ c .ais → s .pending ≡ pendingOf (c .order) (c .counts) (c .slots) (c .singles)
       → s .device ≡ deviceOf d → Answers paperLimits s b (request paperLimits s (getRequest group) attr b) r s b′
   pub kept : (r .code ≡ 0 → ⊥) → b′ ≡ b
+
+-- A take.
+pub record Handed (subclasses : ℕ) (external mcheck : Bool) (c c′ : Controller) (b b′ : List ℕ) (r : Answer) : Type 0 where
+  pub answer : (s : State) → s .pending ≡ pendingOf (c .order) (c .counts) (c .slots) (c .singles)
+      → Answers paperLimits s b (takes s subclasses external mcheck b) r (withPending (pendingOf (c′ .order) (c′ .counts) (c′ .slots) (c′ .singles)) s) b′
+  pub kept : (r .code ≡ 0 → ⊥) → (c′ ≡ c) × (b′ ≡ b)
+  pub held : Held (c′ .order) (c′ .counts)

@@ -1,8 +1,8 @@
--- `flic::answer_get` meets its contract. Assumes nothing.
+-- `controller::answer_get` meets its contract. Assumes nothing.
 use mathlib.Core.Path.{refl}
 use borrow.Author.Needs.{needs}
-use Rattle.flic.proofs.answer_get.Statement.{statement}
-use Rattle.flic.proofs.answer_get.Tie as tie
+use Rattle.controller.proofs.answer_get.Statement.{statement}
+use Rattle.controller.proofs.answer_get.Tie as tie
 
 refuse-requires : tie.Need-refuse-requires
 refuse-requires c κs = search needs

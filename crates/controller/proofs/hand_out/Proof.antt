@@ -1,11 +1,9 @@
--- `flic::hand_out` meets its contract. Assumes nothing.
+-- `controller::hand_out` meets its contract. Assumes nothing.
 use mathlib.Core.Path.{refl}
 use Rattle.rules.specs.State.{paperLimits}
-use Rattle.rules.specs.Machine.{step, outcome}
-use Rattle.flic.specs.Surface.{stateOf}
 use borrow.Author.Needs.{needs}
-use Rattle.flic.proofs.hand_out.Statement.{statement}
-use Rattle.flic.proofs.hand_out.Tie as tie
+use Rattle.controller.proofs.hand_out.Statement.{statement}
+use Rattle.controller.proofs.hand_out.Tie as tie
 
 take-requires : tie.Need-take-requires
 take-requires c κs = search needs
@@ -14,12 +12,11 @@ same-length : tie.Need-same-length
 same-length c = search needs
 
 returns : tie.Need-returns
-unfolding step outcome stateOf
 returns c = λ ais.
     record {
-      steps = λ d t. c .before .before .take .ensures .0 paperLimits _ refl;
+      answer = λ s p. c .before .before .take .ensures .0 paperLimits s p;
       kept = λ n. let k = c .before .before .take .ensures .1 .1 n in ((λ i. record { slots = c .before .before .before .before .before .before .before .before .before .args .slots .now; order = k .0 i; counts = k .1 i; singles = k .2 i; ais = ais }), k .3);
-      ready = c .before .before .take .ensures .1 .0;
+      held = c .before .before .take .ensures .1 .0;
     }
 
 pub hand-out-spec : {M : Type 1} → statement M

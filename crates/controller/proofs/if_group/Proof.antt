@@ -1,10 +1,10 @@
--- `flic::if_group` meets its contract. Assumes nothing.
+-- `controller::if_group` meets its contract. Assumes nothing.
 use mathlib.Core.Path.{sym}
 use borrow.Author.Tests.{eq-eqb, ne-eqb}
 use Rattle.rules.proofs.Checks.{chosen, passed}
-use Rattle.flic.specs.Inner.{ifGroup}
-use Rattle.flic.proofs.if_group.Statement.{statement}
-use Rattle.flic.proofs.if_group.Tie as tie
+use Rattle.controller.specs.Inner.{ifGroup}
+use Rattle.controller.proofs.if_group.Statement.{statement}
+use Rattle.controller.proofs.if_group.Tie as tie
 
 returns : tie.Need-returns
 unfolding ifGroup

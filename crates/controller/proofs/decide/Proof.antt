@@ -1,12 +1,12 @@
--- `flic::decide` meets its contract. Assumes nothing.
+-- `controller::decide` meets its contract. Assumes nothing.
 use mathlib.Core.Path.{refl, sym, _∙_, subst}
 use native.Mathlib.Omega.{arith}
 use Rattle.adapters.specs.Values.{Canonical}
 use Rattle.core.proofs.Laws.{not-records}
-use Rattle.flic.proofs.Promises.{place-named, place-same, place-changed}
+use Rattle.controller.proofs.Laws.{place-named, place-same, place-changed}
 use borrow.Author.Needs.{needs}
-use Rattle.flic.proofs.decide.Statement.{statement}
-use Rattle.flic.proofs.decide.Tie as tie
+use Rattle.controller.proofs.decide.Statement.{statement}
+use Rattle.controller.proofs.decide.Tie as tie
 
 if-group-requires : tie.Need-if-group-requires
 if-group-requires c κs = search needs

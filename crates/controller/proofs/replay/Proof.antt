@@ -1,14 +1,14 @@
--- `flic::replay` meets its contract. Assumes nothing.
+-- `controller::replay` meets its contract. Assumes nothing.
 use mathlib.Core.Path.{refl}
 use native.Mathlib.Omega.{arith}
 use lib.ListN.{replicate}
 use Rattle.rules.specs.State.{paperLimits}
 use Rattle.image_places.specs.Places.{AllCanonical}
 use Rattle.image_places.proofs.Laws.{canonical-zeros, canonical-take}
-use Rattle.flic.proofs.Promises.{replayed-answer}
+use Rattle.controller.proofs.Laws.{replayed-answer}
 use borrow.Author.Needs.{needs}
-use Rattle.flic.proofs.replay.Statement.{statement}
-use Rattle.flic.proofs.replay.Tie as tie
+use Rattle.controller.proofs.replay.Statement.{statement}
+use Rattle.controller.proofs.replay.Tie as tie
 
 empty-requires : tie.Need-empty-requires
 empty-requires c κs = search needs

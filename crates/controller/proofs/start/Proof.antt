@@ -1,9 +1,9 @@
--- `flic::start` meets its contract. Assumes nothing.
+-- `controller::start` meets its contract. Assumes nothing.
 use mathlib.Core.Path.{refl}
 use Rattle.rules.specs.State.{paperLimits}
 use borrow.Author.Needs.{needs}
-use Rattle.flic.proofs.start.Statement.{statement}
-use Rattle.flic.proofs.start.Tie as tie
+use Rattle.controller.proofs.start.Statement.{statement}
+use Rattle.controller.proofs.start.Tie as tie
 
 empty-requires : tie.Need-empty-requires
 empty-requires c κs = search needs

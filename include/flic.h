@@ -29,7 +29,7 @@
  *   or group, and 0 in a refusal, but for a list that is refused part-way (flic_play_list).
  *   A refusal leaves the controller, its device record, every lent table and every buffer as they
  *   were, but for that one case. A table that has not FLIC_PLACES places is EFAULT at each call that is
- *   lent one, before anything else is looked at, and nothing changes.
+ *   lent one, whatever else is wrong with the call, and nothing changes.
  */
 #ifndef FLIC_H
 #define FLIC_H

@@ -114,7 +114,8 @@ fn get_all<S: Subject + 'static>() -> Box<dyn FnMut(usize)> {
     let mut out = vec![0; ROOM * RECORD];
     Box::new(move |times| {
         for _ in 0..times {
-            let answer = s.get(GET_ALL_IRQS, (ROOM * RECORD) as u64, black_box(&mut out));
+            let out: &mut Vec<u8> = black_box(&mut out);
+            let answer = s.get(GET_ALL_IRQS, (ROOM * RECORD) as u64, out);
             debug_assert_eq!(answer, (0, 256));
             black_box(answer);
         }
@@ -148,10 +149,12 @@ fn moves<S: Subject + 'static>(write: bool, play: bool) -> Box<dyn FnMut(usize)>
     Box::new(move |times| {
         for _ in 0..times {
             if write {
-                black_box(s.write(black_box(&mut list)));
+                let out: &mut Vec<u8> = black_box(&mut list);
+                black_box(s.write(out));
             }
             if play {
-                black_box(s.play(black_box(&list)));
+                let list: &Vec<u8> = black_box(&list);
+                black_box(s.play(list));
             }
         }
     })

@@ -30,13 +30,6 @@ pub place-free : (p : Place) → p .used ≡ false → placeOf p ≡ free
 unfolding placeOf choose
 place-free p e = rw e
 
-pub place-holds : (p : Place) (x : Adapter) → placeOf p ≡ holds x → (p .used ≡ true) × (adapterOf p ≡ x)
-place-holds p x e = go (p .used) refl
-  where
-    go : (b : Bool) → p .used ≡ b → (p .used ≡ true) × (adapterOf p ≡ x)
-    go true u = (u, cc (place-used p u))
-    go false u = let z : _≡_ {A = ℕ} 0 1 = cc (place-free p u) in absurd (omega arith)
-
 pub place-is-free : (p : Place) → placeOf p ≡ free → p .used ≡ false
 place-is-free p e = go (p .used) refl
   where

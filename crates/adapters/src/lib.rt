@@ -35,7 +35,7 @@ pub fn fresh_device() -> Device
     }
 }
 
-// The device record anew, field by field: bytes that were just written one by one are read so.
+// The device record anew, field by field: a copy of the whole reads bytes that were just written one by one as a wider word, and waits.
 pub fn by_fields(d: Device) -> Device
     ensures { λ r. ⌜ r ≡ d ⌝ }
 {

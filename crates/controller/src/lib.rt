@@ -30,7 +30,7 @@ pub struct Controller {
     pub ais: bool,
 }
 
-// What a set request comes to: `entered` is the place at the id `enters`, and the place at the id `masks` is masked as `masked` says. An id that no
+// What a set request comes to that is not about records alone: `entered` is the place at the id `enters`, and the place at the id `masks` is masked as `masked` says. An id that no
 // table has stands for nowhere.
 pub struct Decision {
     pub answer: Answer,
@@ -162,7 +162,7 @@ pub fn write_from(
 }
 
 // A set request about pending records alone, on the controller's arrays.
-pub fn on_records(
+pub fn answer_records(
     slots: &mut [u8; SLOT_BYTES],
     order: &mut [u8; ROOM],
     counts: &mut [usize; QUEUES],

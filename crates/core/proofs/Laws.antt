@@ -1,4 +1,4 @@
--- From answers about pending records to replies, and the cases of an injection.
+-- Replies to an injection and its cases; which request a group number is.
 use Prim.Native.Nat.{ℕ, zero, suc, _≤_, _<_}
 use mathlib.Core.Path.{_≡_, refl, ap, sym, _∙_, subst}
 use mathlib.Core.Bool.{Bool, true, false, _&&_, _||_, true≢false}
@@ -20,7 +20,7 @@ use Rattle.adapters.specs.declared.Device.{Device}
 use Rattle.adapters.specs.declared.Place.{Place}
 use Rattle.adapters.specs.declared.Injection.{Injection}
 use Rattle.adapters.specs.declared.Injection.the-variants.{NoAdapter, Dropped, Full, Appended}
-use Rattle.adapters.specs.Values.{placeOf, deviceOf, adapterOf, underAis, injectedDevice, Canonical}
+use Rattle.adapters.specs.Values.{placeOf, deviceOf, adapterOf, underAis, injectedDevice}
 use Rattle.adapters.proofs.Laws.{place-used, place-free}
 use Rattle.values.specs.declared.Reply.{Reply}
 use Rattle.values.specs.States.{aboutOf, stateWith, Replies}

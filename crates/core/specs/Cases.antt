@@ -1,4 +1,4 @@
--- Which set requests are about pending records alone; and, 01, group 10 and 'Codes and the order of checks', the code and count for each case of an injection.
+-- 01, group 10 and 'Codes and the order of checks': the code and count for each case of an injection. And which set requests are about pending records alone.
 use Prim.Native.Nat.{ℕ}
 use mathlib.Core.Bool.{Bool, _||_}
 use lib.Dec.{eqb}

@@ -9,7 +9,7 @@ use lib.Seq.{set-getD}
 use lib.Dec.{eqb}
 use borrow.Author.Tests.{eq-eqb, ne-eqb, eqb-true, eqb-false}
 use Rattle.rules.specs.Bytes.{choose}
-use Rattle.rules.specs.State.{State, Pending, free, fresh, paperLimits}
+use Rattle.rules.specs.State.{State, free, fresh, paperLimits}
 use Rattle.rules.specs.Outcome.{Outcome, refuse, need_else_⨾_, result}
 use Rattle.rules.specs.Outcome.{Answer as Told}
 use Rattle.rules.specs.Machine.{Ask, setAttr, getAttr, writeList, playList, outcome, step}
@@ -24,11 +24,9 @@ use Rattle.queues.specs.Queues.{Held}
 use Rattle.records.specs.Memory.{pendingOf}
 use Rattle.image.specs.Image.{imageSize, unpacked}
 use Rattle.image.proofs.Laws.{unpacked-zero, unpacked-table}
-use Rattle.image_places.proofs.Laws.{places-take}
-use Rattle.play.specs.Play.{stateOf as imageState}
 use Rattle.table.specs.Table.{snapTo, restored}
 use Rattle.table.proofs.Tables.{snap-all, restored-none, restored-all, restored-whole}
-use Rattle.values.specs.States.{aboutOf, stateWith, Within, changeOf, enters, masks, keeps}
+use Rattle.values.specs.States.{aboutOf, stateWith}
 use Rattle.controller.specs.declared.Controller.{Controller}
 use Rattle.controller.specs.declared.Decision.{Decision}
 use Rattle.controller.specs.declared.Started.{Started}
@@ -131,7 +129,7 @@ module _ (group attr : ℕ) (c c′ : Controller) (d : Device) (t : List Place) 
         valid = λ e. record { ready = f .held e; places = h e .places; sound = next-sound (setAttr group attr) c c′ d d t t b b r (h e) record-steps };
       }
 
--- any other
+-- any other set request
 module _ (group attr : ℕ) (c c′ : Controller) (d : Device) (t : List Place) (b : List ℕ) (r : Decision) where
   abbrev id : ℕ
   id = aboutOf group attr b

@@ -48,7 +48,7 @@ pub extern "C" fn flic_set(
     ensures { λ r. ⌜ Requested (setAttr group attr) (now (c .entry)) (now (c .exit)) (now (d .entry)) (now (d .exit)) (now (t .entry)) (now (t .exit)) (now (payload .entry)) (now (payload .entry)) r ⌝ }
 {
     if core::on_records(group) {
-        return controller::on_records(
+        return controller::answer_records(
             &mut c.slots,
             &mut c.order,
             &mut c.counts,

@@ -23,13 +23,6 @@ pub unused-byte : (p : Place) → p .used ≡ false → packed p ≡ 0
 unfolding packed choose
 unused-byte p e = rw e
 
-pub packed-byte : (p : Place) → packed p < 256
-packed-byte p = go (p .used) refl
-  where
-    go : (u : Bool) → p .used ≡ u → packed p < 256
-    go true e = omega (arith, used-byte p e, flag-le (p .maskable), flag-le (p .swap), flag-le (p .suppressible), flag-le (p .masked))
-    go false e = omega (arith, unused-byte p e)
-
 -- a byte below 128 is an unused place, any other a used one
 pub unpacked-unused : (b : ℕ) → b < 128 → unpacked b ≡ unused
 unfolding unpacked choose
@@ -76,9 +69,6 @@ unpacked-packed p k = go (p .used) refl
     go : (u : Bool) → p .used ≡ u → unpacked (packed p) ≡ p
     go true e = used-back p (k .iscSmall) e
     go false e = rw (unused-byte p e) (unpacked-zero ∙ sym (k .unusedOne e))
-
-pub canonical-back : (p : Place) → Canonical p → Canonical (unpacked (packed p))
-canonical-back p k = rw (unpacked-packed p k) k
 
 pub unpacked-table : (t : List Place) → All Canonical t → map unpacked (map packed t) ≡ t
 unpacked-table [] k = refl

@@ -25,10 +25,6 @@ module _ (b : List ℕ) (at : ℕ) where
   unfolding put
   put-none = rw (add-zero at) (sym (take-append-drop at b))
 
-  pub length-put : (x : List ℕ) → at + length x ≤ length b → length (put b at x) ≡ length b
-  unfolding put
-  length-put x h = simp (length-append, length-drop) (omega (arith, length-take-le at b (omega arith)))
-
   -- what is put behind what was put
   pub put-put : (n : ℕ) (x y : List ℕ) → length x ≡ n → at + n ≤ length b → put (put b at x) (at + n) y ≡ put b at (x ++ y)
   unfolding put

@@ -13,8 +13,8 @@ use lib.Seq.{take-all, take-suc, take-at, drop-at, drop-drop, take-set-le, getD-
 use Rattle.rules.specs.Bytes.{choose, byte, part, field}
 use Rattle.rules.specs.State.{Limits, State, Record, Pending, nothing, withPending, single, listing}
 use Rattle.rules.specs.Outcome.{refuse, accept}
-use Rattle.rules.specs.Requests.{isZero, isFor, request, clearIoIrq, clearsIo, removes, clears, lists}
-use Rattle.rules.specs.Take.{orElse, handMchk, handService, handDone, handIo, handed, handsOut, takes}
+use Rattle.rules.specs.Requests.{isZero, isFor, withoutFirst, request, clearIoIrq, clearsIo, removes, clears, lists}
+use Rattle.rules.specs.Take.{firstAllowed, orElse, handMchk, handService, handDone, handIo, handed, handsOut, takes}
 use Rattle.rules.proofs.Checks.{passes, fails}
 use Rattle.rules.proofs.Lists.{flatten-append}
 use Rattle.answers.specs.Answers.{Answers}
@@ -28,7 +28,7 @@ use Rattle.singles.proofs.Laws.{absent-if, there-if}
 use Rattle.search.specs.declared.Found.{Found}
 use Rattle.search.specs.declared.Found.the-variants.{At, None}
 use Rattle.search.specs.Search.{searchQueues, leftAt, handedAt}
-use Rattle.search.proofs.Laws.{found-below, take-is, clear-is}
+use Rattle.search.proofs.Laws.{found-below}
 use Rattle.records.specs.Memory.{pendingOf}
 
 -- ---- the listing of nine queues and two records
@@ -48,10 +48,6 @@ module _ (o c b g : List ℕ) (h : length c ≡ 9) where
   pub length-listing : sum c ≤ length o
       → length (listing (pendingOf o c b g)) ≡ sum c + length (single (serviceOf g)) + length (single (mchkOf g))
   length-listing k = rw (listing-is, length-append, length-append, length-flatten-queues o c b k)
-
-  pub flatten-listing : flatten (listing (pendingOf o c b g))
-      ≡ (flatten (flatten (queues o c b)) ++ flatten (single (serviceOf g))) ++ flatten (single (mchkOf g))
-  flatten-listing = rw (listing-is, flatten-append, flatten-append)
 
 -- what has_service and has_mchk say
 module _ (g : List ℕ) (t : Bool) where
@@ -216,22 +212,23 @@ module _ (b : List ℕ) (x y : ℕ) (ex : x ≡ field 0 2 b) (ey : y ≡ field 2
 
 -- what the rules do by the answer of the search
 module _ (L : Limits) (s : State) (attr : ℕ) (b : List ℕ) (x y : ℕ) (ex : x ≡ field 0 2 b) (ey : y ≡ field 2 2 b) (h : 4 ≤ attr) (k : 4 ≤ length b) (z : (isZero (field 0 2 b) && isZero (field 2 2 b)) ≡ false) (o c m g : List ℕ) (e : s .pending ≡ pendingOf o c m g) where
-  clears-by : (v : Found) → v ≡ searchQueues (isFor x y) 255 0 0 (take 8 (queues o c m)) → request L s clearIoIrq attr b ≡ removes s (leftAt v (take 8 (queues o c m)))
+  clears-by : (v : Found) → withoutFirst (isFor x y) (take 8 (queues o c m)) ≡ leftAt v (take 8 (queues o c m)) → request L s clearIoIrq attr b ≡ removes s (leftAt v (take 8 (queues o c m)))
   unfolding request clearsIo pendingOf
-  clears-by v f =
+  clears-by v t =
       passes _ _ _ (le-leb 4 attr h) ∙ passes _ _ _ (le-leb 4 (length b) k) ∙ passes _ _ _ (ap not z)
-      ∙ rw (e, ← ex, ← ey, clear-is (isFor x y) (take 8 (queues o c m)) (omega (arith, length-take 8 (queues o c m))), f)
+      ∙ rw (e, ← ex, ← ey, t)
 
-  pub clears-none : (v : Found) → v ≡ None → v ≡ searchQueues (isFor x y) 255 0 0 (take 8 (queues o c m)) → request L s clearIoIrq attr b ≡ accept 0 (withPending (pendingOf o c m g) s) []
+  pub clears-none : (v : Found) → v ≡ None → withoutFirst (isFor x y) (take 8 (queues o c m)) ≡ leftAt v (take 8 (queues o c m)) → request L s clearIoIrq attr b ≡ accept 0 (withPending (pendingOf o c m g) s) []
   unfolding removes
-  clears-none v w f = clears-by None (sym w ∙ f) ∙ ap (λ (t : State). accept 0 t []) (sym (same-state s (pendingOf o c m g) e))
+  clears-none v w t = clears-by None (t ∙ ap (λ (u : Found). leftAt u (take 8 (queues o c m))) w) ∙ ap (λ (t : State). accept 0 t []) (sym (same-state s (pendingOf o c m g) e))
 
   pub clears-one : (v : Found) (i k : ℕ) (u d : List ℕ) → v ≡ At (record { 0 = i }) k → v ≡ searchQueues (isFor x y) 255 0 0 (take 8 (queues o c m))
+      → withoutFirst (isFor x y) (take 8 (queues o c m)) ≡ leftAt v (take 8 (queues o c m))
       → queues u d m ≡ withoutAt k (queues o c m) → request L s clearIoIrq attr b ≡ accept 1 (withPending (pendingOf u d m g) s) []
   unfolding removes
-  clears-one v i k u d w f q =
+  clears-one v i k u d w f t q =
       let l = found-below (isFor x y) 255 (take 8 (queues o c m)) i k (sym f ∙ w) in
-      clears-by (At (record { 0 = i }) k) (sym w ∙ f) ∙ rw (io-left o c u d m g k l q, e) (unfold pendingOf in refl)
+      clears-by (At (record { 0 = i }) k) (t ∙ ap (λ (u : Found). leftAt u (take 8 (queues o c m))) w) ∙ rw (io-left o c u d m g k l q, e) (unfold pendingOf in refl)
 
 -- ---- the take: a class of records that hands nothing out
 abbrev pub NoMchk : Pending → Bool → Type 0
@@ -296,21 +293,22 @@ module _ (o c b g : List ℕ) (m : ℕ) (e k : Bool) where
           rw (done-left o c u v b g (rw f (omega arith)) q, n₁, n₂, ee, f)
 
       module _ (n₃ : NoDone (pendingOf o c b g) e) where
-        hands-by : (v : Found) → v ≡ searchQueues (λ r. true) m 0 0 (take 8 (queues o c b))
+        hands-by : (v : Found) → firstAllowed 0 m (take 8 (queues o c b)) ≡ handedAt v (take 8 (queues o c b))
             → let p = pendingOf o c b g in
             handed p m e k ≡ handIo p (handedAt v (p .io))
         unfolding handed orElse pendingOf
-        hands-by v f = rw (n₁, n₂, n₃, take-is m (take 8 (queues o c b)), f)
+        hands-by v t = rw (n₁, n₂, n₃, t)
 
-        pub hands-nothing : (v : Found) → v ≡ None → v ≡ searchQueues (λ r. true) m 0 0 (take 8 (queues o c b)) → handed (pendingOf o c b g) m e k ≡ none
-        hands-nothing v w f = hands-by None (sym w ∙ f)
+        pub hands-nothing : (v : Found) → v ≡ None → firstAllowed 0 m (take 8 (queues o c b)) ≡ handedAt v (take 8 (queues o c b)) → handed (pendingOf o c b g) m e k ≡ none
+        hands-nothing v w t = hands-by None (t ∙ ap (λ (u : Found). handedAt u (take 8 (queues o c b))) w)
 
         pub hands-io : (v : Found) (x n : ℕ) (u d r : List ℕ) → v ≡ At (record { 0 = x }) n → v ≡ searchQueues (λ r. true) m 0 0 (take 8 (queues o c b))
+            → firstAllowed 0 m (take 8 (queues o c b)) ≡ handedAt v (take 8 (queues o c b))
             → r ≡ getD (flatten (queues o c b)) n [] → queues u d b ≡ withoutAt n (queues o c b)
             → handed (pendingOf o c b g) m e k ≡ some (record { given = r; left = pendingOf u d b g })
-        hands-io v x n u d r w f er q =
+        hands-io v x n u d r w f t er q =
             let l = found-below (λ r. true) m (take 8 (queues o c b)) x n (sym f ∙ w) in
-            hands-by (At (record { 0 = x }) n) (sym w ∙ f) ∙ rw (io-left o c u d b g n l q, er, record-of 8 n (queues o c b) l) (unfold pendingOf in refl)
+            hands-by (At (record { 0 = x }) n) (t ∙ ap (λ (u : Found). handedAt u (take 8 (queues o c b))) w) ∙ rw (io-left o c u d b g n l q, er, record-of 8 n (queues o c b) l) (unfold pendingOf in refl)
 
 -- from what is handed out to the answer
 module _ (L : Limits) (s : State) (p : Pending) (m : ℕ) (e k : Bool) (b : List ℕ) (a : Answer) (x : s .pending ≡ p) (h : 72 ≤ length b) where

@@ -12,7 +12,7 @@ use Rattle.rules.specs.Bytes.{choose}
 use Rattle.rules.specs.State.{Record}
 use Rattle.rules.proofs.Lists.{All, flatten-append}
 use Rattle.slots.specs.Slots.{slotCount, insertAt, removeAt, listed, Apart}
-use Rattle.slots.proofs.Laws.{length-removeAt, length-listed, every-record}
+use Rattle.slots.proofs.Laws.{length-removeAt, length-listed}
 use Rattle.queues.specs.Queues.{sum, cut, queues, withoutAt, InQueue, Held}
 
 -- ---- sums of counts
@@ -153,22 +153,6 @@ module _ {A : Type 0} where
   cut-none zero l = refl
   cut-none (suc n) l = ap (λ (t : List (List A)). [] ∷ t) (cut-none n l)
 
-  module _ (P : A → Type 0) where
-    all-take : (n : ℕ) (l : List A) → All P l → All P (take n l)
-    all-take zero l h = tt
-    all-take (suc n) [] h = tt
-    all-take (suc n) (x ∷ l) h = (h .0, all-take n l (h .1))
-
-    all-drop : (n : ℕ) (l : List A) → All P l → All P (drop n l)
-    all-drop zero l h = h
-    all-drop (suc n) [] h = tt
-    all-drop (suc n) (x ∷ l) h = all-drop n l (h .1)
-
-    all-cut : (cs : List ℕ) (l : List A) → All P l → All (λ q. All P q) (cut cs l)
-    unfolding cut
-    all-cut [] l h = tt
-    all-cut (c ∷ cs) l h = (all-take c l h, all-cut cs (drop c l) (all-drop c l h))
-
 -- ---- the queues
 pub length-queues : (o c b : List ℕ) → length (queues o c b) ≡ length c
 unfolding queues
@@ -191,10 +175,6 @@ length-flatten-first o c b n h = length-flatten-cut n c (listed 72 o (sum c) b) 
 
 pub length-flatten-queues : (o c b : List ℕ) → sum c ≤ length o → length (flatten (queues o c b)) ≡ sum c
 length-flatten-queues o c b h = ap length (flatten-queues o c b h) ∙ length-listed 72 o (sum c) b h
-
-pub every-queue : (o c b : List ℕ) → ((k : ℕ) → getD o k 0 < 256) → slotCount * 72 ≤ length b → All (λ q. All (λ r. length r ≡ 72) q) (queues o c b)
-unfolding queues
-every-queue o c b h g = all-cut (λ r. length r ≡ 72) c (listed 72 o (sum c) b) (every-record 72 slotCount o (sum c) b h g)
 
 pub queues-none : (o b : List ℕ) → queues o (replicate 9 0) b ≡ replicate 9 []
 unfolding queues

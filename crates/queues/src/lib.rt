@@ -45,7 +45,7 @@ fn append(b: &mut [u8], o: &mut [u8], c: &mut [usize], q: usize, n: usize, r: [u
     c[q] = c[q] + 1;
 }
 
-// Takes the record at place at of all out of queue q, in which it is.
+// Takes the record at place `at` of all out of queue q, in which it is.
 fn remove(o: &mut [u8], c: &mut [usize], q: usize, at: usize)
     requires { ⌜ (q < length (now c)) × InQueue (now c) q at × (length (now o) ≡ slotCount) × Held (now o) (now c) ⌝ }
     ensures queue { λ _. ⌜ ((b : List ℕ) → queues (now (o .exit)) (now (c .exit)) b ≡ withoutAt at (queues (now (o .entry)) (now (c .entry)) b)) ⌝ }
@@ -57,7 +57,7 @@ fn remove(o: &mut [u8], c: &mut [usize], q: usize, at: usize)
     c[q] = c[q] - 1;
 }
 
-// The record at place at of all.
+// The record at place `at` of all.
 pub fn read(b: &[u8; SLOT_BYTES], o: &[u8; ROOM], c: &[usize; QUEUES], at: usize) -> [u8; 72]
     requires { ⌜ (at < sum (now c)) × Held (now o) (now c) ⌝ }
     ensures { λ r. ⌜ r ≡ getD (flatten (queues (now (o .entry)) (now (c .entry)) (now (b .entry)))) at [] ⌝ }
@@ -100,7 +100,7 @@ pub fn append_done(
     append(b, o, c, 8, n, r);
 }
 
-// The record at place at of all leaves the queue of its subclass.
+// The record at place `at` of all leaves the queue of its subclass.
 pub fn remove_io(o: &mut [u8; ROOM], c: &mut [usize; QUEUES], isc: Subclass, at: usize)
     requires { ⌜ (isc .0 < 8) × InQueue (now c) (isc .0) at × Held (now o) (now c) ⌝ }
     ensures queue { λ _. ⌜ ((b : List ℕ) → queues (now (o .exit)) (now (c .exit)) b ≡ withoutAt at (queues (now (o .entry)) (now (c .entry)) b)) ⌝ }

@@ -101,7 +101,7 @@ fn answer_to(b: &[u8], n: usize, queued: usize, room: usize) -> Answer
     answers::accept(n as u64)
 }
 
-// Adds the record at index at of b, where so many are queued; how many are then.
+// Adds the record at index `at` of b, where so many are queued, and answers how many are then.
 fn add_one(
     slots: &mut [u8; SLOT_BYTES],
     order: &mut [u8; ROOM],
@@ -115,7 +115,7 @@ fn add_one(
     ensures pending { λ _. ⌜ pendingOf (now (order .exit)) (now (counts .exit)) (now (slots .exit)) (now (singles .exit)) ≡ add (part at 72 (now (b .entry))) (pendingOf (now (order .entry)) (now (counts .entry)) (now (slots .entry)) (now (singles .entry))) ⌝ }
     ensures held { λ r. ⌜ Held (now (order .exit)) (now (counts .exit)) × (r ≡ sum (now (counts .exit))) × (r ≡ queued + wants (kind (part at 72 (now (b .entry))))) ⌝ }
 {
-    // The record is loaded for its kind: the merge of a machine check would split the copy of all kinds.
+    // Loaded in each case: loaded before the match, the merge of a machine check would split the copy for every kind.
     match kind_at(b, at) {
         Kind::Io(isc) => {
             queues::append_io(slots, order, counts, isc, queued, words::load(b, at));

@@ -147,17 +147,6 @@ module _ (L : Limits) (s : State) where
   unfolding outcome writes
   write-shape table b = get-need _ _ _ (get-need _ _ _ (refl, tt))
 
--- ---- the take
-hands-shape : (s : State) (o : Option (Handed Pending)) → Shape Any Any ⊥ (handsOut s o)
-unfolding handsOut
-hands-shape s none = (tt, tt)
-hands-shape s (some h) = (tt, tt)
-
-pub take-shape : (L : Limits) (s : State) (subclasses : ℕ) (external mcheck : Bool) (table : ℕ) (b : List ℕ)
-    → Shape Any Any ⊥ (outcome L s (guestTake subclasses external mcheck) table b)
-unfolding outcome takes
-take-shape L s subclasses external mcheck table b = needs Any Any ⊥ _ _ _ (hands-shape s _)
-
 -- ---- the playing of a list writes nothing
 apply-shape : (o : Outcome) (place : ℕ) (rest : State → Outcome) → ((t : State) → Shape Any None (Unit {0}) (rest t)) → Shape Any None (Unit {0}) (onward o place rest)
 unfolding onward

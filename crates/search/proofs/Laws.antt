@@ -1,5 +1,5 @@
 -- Laws of the queues that the order and the counts say, of the search over them, and of what the rules do at the place that it finds. Assumes nothing.
-use mathlib.Core.Path.{_≡_, refl}
+use mathlib.Core.Path.{_≡_, refl, sym, ap, _∙_}
 use mathlib.Core.Bool.{Bool, true, false, _&&_}
 use mathlib.Core.Option.{none, some}
 use mathlib.Core.List.{List, [], _∷_, _++_, flatten}
@@ -21,7 +21,7 @@ use Rattle.queues.specs.Queues.{sum, queues}
 use Rattle.queues.proofs.Laws.{sum-next, cut-at, without-here, without-past, length-queues, length-queue}
 use Rattle.search.specs.declared.Found.{Found}
 use Rattle.search.specs.declared.Found.the-variants.{At, None}
-use Rattle.search.specs.Search.{searchQueue, searchQueues, leftAt, handedAt}
+use Rattle.search.specs.Search.{searchQueue, searchQueues, leftAt, handedAt, wanted}
 
 -- ---- a record is for a subchannel by two fields of its slot
 field-slot : (at n w : ℕ) (b : List ℕ) (s : ℕ) → at + n ≤ w → field at n (slot w b s) ≡ field (s * w + at) n b
@@ -215,3 +215,13 @@ clear-from f n (q ∷ qs) h =
 
 pub clear-is : (f : Record → Bool) (qs : List (List Record)) → length qs ≤ 8 → withoutFirst f qs ≡ leftAt (searchQueues f 255 0 0 qs) qs
 clear-is f qs h = clear-from f 0 qs (omega arith)
+
+-- what the rules do at what the search answers: the subchannel's first record, and any record of an allowed subclass
+module _ (any : Bool) (id nr mask : ℕ) (qs : List (List Record)) (v : Found) (e : v ≡ searchQueues (wanted any id nr) mask 0 0 (take 8 qs)) where
+  pub cleared : any ≡ false → mask ≡ 255 → withoutFirst (isFor id nr) (take 8 qs) ≡ leftAt v (take 8 qs)
+  cleared a m =
+      clear-is (isFor id nr) (take 8 qs) (omega (arith, length-take 8 qs))
+      ∙ ap (λ (u : Found). leftAt u (take 8 qs)) (sym (e ∙ (λ i. searchQueues (wanted (a i) id nr) (m i) 0 0 (take 8 qs))))
+
+  pub handed-out : any ≡ true → firstAllowed 0 mask (take 8 qs) ≡ handedAt v (take 8 qs)
+  handed-out a = take-is mask (take 8 qs) ∙ ap (λ (u : Found). handedAt u (take 8 qs)) (sym (e ∙ (λ i. searchQueues (wanted (a i) id nr) mask 0 0 (take 8 qs))))

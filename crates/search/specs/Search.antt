@@ -12,11 +12,12 @@ use Rattle.queues.specs.Queues.{withoutAt, InQueue}
 use Rattle.search.specs.declared.Found.{Found}
 use Rattle.search.specs.declared.Found.the-variants.{At, None}
 
--- A search over queues, the first of which is that of subclass isc and has k records before it: the first record that is wanted, of a
--- subclass that the mask allows. Found are its subclass and its place among all records.
+-- a record is wanted that is for the subchannel, unless any will do
 abbrev pub wanted : Bool → ℕ → ℕ → Record → Bool
 wanted any id nr r = any || isFor id nr r
 
+-- A search over queues, the first of which is that of subclass isc and has k records before it: the first record that is wanted, of a
+-- subclass that the mask allows. Found are its subclass and its place among all records.
 unfoldable pub searchQueue : (Record → Bool) → ℕ → ℕ → List Record → Found → Found
 searchQueue f isc k [] later = later
 searchQueue f isc k (r ∷ q) later = choose (f r) (At (record { 0 = isc }) k) (searchQueue f isc (suc k) q later)

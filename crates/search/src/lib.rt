@@ -1,11 +1,13 @@
 // Inner crate: the search over subclasses and records.
 ghost use mathlib.Core.Path.{_≡_};
+ghost use mathlib.Core.Bool.{true, false};
 ghost use Prim.Native.Nat.{_*_, _≤_, _<_};
 ghost use lib.ListN.{length, getD, take};
-ghost use Rattle.rules.specs.Requests.{isFor};
+ghost use Rattle.rules.specs.Requests.{isFor, withoutFirst};
+ghost use Rattle.rules.specs.Take.{firstAllowed};
 ghost use Rattle.slots.specs.Slots.{slotCount, slot};
 ghost use Rattle.queues.specs.Queues.{queues, Held};
-ghost use Rattle.search.specs.Search.{searchQueues, wanted, FoundIn};
+ghost use Rattle.search.specs.Search.{searchQueues, wanted, FoundIn, leftAt, handedAt};
 use words::QUEUES;
 use words::ROOM;
 use words::SLOT_BYTES;
@@ -13,7 +15,7 @@ use words::SubchannelId;
 use words::SubchannelNumber;
 use words::Subclass;
 
-// Where a search ended: at a record of a subclass and its place among all records.
+// What a search found: a record's subclass and its place among all records, or none.
 pub enum Found {
     At(Subclass, usize),
     None,
@@ -40,6 +42,8 @@ pub fn find(
 ) -> Found
     requires { ⌜ Held (now o) (now c) ⌝ }
     ensures first { λ r. ⌜ r ≡ searchQueues (wanted any (id .0) (nr .0)) mask 0 0 (take 8 (queues (now (o .entry)) (now (c .entry)) (now (b .entry)))) ⌝ }
+    ensures clears { λ r. ⌜ (any ≡ false → mask ≡ 255 → withoutFirst (isFor (id .0) (nr .0)) (take 8 (queues (now (o .entry)) (now (c .entry)) (now (b .entry)))) ≡ leftAt r (take 8 (queues (now (o .entry)) (now (c .entry)) (now (b .entry))))) ⌝ }
+    ensures hands { λ r. ⌜ (any ≡ true → firstAllowed 0 mask (take 8 (queues (now (o .entry)) (now (c .entry)) (now (b .entry)))) ≡ handedAt r (take 8 (queues (now (o .entry)) (now (c .entry)) (now (b .entry))))) ⌝ }
     ensures place { λ r. ⌜ FoundIn (now (c .entry)) r ⌝ }
 {
     // As slices: what makes one of an array says its length.

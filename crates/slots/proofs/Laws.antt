@@ -160,9 +160,6 @@ pub length-slot : (w m : ℕ) (b : List ℕ) (s : ℕ) → s < m → m * w ≤ l
 unfolding slot
 length-slot w m b s h l = length-take-le w (drop (s * w) b) (simp length-drop (omega (arith, rw suc-mul at (mul-le-mul-right w h))))
 
-pub length-record : (w m : ℕ) (o : List ℕ) (n k : ℕ) (b : List ℕ) → k < n → n ≤ length o → getD o k 0 < m → m * w ≤ length b → length (getD (listed w o n b) k []) ≡ w
-length-record w m o n k b h l f g = ap length (listed-at w o n k b h l) ∙ length-slot w m b (getD o k 0) f g
-
 pub every-record : (w m : ℕ) (o : List ℕ) (n : ℕ) (b : List ℕ) → ((k : ℕ) → getD o k 0 < m) → m * w ≤ length b → All (λ r. length r ≡ w) (listed w o n b)
 unfolding listed
 every-record w m o zero b h g = tt

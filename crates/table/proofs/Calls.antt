@@ -125,15 +125,6 @@ module _ {M : Type 1} {𝓤 : URA M} {H : Heap 𝓤} {A : Atoms 𝓤} {K : Type 
       gives-shared R ys b o t fm (LookUp 𝓤 H A mem′ run) known κ q γ (to-look 𝓤 H A mem′ run W b o ys κ q γ id) (goes-look 𝓤 H A mem′ run W b o ys κ q γ id g)
       R (LL.vals T.the-type T′.the-laws) (getD ys (id .0) unused) (looked 𝓤 H A mem′ run W b o ys κ q γ id) os k
 
-  pub snapshots : K → (mem′ : Memory → SProp 𝓤) (run : Routine → Fun 𝓤) → FmC 𝓤 H (W .laws) C → Triple 𝓤 (C #snapshot) (Snapshot 𝓤 H A mem′ run)
-      → (ys : List Place) (b o : ℕ) → Room R (length ys)
-      → ((i j : Item 𝓤) → Opds K W (i ∷ j ∷ Γ) E xs (sliceVal (b, o) (length ys) ∷ []))
-      → (FitsImage (snapTo ys imageSize) → Seq K W (‵ (row R fullShare ys b o) ∷ Γ) (lands C Λ E d (low-image (snapTo ys imageSize)) rest p))
-      → Seq K W (‵ (row R fullShare ys b o) ∷ Γ) (runs C Λ E (seq (call #snapshot xs d) rest) p)
-  snapshots t mem′ run fm known ys b o room os k =
-      gives-row R ys b o t fm (Snapshot 𝓤 H A mem′ run) known room (λ ν δ. to-snap 𝓤 H A mem′ run W b o ys (ν ∷ []) fullShare δ) (λ ν δ. goes-snap 𝓤 H A mem′ run W b o ys (ν ∷ []) fullShare δ)
-      Image (λ l. low-image l ∷ []) (snapTo ys imageSize) (λ ν δ. snapped 𝓤 H A mem′ run W b o ys (ν ∷ []) fullShare δ) (λ ν δ. os) k
-
   pub snapshots-shared : K → (mem′ : Memory → SProp 𝓤) (run : Routine → Fun 𝓤) → FmC 𝓤 H (W .laws) C → Triple 𝓤 (C #snapshot) (Snapshot 𝓤 H A mem′ run)
       → (ys : List Place) (b o : ℕ) (κ : Lft) (q : Share) (γ : GName)
       → ((i j : Item 𝓤) → Opds K W (i ∷ j ∷ Γ) E xs (sliceVal (b, o) (length ys) ∷ []))

@@ -46,9 +46,6 @@ image-tells = array-tells u8 (uint-vals w8) (uint-tells w8) imageSize
 pub image-of-field : (l : List ℕ) (vs : List Val) → Is Image (map (λ v. v) l) vs → FitsImage l
 image-of-field l vs p = let is = subst (λ (m : List ℕ). Is Image m vs) (map-id l) p in subst (Is Image l) (image-tells l vs is) is
 
-pub field-of-image : (l : List ℕ) → FitsImage l → Is Image (map (λ v. v) l) (low-image l ∷ [])
-field-of-image l g = subst (λ (m : List ℕ). Is Image m (low-image l ∷ [])) (sym (map-id l)) g
-
 module _ {M : Type 1} (𝓤 : URA M) (H : Heap 𝓤) (A : Atoms 𝓤) (W : Given 𝓤 H A) where
   pub image-makes : Makes 𝓤 H A Image (Is Image)
   image-makes = array-makes 𝓤 H A W u8 (uint-makes 𝓤 H A W w8) imageSize

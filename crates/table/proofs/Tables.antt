@@ -86,7 +86,3 @@ restored-all t all n e h =
 
 pub restored-whole : (t : List Place) (all : List ℕ) (n : ℕ) → length t ≡ n → length all ≡ n → restored t all n ≡ map unpacked all
 restored-whole t all n e h = restored-all t all n e (omega arith) ∙ ap (map unpacked) (take-all n all (omega arith))
-
--- a table of 64 places that is restored from the image of another is the other
-pub restored-snap : (t u : List Place) → length t ≡ imageSize → length u ≡ imageSize → All Canonical u → restored t (snapTo u imageSize) imageSize ≡ u
-restored-snap t u e h k = restored-whole t (snapTo u imageSize) imageSize e (length-snap u imageSize) ∙ ap (map unpacked) (snap-all u h) ∙ unpacked-table u k

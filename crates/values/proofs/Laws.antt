@@ -16,7 +16,7 @@ use Rattle.rules.specs.State.{Limits, Pending, State}
 use Rattle.rules.specs.Outcome.{Outcome, refuse, accept, holder_else_⨾_, result}
 use Rattle.adapters.specs.declared.Device.{Device}
 use Rattle.adapters.specs.declared.Place.{Place}
-use Rattle.adapters.specs.Values.{placeOf, deviceOf, Canonical, withMasked, modeSet}
+use Rattle.adapters.specs.Values.{placeOf, deviceOf, Canonical, modeSet}
 use Rattle.answers.specs.declared.Answer.{Answer}
 use Rattle.values.specs.declared.Reply.{Reply}
 use Rattle.values.specs.States.{payloadId, aboutOf, stateWith, Replied, Change, keeps, masks, enters, Within, changeOf}
@@ -92,10 +92,6 @@ module _ (places room : ℕ) (ais : Bool) (device : Device) (place : Place) (id 
         canonical = k;
         within = m;
       })
-
-  -- where the place is as it was
-  pub same-place : (s : State) → getD (s .adapters) id rules.free ≡ placeOf place → set (s .adapters) id (placeOf place) ≡ s .adapters
-  same-place s e = ap (set (s .adapters) id) (sym e) ∙ set-getD (s .adapters) id rules.free
 
 -- ---- the state that an accepted request leaves
 pub nothing-done : (s : State) (id : ℕ) (device : Device) (place : Place) → s .device ≡ deviceOf device → getD (s .adapters) id rules.free ≡ placeOf place

@@ -1,7 +1,7 @@
 -- Which adapter a set request is about, and what a reply says.
 use Prim.Native.Nat.{ℕ, _^_}
 use mathlib.Core.Path.{_≡_}
-use mathlib.Core.Bool.{Bool, true, _||_}
+use mathlib.Core.Bool.{Bool, _||_}
 use mathlib.Core.List.{List}
 use lib.ListN.{length, getD, set}
 use lib.Dec.{leb, eqb}
@@ -15,11 +15,11 @@ use Rattle.adapters.specs.Values.{placeOf, deviceOf, Canonical, withMasked}
 use Rattle.answers.specs.Answers.{Answers}
 use Rattle.values.specs.declared.Reply.{Reply}
 
--- the id in the payload of REGISTER and MODIFY, and an id that no table has where the payload is too short for one
+-- the id in the payload of REGISTER and MODIFY, and an id that no table of 64 places has where the payload is too short for one
 unfoldable pub payloadId : List ℕ → ℕ
 payloadId b = choose (leb 4 (length b)) (field 0 4 b) (2 ^ 32)
 
--- the id that a set request is about; an id that no table has where it is about none
+-- the id that a set request is about; an id that no table of 64 places has where it is about none
 unfoldable pub aboutOf : ℕ → ℕ → List ℕ → ℕ
 aboutOf group attr b = choose (eqb group 10) attr (choose (eqb group 6 || eqb group 7) (payloadId b) (2 ^ 32))
 
@@ -40,7 +40,7 @@ Replies places room ais device place id b o before after r =
 pub data Change : Type 0 where
   keeps masks enters : Change
 
--- the change that a place underwent
+-- a place changed no more than so; of a place that is entered nothing is said here
 abbrev pub Within : Change → Place → Place → Type 0
 Within keeps p p′ = p′ ≡ p
 Within masks p p′ = p′ ≡ withMasked (p′ .masked) p

@@ -1,9 +1,8 @@
 // Inner crate: the requests that touch no pending record, on a device record and one adapter place by value.
 ghost use mathlib.Core.Path.{_≡_};
-ghost use mathlib.Core.Bool.{Bool, true, false};
+ghost use mathlib.Core.Bool.{Bool};
 ghost use mathlib.Core.List.{List};
-ghost use Prim.Native.Nat.{ℕ, _<_};
-ghost use lib.ListN.{set};
+ghost use Prim.Native.Nat.{ℕ};
 ghost use Rattle.rules.specs.State.{Limits, State};
 ghost use Rattle.rules.specs.Bytes.{choose};
 ghost use Rattle.rules.specs.Requests.{apfEnable, apfDisableWait, adapterRegister, adapterModify, aism, setAismAll, getAismAll, setRequest, request};
@@ -43,7 +42,7 @@ pub fn with_answer(answer: Answer, device: Device, place: Place) -> Reply
     }
 }
 
-// The id in a payload, or an id that no table has where the payload is too short for one.
+// The id in a payload, or an id that no table of 64 places has where the payload is too short for one.
 fn payload_id(payload: &[u8]) -> AdapterId
     ensures { λ r. ⌜ r .0 ≡ payloadId (now (payload .entry)) ⌝ }
 {
@@ -53,7 +52,7 @@ fn payload_id(payload: &[u8]) -> AdapterId
     AdapterId(words::read_be(payload, 0, 4))
 }
 
-// The adapter that a set request is about; an id that no table has where it is about none.
+// The adapter that a set request is about; an id that no table of 64 places has where it is about none.
 pub fn about(group: u32, attr: u64, payload: &[u8]) -> AdapterId
     ensures { λ r. ⌜ r .0 ≡ aboutOf group attr (now (payload .entry)) ⌝ }
 {

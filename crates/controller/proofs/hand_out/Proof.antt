@@ -1,5 +1,4 @@
 -- `controller::hand_out` meets its contract. Assumes nothing.
-use mathlib.Core.Path.{refl}
 use Rattle.rules.specs.State.{paperLimits}
 use borrow.Author.Needs.{needs}
 use Rattle.controller.proofs.hand_out.Statement.{statement}

@@ -1,6 +1,5 @@
 -- The three groups, one after the other.
 use mathlib.Core.Path.{sym, ap}
-use mathlib.Core.Bool.{_||_}
 use borrow.Author.Tests.{ne-eqb}
 use Rattle.core.specs.Cases.{onRecords}
 use Rattle.core.proofs.on_records.Statement.{statement}

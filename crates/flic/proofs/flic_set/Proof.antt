@@ -42,9 +42,9 @@ use Rattle.flic.proofs.Calls.{Group, About, asks-group, asks-about}
 use Rattle.core.specs.Cases.{onRecords}
 use Rattle.core.proofs.on_records.Symbol as group-def
 use Rattle.core.proofs.on_records.Met as group-thm
-use Rattle.controller.proofs.on_records as on-records
-use Rattle.controller.proofs.on_records.Symbol as on-records-def
-use Rattle.controller.proofs.on_records.Met as on-records-thm
+use Rattle.controller.proofs.answer_records as answer-records
+use Rattle.controller.proofs.answer_records.Symbol as answer-records-def
+use Rattle.controller.proofs.answer_records.Met as answer-records-thm
 use Rattle.values.proofs.about.Symbol as about-def
 use Rattle.values.proofs.about.Met as about-thm
 use Rattle.table.proofs.look_up.Symbol as look-up-def
@@ -82,8 +82,8 @@ abbrev stayed : Stays (f.ended .signature .params) (f.ended .kept)
 stayed = (stay-ref (0 ∷ []) tt (plain (λ _. C.the-row)), (stay-ref (1 ∷ []) tt (plain (λ _. D.the-row)), (stay-slice (2 ∷ []) tt (plain (λ _. P.the-row)), (stay-dropped (plain (λ _. u32)) yes, (stay-dropped (plain (λ _. u64)) yes, (stay-dropped (shrSliceOf (3 ∷ []) tt (plain (λ _. u8))) yes, tt))))))
 
 module _ {M : Type 1} (𝓤 : URA M) (H : Heap 𝓤) (A : Atoms 𝓤) (mem′ : Memory → SProp 𝓤) (run : Routine → Fun 𝓤) where
-  abbrev OnRecords : Contract 𝓤
-  OnRecords = tripleOf 𝓤 H A on-records.signature (on-records.spec 𝓤 H A mem′ run)
+  abbrev AnswerRecords : Contract 𝓤
+  AnswerRecords = tripleOf 𝓤 H A answer-records.signature (answer-records.spec 𝓤 H A mem′ run)
 
   abbrev Decide : Contract 𝓤
   Decide = tripleOf 𝓤 H A decide.signature (decide.spec 𝓤 H A mem′ run)
@@ -91,7 +91,7 @@ module _ {M : Type 1} (𝓤 : URA M) (H : Heap 𝓤) (A : Atoms 𝓤) (mem′ : 
   -- what is known of the nine callees
   pub record Known (C′ : Calls 𝓤 H) : Type 1 where
     pub looks : Triple 𝓤 (C′ group-def.name) (Group 𝓤 H A mem′ run)
-    pub records : Triple 𝓤 (C′ on-records-def.name) OnRecords
+    pub records : Triple 𝓤 (C′ answer-records-def.name) AnswerRecords
     pub about : Triple 𝓤 (C′ about-def.name) (About 𝓤 H A mem′ run)
     pub look-up : Triple 𝓤 (C′ look-up-def.name) (LookUp 𝓤 H A mem′ run)
     pub read-device : Triple 𝓤 (C′ read-device-def.name) (ReadDevice 𝓤 H A mem′ run)
@@ -150,7 +150,7 @@ module _ {M : Type 1} (𝓤 : URA M) (H : Heap 𝓤) (A : Atoms 𝓤) (W : Given
     abbrev Then : Kit.Post 𝓤 H
     Then = anyQ (afterSeq 𝓤 H (Wp 𝓤 H C′ Λ E mir.t-3 (atReturn 𝓤 H E Post)) (atReturn 𝓤 H E Post))
 
-    -- ---- a request about pending records alone: after the arrays `on_records` takes three values and the payload
+    -- ---- a request about pending records alone: after the arrays `answer_records` takes three values and the payload
     module _ (yes : onRecords group ≡ true) (gc : Has c) (gd : Is D.the-row d (D′.lowered d ∷ [])) where
       abbrev kept : Content → ℕ → List Content
       kept v₀ n = v₀ ∷ (params ++ (blank ∷ blank ∷ blank ∷ blank ∷ holds (vbool (onRecords group)) ∷ since 1 n (vptr (a .bc) (a .oc + 0)) ∷ since 2 n (vptr (a .bc) (a .oc + 18432)) ∷ since 3 n (vptr (a .bc) (a .oc + 18688)) ∷ since 4 n (vptr (a .bc) (a .oc + 18760)) ∷ since 5 n (vint w64 (length ys)) ∷ []))
@@ -161,10 +161,10 @@ module _ {M : Type 1} (𝓤 : URA M) (H : Heap 𝓤) (A : Atoms 𝓤) (W : Given
       abbrev Leaves₁ : Unit {0} × (Unit {0} × (Unit {0} × (Unit {0} × Unit {0}))) → Fml
       Leaves₁ y = fsep ftrue (fsep ftrue (fsep ftrue (fsep ftrue ftrue)))
 
-      abbrev to-records : Loan → OnRecords 𝓤 H A mem′ run .Ghost
+      abbrev to-records : Loan → AnswerRecords 𝓤 H A mem′ run .Ghost
       to-records n = ((lent-lfts n (κp, tt), lent-shares (qp, tt), tt, lent-args n c (a .bc) (a .oc) (length ys, (group, (attr, (at-array bp op γp ps, tt)))), lent-vals (a .bc) (a .oc) (vint w64 (length ys) ∷ [], (vint w32 group ∷ [], (vint w64 attr ∷ [], (sp ∷ [], tt))))), tt)
 
-      goes₁ : (n : Loan) → ent 𝓤 (⋆ 𝓤 H A (Toks n T ∷ ‵ (Lent mutably n c (a .bc) (a .oc) O₁) ∷ [])) (OnRecords 𝓤 H A mem′ run .pre (to-records n))
+      goes₁ : (n : Loan) → ent 𝓤 (⋆ 𝓤 H A (Toks n T ∷ ‵ (Lent mutably n c (a .bc) (a .oc) O₁) ∷ [])) (AnswerRecords 𝓤 H A mem′ run .pre (to-records n))
       goes₁ n = qed W (Toks n T ∷ ‵ (Lent mutably n c (a .bc) (a .oc) O₁) ∷ []) ∵ says ! ((λ e. valid e .ready), yes) $ done !
 
       -- the answer is the result, and all is closed
@@ -178,7 +178,7 @@ module _ {M : Type 1} (𝓤 : URA M) (H : Heap 𝓤) (A : Atoms 𝓤) (W : Given
       records-it =
           nothing ! $ move ! (19 ∷ 0 ∷ []) $ fjoin ! $ owned ! u64 (Is u64) (uint-makes 𝓤 H A W w64) attr _ (refl, attr-fits) $ fjoin ! $ owned ! u32 (Is u32) (uint-makes 𝓤 H A W w32) group _ (refl, group-fits) $ fjoin ! $
           owned ! usize (Is usize) (uint-makes 𝓤 H A W w64) (length ys) _ (refl, room .0) $ fjoin ! $ nothing ! $ move ! (19 ∷ 0 ∷ []) $ join ! $ move ! (10 ∷ 11 ∷ 12 ∷ 13 ∷ 0 ∷ 1 ∷ []) $
-          calls-four ! fm (OnRecords 𝓤 H A mem′ run) (known .records) mutably to-records c gc (a .bc) (a .oc) An.the-row T O₁ Leaves₁ (λ z w. (ais : Bool) → Recorded (length ys) group attr (as-of c ais) (as-of (left-by mutably c w) ais) ps z) goes₁ (λ n v. id⊢ 𝓤 _) (λ n i.
+          calls-four ! fm (AnswerRecords 𝓤 H A mem′ run) (known .records) mutably to-records c gc (a .bc) (a .oc) An.the-row T O₁ Leaves₁ (λ z w. (ais : Bool) → Recorded (length ys) group attr (as-of c ais) (as-of (left-by mutably c w) ais) ps z) goes₁ (λ n v. id⊢ 𝓤 _) (λ n i.
           (and-then ! (load ! (from ! (stop !)) (look ! 42 refl)) (and-then ! (load ! (from ! (stop !)) (look ! 44 refl)) (and-then ! (load ! (from ! (stop !)) (look ! 46 refl)) (and-then ! (load ! (from ! (stop !)) (look ! 48 refl)) (and-then ! (load ! (from ! (stop !)) (look ! 50 refl)) (and-then ! (load ! (from ! (stop !)) (look ! 26 refl)) (and-then ! (load ! (from ! (stop !)) (look ! 28 refl)) (and-then ! (load ! (from ! (stop !)) (look ! 30 refl)) (no-more !)))))))))) (λ z v w φ g′ is.
           land ! (from ! (stop !)) (init ! 19 refl (LL.lawful An.the-type An′.the-laws 𝓤 H A W .typed z _ is .0)) $ rewrite ! 19 (λ (u : Val). ‵ (fat fullShare An′.mir l₀ 0 u)) (ap only (An′.lowers .val-is z (v ∷ []) is)) refl $
           move ! (5 ∷ []) $ drop ! $ move ! (4 ∷ []) $ split ! $ move ! (1 ∷ []) $ drop ! $ move ! (5 ∷ 6 ∷ 7 ∷ 8 ∷ 9 ∷ 10 ∷ 11 ∷ 12 ∷ 1 ∷ 2 ∷ 3 ∷ 4 ∷ 13 ∷ 14 ∷ 15 ∷ 16 ∷ 17 ∷ 0 ∷ []) $
@@ -349,7 +349,7 @@ flic-set-spec 𝓤 H 𝓜 𝓖 𝓡 =
     (tables 𝓤 H 𝓜 𝓡 code.env .C) (tables 𝓤 H 𝓜 𝓡 code.env .Λ) #key code.function (code.unfolded 𝓤 H 𝓜 𝓡)
     (meets 𝓤 H (𝓖 .A) (givenOf 𝓤 H 𝓜 𝓖) (𝓜 .mem) (𝓡 .run) (tablesOf 𝓤 H 𝓜 (tables 𝓤 H 𝓜 𝓡 code.env)) (record {
       looks = cited 𝓤 H (Group 𝓤 H (𝓖 .A) (𝓜 .mem) (𝓡 .run)) 𝓜 𝓡 code.env group-def.name group-def.routine code.calls-core·on-records (group-thm.met 𝓤 H 𝓜 𝓖 𝓡);
-      records = cited 𝓤 H (OnRecords 𝓤 H (𝓖 .A) (𝓜 .mem) (𝓡 .run)) 𝓜 𝓡 code.env on-records-def.name on-records-def.routine code.calls-controller·on-records (on-records-thm.met 𝓤 H 𝓜 𝓖 𝓡);
+      records = cited 𝓤 H (AnswerRecords 𝓤 H (𝓖 .A) (𝓜 .mem) (𝓡 .run)) 𝓜 𝓡 code.env answer-records-def.name answer-records-def.routine code.calls-controller·answer-records (answer-records-thm.met 𝓤 H 𝓜 𝓖 𝓡);
       about = cited 𝓤 H (About 𝓤 H (𝓖 .A) (𝓜 .mem) (𝓡 .run)) 𝓜 𝓡 code.env about-def.name about-def.routine code.calls-values·about (about-thm.met 𝓤 H 𝓜 𝓖 𝓡);
       look-up = cited 𝓤 H (LookUp 𝓤 H (𝓖 .A) (𝓜 .mem) (𝓡 .run)) 𝓜 𝓡 code.env look-up-def.name look-up-def.routine code.calls-table·look-up (look-up-thm.met 𝓤 H 𝓜 𝓖 𝓡);
       read-device = cited 𝓤 H (ReadDevice 𝓤 H (𝓖 .A) (𝓜 .mem) (𝓡 .run)) 𝓜 𝓡 code.env read-device-def.name read-device-def.routine code.calls-table·read-device (read-device-thm.met 𝓤 H 𝓜 𝓖 𝓡);

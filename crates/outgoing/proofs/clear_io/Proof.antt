@@ -23,7 +23,7 @@ some-word c =
     ⊎-elim (λ w. second-word d _ _ x y (w .0 .taken) (w .2 .left)) (λ w. first-word d _ _ x y (w .left)) (c .if3 .came)
 
 place-found : (c : tie.After-isc) → (c .isc .given .0 .0 .0 < 8) × InQueue (c .before .before .before .before .before .before .before .before .before .before .before .before .args .counts .now) (c .isc .given .0 .0 .0) (c .isc .given .0 .1 .0)
-place-found c = rw (c .isc .given .1) at (c .before .before .find .ensures .1)
+place-found c = rw (c .isc .given .1) at (c .before .before .find .ensures .1 .1 .1)
 
 refuse-requires : tie.Need-refuse-requires
 refuse-requires c κs = search needs
@@ -83,7 +83,7 @@ returns-4 c =
     let u = t .before .before .before .before in (
       λ L s g e.
           accepted L s _ _ _ 0 _ [] _
-          (clears-none L s _ _ _ _ (t .read-be .ensures .0) (f .before .before .read-be2 .ensures .0) (t .before .before .if1 .left) (t .before .if2 .left) (some-word f) _ _ _ g e _ (c .before .enum-told .given .1) (d .find .ensures .0))
+          (clears-none L s _ _ _ _ (t .read-be .ensures .0) (f .before .before .read-be2 .ensures .0) (t .before .before .if1 .left) (t .before .if2 .left) (some-word f) _ _ _ g e _ (c .before .enum-told .given .1) (d .find .ensures .1 .0 refl refl))
           (c .accept .ensures) refl,
       (u .pre, λ k. (refl, refl)),
     )
@@ -104,7 +104,7 @@ returns-5 c =
     let t = f .before .before .before in (
       λ L s g e.
           accepted L s _ _ _ 1 _ [] _
-          (clears-one L s _ _ _ _ (t .read-be .ensures .0) (f .before .before .read-be2 .ensures .0) (t .before .before .if1 .left) (t .before .if2 .left) (some-word f) _ _ _ g e _ _ _ _ _ (d .isc .given .1) (d .before .before .find .ensures .0)
+          (clears-one L s _ _ _ _ (t .read-be .ensures .0) (f .before .before .read-be2 .ensures .0) (t .before .before .if1 .left) (t .before .if2 .left) (some-word f) _ _ _ g e _ _ _ _ _ (d .isc .given .1) (d .before .before .find .ensures .0) (d .before .before .find .ensures .1 .0 refl refl)
           (c .before .remove-io .ensures .0 _))
           (c .accept2 .ensures) refl,
       (c .before .remove-io .ensures .1 .0, not-refused _ _ (c .accept2 .ensures)),

@@ -25,7 +25,7 @@ done-passed : (c : tie.Joined6) → let a = c .before .before .before .before .b
 done-passed c = ⊎-elim (λ w. no-done _ _ _ _ _ (w .2 .ensures) (w .3 .left) _) (λ w. passed _ _ _ (w .left)) (c .if6 .came)
 
 place-found : (c : tie.After-isc) → (c .isc .given .0 .0 .0 < 8) × InQueue (c .before .before .before .before .before .before .before .before .before .before .args .counts .now) (c .isc .given .0 .0 .0) (c .isc .given .0 .1 .0)
-place-found c = rw (c .isc .given .1) at (c .before .before .find .ensures .1)
+place-found c = rw (c .isc .given .1) at (c .before .before .find .ensures .1 .1 .1)
 
 refuse-requires : tie.Need-refuse-requires
 refuse-requires c κs = search needs
@@ -134,7 +134,7 @@ returns-5 c =
     let t = f .before .before .before in (
       λ L s e.
           hands-none L s _ _ _ _ _ _ e (t .if1 .left)
-          (hands-nothing _ _ _ _ _ _ _ (mchk-passed (f .before .before)) (service-passed (f .before)) (done-passed f) _ (c .before .enum-told .given .1) (d .find .ensures .0))
+          (hands-nothing _ _ _ _ _ _ _ (mchk-passed (f .before .before)) (service-passed (f .before)) (done-passed f) _ (c .before .enum-told .given .1) (d .find .ensures .1 .1 .0 refl))
           (c .accept .ensures),
       (t .before .before .pre, λ k. (refl, refl, refl, refl)),
     )
@@ -160,7 +160,7 @@ returns-6 c =
     let l : length (d .take-io .result) ≡ 72 = search needs in (
       λ L s e.
           hands L s _ _ _ _ _ _ e (u .if1 .left) _ _ _ l
-          (hands-io _ _ _ _ _ _ _ (mchk-passed (t .before .before)) (service-passed (t .before)) (done-passed t) _ _ _ _ _ _ (f .isc .given .1) (f .before .before .find .ensures .0) (d .take-io .ensures .0) (d .take-io .ensures .1 _))
+          (hands-io _ _ _ _ _ _ _ (mchk-passed (t .before .before)) (service-passed (t .before)) (done-passed t) _ _ _ _ _ _ (f .isc .given .1) (f .before .before .find .ensures .0) (f .before .before .find .ensures .1 .1 .0 refl) (d .take-io .ensures .0) (d .take-io .ensures .1 _))
           (c .before .before .hand4 .ensures),
       (d .take-io .ensures .2, not-refused _ _ (c .before .before .hand4 .ensures .0)),
     )

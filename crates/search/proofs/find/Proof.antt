@@ -14,7 +14,7 @@ use Rattle.queues.specs.Queues.{sum, queues}
 use Rattle.search.specs.declared.Found.the-variants.{At, None}
 use Rattle.search.specs.Search.{wanted, searchQueue, searchQueues}
 use Rattle.queues.proofs.Laws.{sum-next}
-use Rattle.search.proofs.Laws.{later, search-over, search-queue, search-end, search-record}
+use Rattle.search.proofs.Laws.{later, search-over, search-queue, search-end, search-record, cleared, handed-out}
 use Rattle.search.proofs.find.Statement.{statement}
 use Rattle.search.proofs.find.Tie as tie
 
@@ -152,17 +152,21 @@ search-again c =
 returns : tie.Need-returns Inv-loop μ-loop Inv-search μ-search
 returns c =
     let s = c .before .search in
-    (s .inv .2 ∙ sym (s .inv .3 ∙ search-over _ _ _ _ _ _ _ (c .search-test .left)), rw (s .inv .2) tt)
+    let e = s .inv .2 ∙ sym (s .inv .3 ∙ search-over _ _ _ _ _ _ _ (c .search-test .left)) in
+    let a = c .before .before .before .before .before .args in
+    let qs = queues (a .o .now) (a .c .now) (a .b .now) in
+    (e, (cleared _ _ _ _ qs _ e, (handed-out _ _ _ _ qs _ e, rw (s .inv .2) tt)))
 
 returns-2 : tie.Need-returns-2 Inv-loop μ-loop Inv-search μ-search
 unfolding choose
 returns-2 c =
     let l = c .before .before .before in
     let i = l .before .before .before .before in
-    let r = room (i .before) (i .search-test .taken) in (
-      sym (⊎-elim (λ w. turn (c .before) true (rw (w .taken))) (λ w. turn (c .before) true (rw (w .0 .left, ← w .1 .ensures) (w .2 .taken))) (c .if2 .came)),
-      (i .search-test .taken, record { from = omega arith; below = omega (arith, ltb-true) }),
-    )
+    let r = room (i .before) (i .search-test .taken) in
+    let e = sym (⊎-elim (λ w. turn (c .before) true (rw (w .taken))) (λ w. turn (c .before) true (rw (w .0 .left, ← w .1 .ensures) (w .2 .taken))) (c .if2 .came)) in
+    let a = i .before .before .before .before .before .args in
+    let qs = queues (a .o .now) (a .c .now) (a .b .now) in
+    (e, (cleared _ _ _ _ qs _ e, (handed-out _ _ _ _ qs _ e, (i .search-test .taken, record { from = omega arith; below = omega (arith, ltb-true) }))))
 
 pub find-spec : {M : Type 1} → statement M
 find-spec =

@@ -1,6 +1,5 @@
 -- `values::register` meets its contract. Assumes nothing.
 use mathlib.Core.Path.{ap, sym, _∙_}
-use mathlib.Core.Bool.{true≢false}
 use native.Mathlib.Omega.{arith}
 use lib.ListN.{length}
 use borrow.Author.Tests.{eq-eqb, ne-eqb, le-leb, lt-leb, lt-ltb, le-ltb}

@@ -1,10 +1,10 @@
--- `controller::on_records` meets its contract. Assumes nothing.
+-- `controller::answer_records` meets its contract. Assumes nothing.
 use mathlib.Core.Path.{refl}
 use native.Mathlib.Omega.{arith}
 use borrow.Author.Needs.{needs}
 use Rattle.rules.specs.State.{paperLimits}
-use Rattle.controller.proofs.on_records.Statement.{statement}
-use Rattle.controller.proofs.on_records.Tie as tie
+use Rattle.controller.proofs.answer_records.Statement.{statement}
+use Rattle.controller.proofs.answer_records.Tie as tie
 
 refuse-requires : tie.Need-refuse-requires
 refuse-requires c κs = search needs
@@ -34,5 +34,5 @@ returns-2 c = λ ais.
       held = λ w. e .1 .0;
     }
 
-pub on-records-spec : {M : Type 1} → statement M
-on-records-spec = tie.close (tie.spec refuse-requires returns set-records-requires returns-2)
+pub answer-records-spec : {M : Type 1} → statement M
+answer-records-spec = tie.close (tie.spec refuse-requires returns set-records-requires returns-2)

@@ -8,15 +8,21 @@
  *   pointer after a call returns. A controller is three pieces that belong together: a struct
  *   flic_controller, a struct flic_device and a table of FLIC_PLACES struct flic_place. They hold no
  *   pointers. Between calls they stay as the last call left them: only the calls below write them.
- *   The first call is flic_make. Before it the three pieces hold any values of their types; memory
- *   set to zero does. A bool is 0 or 1, here and in every table that is lent.
+ *   The first call is flic_make. Memory of zeros is no fresh controller: a call on one that was not
+ *   made may be accepted and lose records.
+ *   Before flic_make the three pieces hold any values of their types, a bool 0 or 1: zeros do.
+ *   Never load the three pieces from a file or the network, and never write their fields: on values
+ *   that no call has left, a call may answer anything or access other memory. To store or send a
+ *   controller write its move list, and play that: flic_play_list accepts or refuses any bytes.
  *
  * Arguments
  *   A table or a buffer is a pointer, then its length: of a table in places, of a buffer in bytes.
- *   That length is what is lent; the claimed length of a request is its attribute. No pointer is
- *   null, also where the length is 0 or the payload is unused. What one call is lent does not overlap.
- *   A length is true: so many places or bytes are there, and hold values of their types. A buffer
- *   that is written is set before, to any bytes: bytes that a call does not write stay as they were.
+ *   That length is what is lent; the claimed length of a request is its attribute. The pointer of a
+ *   table or a buffer may be null where its length is 0, as for a payload that is not used; no other
+ *   pointer is null. What one call is lent does not overlap.
+ *   A length is true: so many places or bytes are there. A buffer that is written is set before, to any
+ *   bytes: bytes that a call does not write stay as they were. Of a table that has not FLIC_PLACES
+ *   places no byte is read or written, whatever it holds.
  *   All numbers in payloads, records and lists are big-endian, without padding or alignment.
  *
  * Threads
@@ -108,9 +114,9 @@ extern "C" {
 #endif
 
 #ifdef __GNUC__
-#define FLIC_NONNULL __attribute__((nonnull))
+#define FLIC_NONNULL(...) __attribute__((nonnull(__VA_ARGS__))) /* parameters, from 1 */
 #else
-#define FLIC_NONNULL
+#define FLIC_NONNULL(...)
 #endif
 
 /* A code, 0 if accepted, and a count. */
@@ -181,9 +187,9 @@ FLIC_ASSERT(ENOMEM == 12 && EBUSY == 16 && E2BIG == 7);
  * registered or pending, masks 0, flag off. Whatever the three pieces held before is lost.
  * Code 0, count 0; or EFAULT (table).
  */
-FLIC_NONNULL struct flic_answer flic_make(struct flic_controller *controller,
-                                          struct flic_device *device, struct flic_place *table,
-                                          size_t places, bool ais);
+FLIC_NONNULL(1, 2)
+struct flic_answer flic_make(struct flic_controller *controller, struct flic_device *device,
+                             struct flic_place *table, size_t places, bool ais);
 
 /*
  * A request that sets. The payload is read and never written; of it no more is read than the
@@ -192,10 +198,10 @@ FLIC_NONNULL struct flic_answer flic_make(struct flic_controller *controller,
  * EINVAL: group unknown or only a get, attribute, claimed length or contents. EOPNOTSUPP: group 9 or
  * 11 without the AIS capability. EFAULT: table, or payload too short. EBUSY: more than FLIC_ROOM.
  */
-FLIC_NONNULL struct flic_answer flic_set(struct flic_controller *controller,
-                                         struct flic_device *device, struct flic_place *table,
-                                         size_t places, uint32_t group, uint64_t attribute,
-                                         const uint8_t *payload, size_t length);
+FLIC_NONNULL(1, 2)
+struct flic_answer flic_set(struct flic_controller *controller, struct flic_device *device,
+                            struct flic_place *table, size_t places, uint32_t group,
+                            uint64_t attribute, const uint8_t *payload, size_t length);
 
 /*
  * A request that gets; it changes no state. GET_ALL_IRQS writes the records pending, which stay
@@ -205,11 +211,11 @@ FLIC_NONNULL struct flic_answer flic_set(struct flic_controller *controller,
  * EFAULT: table, or buffer shorter than the claimed length or 2 bytes. ENOMEM: listing longer than the
  * claimed length.
  */
-FLIC_NONNULL struct flic_answer flic_get(const struct flic_controller *controller,
-                                         const struct flic_device *device,
-                                         const struct flic_place *table, size_t places,
-                                         uint32_t group, uint64_t attribute, uint8_t *buffer,
-                                         size_t length);
+FLIC_NONNULL(1, 2)
+struct flic_answer flic_get(const struct flic_controller *controller,
+                            const struct flic_device *device, const struct flic_place *table,
+                            size_t places, uint32_t group, uint64_t attribute, uint8_t *buffer,
+                            size_t length);
 
 /*
  * The guest takes an interrupt: the first allowed of machine check, service, oldest page fault done,
@@ -219,19 +225,20 @@ FLIC_NONNULL struct flic_answer flic_get(const struct flic_controller *controlle
  * Count 1; or 0 where nothing allowed is pending, with the buffer as it was. EFAULT: buffer below
  * FLIC_RECORD bytes, also where there is nothing to take.
  */
-FLIC_NONNULL struct flic_answer flic_take(struct flic_controller *controller, uint8_t subclasses,
-                                          bool external, bool machine_check, uint8_t *buffer,
-                                          size_t length);
+FLIC_NONNULL(1)
+struct flic_answer flic_take(struct flic_controller *controller, uint8_t subclasses, bool external,
+                             bool machine_check, uint8_t *buffer, size_t length);
 
 /*
  * Writes the controller's move list to the buffer's start; it changes no state. Count: bytes of the
  * list, at most FLIC_LONGEST_LIST; bytes after them stay.
  * EFAULT: table. ENOMEM: buffer shorter than the list, and nothing is written.
  */
-FLIC_NONNULL struct flic_answer flic_write_list(const struct flic_controller *controller,
-                                                const struct flic_device *device,
-                                                const struct flic_place *table, size_t places,
-                                                uint8_t *buffer, size_t length);
+FLIC_NONNULL(1, 2)
+struct flic_answer flic_write_list(const struct flic_controller *controller,
+                                   const struct flic_device *device,
+                                   const struct flic_place *table, size_t places, uint8_t *buffer,
+                                   size_t length);
 
 /*
  * Plays a move list of exactly so many bytes on a controller that was made with the capability that the
@@ -242,10 +249,10 @@ FLIC_NONNULL struct flic_answer flic_write_list(const struct flic_controller *co
  * Refused part-way, the controller is fresh, the code is that of the refused request (those of
  * flic_set) and the count its place from 0. At place 0 the answer alone does not tell the two apart.
  */
-FLIC_NONNULL struct flic_answer flic_play_list(struct flic_controller *controller,
-                                               struct flic_device *device,
-                                               struct flic_place *table, size_t places,
-                                               const uint8_t *list, size_t length);
+FLIC_NONNULL(1, 2)
+struct flic_answer flic_play_list(struct flic_controller *controller, struct flic_device *device,
+                                  struct flic_place *table, size_t places, const uint8_t *list,
+                                  size_t length);
 
 #ifdef __cplusplus
 }

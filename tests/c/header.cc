@@ -15,7 +15,7 @@ int main()
         return 1;
     if (!t[5].used || t[5].isc != 3 || !t[5].maskable || t[5].swap || !t[5].suppressible || t[5].masked)
         return 1;
-    if (flic_set(&c, &d, t, FLIC_PLACES, KVM_DEV_FLIC_AIRQ_INJECT, 5, adapter, 0).count != 1)
+    if (flic_set(&c, &d, t, FLIC_PLACES, KVM_DEV_FLIC_AIRQ_INJECT, 5, nullptr, 0).count != 1)
         return 1;
     if (flic_get(&c, &d, t, FLIC_PLACES, KVM_DEV_FLIC_GET_ALL_IRQS, sizeof record, record, sizeof record).count != 1)
         return 1;
@@ -25,6 +25,17 @@ int main()
     if (flic_play_list(&c, &d, t, FLIC_PLACES, list, written.count).count != 2)
         return 1;
     if (flic_take(&c, 0xff, false, false, record, sizeof record).count != 1 || record[16] != 0x98)
+        return 1;
+    // a null pointer where the length is 0
+    if (flic_get(&c, &d, t, FLIC_PLACES, KVM_DEV_FLIC_GET_ALL_IRQS, 1, nullptr, 0).code != EFAULT)
+        return 1;
+    if (flic_take(&c, 0xff, true, true, nullptr, 0).code != EFAULT)
+        return 1;
+    if (flic_write_list(&c, &d, t, FLIC_PLACES, nullptr, 0).code != ENOMEM)
+        return 1;
+    if (flic_play_list(&c, &d, t, FLIC_PLACES, nullptr, 0).code != EFAULT)
+        return 1;
+    if (flic_make(&c, &d, nullptr, 0, true).code != EFAULT)
         return 1;
     return flic_make(&c, &d, t, FLIC_PLACES - 1, true).code == EFAULT ? 0 : 1;
 }

@@ -17,12 +17,28 @@ const char *subject;
 
 static const char *program;
 static volatile int line_now;
+static struct call last; /* the call that runs, or the last one that did */
+
+static void say(int line)
+{
+    static const char *const names[] = {"page end", "page start", "heap"};
+    static const char *const kinds[] = {"make", "set", "get", "take", "write list", "play list"};
+    static const char *const others[] = {"random bytes", "cannot be touched", "null"};
+    fprintf(stderr, "%s: line %d (%s%s%s): %s", program, line, names[placement], subject == NULL ? "" : ", ",
+            subject == NULL ? "" : subject, kinds[last.kind]);
+    if (last.kind == SET || last.kind == GET)
+        fprintf(stderr, ", group %" PRIu32 ", attribute %" PRIu64, last.group, last.attribute);
+    if (last.kind != MAKE)
+        fprintf(stderr, ", %zu bytes%s", last.length, last.bytes == NULL ? " (null)" : "");
+    if (last.kind != TAKE && last.places != FLIC_PLACES)
+        fprintf(stderr, ", %zu places (%s)", last.places, others[last.other]);
+    fprintf(stderr, ": ");
+}
 
 void fail(int line, const char *what, uint64_t got, uint64_t wanted)
 {
-    static const char *const names[] = {"page end", "page start", "heap"};
-    fprintf(stderr, "%s: line %d (%s%s%s): %s: %" PRIu64 " (0x%" PRIx64 "), expected %" PRIu64 " (0x%" PRIx64 ")\n", program,
-            line, names[placement], subject == NULL ? "" : ", ", subject == NULL ? "" : subject, what, got, got, wanted,
+    say(line);
+    fprintf(stderr, "%s: %" PRIu64 " (0x%" PRIx64 "), expected %" PRIu64 " (0x%" PRIx64 ")\n", what, got, got, wanted,
             wanted);
     exit(1);
 }
@@ -38,14 +54,11 @@ void same_bytes(int line, const char *what, const uint8_t *got, const uint8_t *w
     fail(line, what, got[i], wanted[i]);
 }
 
+/* The signal comes from an access of the call itself, so that no function of the C library is interrupted. */
 static void fault(int signal)
 {
-    char text[] = ": an access outside the lent memory, or a write where none may be, in the call at line      \n";
-    int line = line_now;
-    for (size_t at = sizeof text - 3; line != 0 && text[at] == ' '; at--, line /= 10)
-        text[at] = (char)('0' + line % 10);
-    if (write(2, program, strlen(program)) < 0 || write(2, text, sizeof text - 1) < 0)
-        _exit(3);
+    say(line_now);
+    fprintf(stderr, "an access outside the lent memory, or a write where none may be\n");
     _exit(128 + signal);
 }
 
@@ -64,6 +77,15 @@ void put(uint8_t *at, unsigned bytes, uint64_t n)
     while (bytes-- > 0) {
         at[bytes] = (uint8_t)n;
         n >>= 8;
+    }
+}
+
+void random_bytes(struct lent *m)
+{
+    static uint64_t state = 1;
+    for (size_t i = 0; i < m->size; i++) {
+        state = state * 6364136223846793005u + 1442695040888963407u;
+        m->at[i] = (uint8_t)(state >> 56);
     }
 }
 
@@ -193,11 +215,21 @@ const struct flic_place *table_of(const struct host *h)
     return (const struct flic_place *)h->table.at;
 }
 
-/* Places of a table that is no controller's own: any values of their types. */
-static void fill_table(struct lent *m)
+/* The table that is not the controller's own. In a page that cannot be touched its length need not be true. */
+static struct lent other_table(const struct call *call)
 {
-    for (size_t i = 0; i < m->size; i++)
-        m->at[i] = i % 6 == 1 ? (uint8_t)(0xf0 + i) : i / 6 % 3 != 0;
+    static uint8_t *untouchable;
+    if (call->other == RANDOM_BYTES) {
+        struct lent m = lend(call->places * sizeof(struct flic_place));
+        random_bytes(&m);
+        return m;
+    }
+    if (untouchable == NULL) {
+        untouchable = mmap(NULL, page(), PROT_NONE, MAP_PRIVATE | MAP_ANONYMOUS, -1, 0);
+        if (untouchable == MAP_FAILED)
+            fail(0, "mmap", 0, page());
+    }
+    return (struct lent){.at = call->other == UNTOUCHABLE ? untouchable + page() / 2 : NULL};
 }
 
 struct flic_answer run(int line, struct host *h, const struct call *call, uint8_t *after)
@@ -209,33 +241,38 @@ struct flic_answer run(int line, struct host *h, const struct call *call, uint8_
     bool another = call->kind != TAKE && call->places != FLIC_PLACES;
     bool reads = call->kind == GET || call->kind == WRITE;
     bool sets = call->kind == SET || call->kind == PLAY;
+    bool still = call->refused || another;
 
-    struct lent buffer = lend(call->length);
+    struct lent buffer = {.at = NULL};
+    if (call->bytes != NULL)
+        buffer = lend(call->length);
+    else if (call->length > 0)
+        fail(line, "bytes of a null pointer", call->length, 0);
     if (call->length > 0)
         memcpy(buffer.at, call->bytes, call->length);
     struct lent lent_table = h->table;
-    if (another) {
-        lent_table = lend(call->places * sizeof(struct flic_place));
-        fill_table(&lent_table);
+    if (another)
+        lent_table = other_table(call);
+    if (another && lent_table.size > 0)
         memcpy(other, lent_table.at, lent_table.size);
-    }
     struct flic_place *t = (struct flic_place *)lent_table.at;
     memcpy(controller, h->controller.at, sizeof controller);
     memcpy(device, h->device.at, sizeof device);
     memcpy(table, h->table.at, sizeof table);
 
     /* What this call may not write cannot be written while it runs. */
-    if (sets)
+    if (sets || still)
         writable(&buffer, false);
-    if (reads) {
+    if (reads || still) {
         writable(&h->controller, false);
         writable(&lent_table, false);
     }
-    if (reads || call->kind == TAKE)
+    if (reads || still || call->kind == TAKE)
         writable(&h->device, false);
-    if (another || call->kind == TAKE)
+    if (still || call->kind == TAKE)
         writable(&h->table, false);
 
+    last = *call;
     line_now = line;
     struct flic_answer r = {0, 0};
     switch (call->kind) {
@@ -243,19 +280,19 @@ struct flic_answer run(int line, struct host *h, const struct call *call, uint8_
         r = flic_make(c, d, t, call->places, call->ais);
         break;
     case SET:
-        r = flic_set(c, d, t, call->places, call->group, call->attribute, buffer.at, buffer.size);
+        r = flic_set(c, d, t, call->places, call->group, call->attribute, buffer.at, call->length);
         break;
     case GET:
-        r = flic_get(c, d, t, call->places, call->group, call->attribute, buffer.at, buffer.size);
+        r = flic_get(c, d, t, call->places, call->group, call->attribute, buffer.at, call->length);
         break;
     case TAKE:
-        r = flic_take(c, call->subclasses, call->external, call->machine_check, buffer.at, buffer.size);
+        r = flic_take(c, call->subclasses, call->external, call->machine_check, buffer.at, call->length);
         break;
     case WRITE:
-        r = flic_write_list(c, d, t, call->places, buffer.at, buffer.size);
+        r = flic_write_list(c, d, t, call->places, buffer.at, call->length);
         break;
     case PLAY:
-        r = flic_play_list(c, d, t, call->places, buffer.at, buffer.size);
+        r = flic_play_list(c, d, t, call->places, buffer.at, call->length);
         break;
     }
     line_now = 0;
@@ -267,11 +304,12 @@ struct flic_answer run(int line, struct host *h, const struct call *call, uint8_
     check_filler(line, &h->device);
     check_filler(line, &h->table);
     check_filler(line, &buffer);
-    bool refused = r.code != 0 && call->kind != PLAY;
+    bool refused = call->refused || (r.code != 0 && call->kind != PLAY);
     if (another) {
         check_filler(line, &lent_table);
         same_bytes(line, "wrong table", lent_table.at, other, lent_table.size);
-        give_back(&lent_table);
+        if (call->other == RANDOM_BYTES)
+            give_back(&lent_table);
         if (r.code != EFAULT || r.count != 0)
             fail(line, "code for a wrong table", r.code, EFAULT);
     }
@@ -295,6 +333,7 @@ void expect(int line, struct host *h, struct call call, uint32_t code, uint64_t 
             size_t size)
 {
     static uint8_t after[MOST];
+    call.refused |= code != 0 && call.kind != PLAY;
     struct flic_answer r = run(line, h, &call, after);
     if (r.code != code)
         fail(line, "code", r.code, code);
@@ -403,35 +442,75 @@ void expect_fresh(int line, struct host *h, bool ais)
     expect(line, h, call, ENOMEM, 0, NULL, 0);
 }
 
-void expect_wrong_tables(int line, struct host *h)
+/* Tables of a wrong length: of random bytes, in a page that cannot be touched, and a null pointer. */
+static const struct {
+    enum other other;
+    size_t places;
+} wrong[] = {
+    {RANDOM_BYTES, 0},
+    {RANDOM_BYTES, 1},
+    {RANDOM_BYTES, 63},
+    {RANDOM_BYTES, 65},
+    {RANDOM_BYTES, 128},
+    {UNTOUCHABLE, 0},
+    {UNTOUCHABLE, 1},
+    {UNTOUCHABLE, 63},
+    {UNTOUCHABLE, 65},
+    {UNTOUCHABLE, 128},
+    {UNTOUCHABLE, (1ull << 32) + FLIC_PLACES}, /* the right one only at 32 bits */
+    {UNTOUCHABLE, PTRDIFF_MAX / sizeof(struct flic_place)},
+    {NO_TABLE, 0},
+};
+
+#define WRONG (sizeof wrong / sizeof wrong[0])
+
+void expect_wrong_makes(int line, struct host *h)
 {
-    static const size_t places[] = {0, 1, 63, 65, 128};
-    static const uint8_t empty_list[20] = {0, 0, 0, 20, 0, 0, 0, 0, 0, 0, 0, 20, 0, 0, 0, 20, 0, 0, 0, 1};
-    static const uint8_t payload[FLIC_RECORD] = {0, 0, 0, 3, 1, 1, 1, 1};
-    for (size_t i = 0; i < sizeof places / sizeof places[0]; i++) {
-        struct call call = {.places = places[i]};
+    for (size_t i = 0; i < WRONG; i++)
         for (unsigned ais = 0; ais < 2; ais++) {
-            call.kind = MAKE;
-            call.ais = ais;
+            struct call call = {.kind = MAKE, .places = wrong[i].places, .other = wrong[i].other, .ais = ais};
             expect(line, h, call, EFAULT, 0, NULL, 0);
         }
-        for (uint32_t group = 0; group <= 12; group++)
-            for (unsigned n = 0; n < 3; n++) {
-                static const uint64_t attributes[] = {0, 3, FLIC_RECORD};
-                call.group = group;
-                call.attribute = attributes[n];
+}
+
+void expect_wrong_tables(int line, struct host *h)
+{
+    static const uint8_t empty_list[20] = {0, 0, 0, 20, 0, 0, 0, 0, 0, 0, 0, 20, 0, 0, 0, 20, 0, 0, 0, 1};
+    static const uint8_t ids[] = {0, 5, 62, 63, 64};
+    expect_wrong_makes(line, h);
+    for (size_t i = 0; i < WRONG; i++) {
+        struct call call = {.places = wrong[i].places, .other = wrong[i].other};
+        for (uint32_t group = 0; group <= 12; group++) {
+            call.group = group;
+            for (size_t n = 0; n < sizeof ids; n++) {
+                /* a good REGISTER or MODIFY of this id, or a record; also with another attribute, and cut short */
+                uint8_t payload[FLIC_RECORD] = {0, 0, 0, ids[n], 1, (uint8_t)(n % 2), 1, 1};
+                const uint64_t attributes[] = {0, ids[n], FLIC_RECORD};
                 call.kind = SET;
                 call.bytes = payload;
-                call.length = n == 1 ? 0 : sizeof payload;
-                expect(line, h, call, EFAULT, 0, NULL, 0);
-                call.kind = GET;
-                call.bytes = unwritten;
+                for (unsigned a = 0; a < 3; a++) {
+                    call.attribute = attributes[a];
+                    call.length = a == 1 ? 16 : sizeof payload;
+                    expect(line, h, call, EFAULT, 0, NULL, 0);
+                }
+                call.bytes = n == 0 ? NULL : payload;
+                call.length = n;
                 expect(line, h, call, EFAULT, 0, NULL, 0);
             }
+            for (unsigned n = 0; n < 3; n++) {
+                static const uint64_t attributes[] = {0, 3, FLIC_RECORD};
+                call.kind = GET;
+                call.bytes = n == 1 ? NULL : unwritten;
+                call.attribute = attributes[n];
+                call.length = n == 1 ? 0 : FLIC_RECORD;
+                expect(line, h, call, EFAULT, 0, NULL, 0);
+            }
+        }
         call.kind = WRITE;
-        call.bytes = unwritten;
+        call.bytes = NULL;
         call.length = 0;
         expect(line, h, call, EFAULT, 0, NULL, 0);
+        call.bytes = unwritten;
         call.length = FLIC_LONGEST_LIST;
         expect(line, h, call, EFAULT, 0, NULL, 0);
         call.kind = PLAY;

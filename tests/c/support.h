@@ -35,15 +35,20 @@ const struct flic_place *table_of(const struct host *h);
 
 enum kind { MAKE, SET, GET, TAKE, WRITE, PLAY };
 
+/* A table that is not the controller's own: of random bytes; in a page that cannot be touched; or a null pointer. */
+enum other { RANDOM_BYTES, UNTOUCHABLE, NO_TABLE };
+
 struct call {
     enum kind kind;
     size_t places; /* FLIC_PLACES: the controller's own table; else another one of so many places */
+    enum other other;
+    bool refused; /* expected: nothing that is lent can be written while the call runs */
     bool ais;
     uint32_t group;
     uint64_t attribute;
     uint8_t subclasses;
     bool external, machine_check;
-    const uint8_t *bytes; /* what the payload or buffer holds before the call */
+    const uint8_t *bytes; /* what the payload or buffer holds before the call; NULL: a null pointer is lent */
     size_t length;
 };
 
@@ -53,11 +58,14 @@ struct call {
  */
 struct flic_answer run(int line, struct host *h, const struct call *call, uint8_t *after);
 
-/* The same, held to an answer; the buffer starts with these bytes afterwards, and the rest of it is as it was. */
+/*
+ * The same, held to an answer; the buffer starts with these bytes afterwards, and the rest of it is as it was. A call
+ * that is to be refused is lent read-only memory, but for a list, which may be refused part-way.
+ */
 void expect(int line, struct host *h, struct call call, uint32_t code, uint64_t count, const uint8_t *written,
             size_t size);
 
-void fail(int line, const char *what, uint64_t got, uint64_t wanted);
+_Noreturn void fail(int line, const char *what, uint64_t got, uint64_t wanted);
 void same_bytes(int line, const char *what, const uint8_t *got, const uint8_t *wanted, size_t size);
 
 /* Before the first call. */
@@ -74,6 +82,7 @@ void expect_listing(int line, struct host *h, const uint8_t *records, size_t cou
 void expect_device(int line, struct host *h, uint8_t simm, uint8_t nimm, bool apf);
 void expect_place(int line, struct host *h, unsigned id, struct flic_place place);
 void expect_fresh(int line, struct host *h, bool ais);
+void expect_wrong_makes(int line, struct host *h);
 void expect_wrong_tables(int line, struct host *h);
 
 #define make(h, cap, code, count) \
@@ -99,11 +108,20 @@ void expect_wrong_tables(int line, struct host *h);
 #define play(h, list, size, code, count)                                                                          \
     expect(__LINE__, h, (struct call){.kind = PLAY, .places = FLIC_PLACES, .bytes = list, .length = size}, code,  \
            count, NULL, 0)
+/* a list that is refused by its form */
+#define malformed(h, list, size, code)                                                                            \
+    expect(__LINE__, h,                                                                                           \
+           (struct call){.kind = PLAY, .places = FLIC_PLACES, .refused = true, .bytes = list, .length = size},    \
+           code, 0, NULL, 0)
 #define holds(h, records, count) expect_listing(__LINE__, h, records, count)
 #define device_is(h, simm, nimm, apf) expect_device(__LINE__, h, simm, nimm, apf)
 #define place_is(h, id, ...) expect_place(__LINE__, h, id, (struct flic_place){__VA_ARGS__})
 #define is_fresh(h, ais) expect_fresh(__LINE__, h, ais)
+#define wrong_makes(h) expect_wrong_makes(__LINE__, h)
 #define wrong_tables(h) expect_wrong_tables(__LINE__, h)
+
+/* Bytes of any value, no two runs of them alike. */
+void random_bytes(struct lent *m);
 
 /* Big-endian numbers. */
 void put(uint8_t *at, unsigned bytes, uint64_t n);

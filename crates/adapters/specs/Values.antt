@@ -14,6 +14,10 @@ use Rattle.adapters.specs.declared.Injection.the-variants.{NoAdapter, Dr
 abbrev pub deviceOf : Device → rules.Device
 deviceOf d = record { simm = d .simm; nimm = d .nimm; apf = d .apf }
 
+-- and back
+abbrev pub deviceFrom : rules.Device → Device
+deviceFrom d = record { simm = d .simm; nimm = d .nimm; apf = d .apf }
+
 abbrev pub adapterOf : Place → rules.Adapter
 adapterOf p =
     record { isc = p .isc; maskable = p .maskable; swap = p .swap; suppressible = p .suppressible; masked = p .masked }

@@ -1,13 +1,13 @@
 -- What the inner functions of the public calls promise, on the controller's arrays and with one adapter place by value.
-use Prim.Native.Nat.{ℕ, _-_, _^_}
+use Prim.Native.Nat.{ℕ}
 use mathlib.Core.Path.{_≡_}
 use mathlib.Core.Bool.{Bool, false}
 use mathlib.Core.List.{List, map}
 use lib.ListN.{take, replicate}
 use lib.Dec.{eqb}
 use Rattle.rules.specs.Bytes.{choose}
-use Rattle.rules.specs.State.{State, nothing, withPending, paperLimits}
-use Rattle.rules.specs.Requests.{setRequest, getRequest, request}
+use Rattle.rules.specs.State.{State, Pending, nothing, withPending, paperLimits}
+use Rattle.rules.specs.Requests.{airqInject, setRequest, getRequest, request}
 use Rattle.rules.specs.Outcome.{refuse}
 use Rattle.rules.specs.Take.{takes}
 use Rattle.rules.specs.MoveList.{writes, plays}
@@ -16,12 +16,11 @@ use Rattle.answers.specs.declared.Answer.{Answer}
 use Rattle.answers.specs.Answers.{Answers}
 use Rattle.adapters.specs.declared.Device.{Device}
 use Rattle.adapters.specs.declared.Place.{Place}
-use Rattle.adapters.specs.Values.{placeOf, deviceOf, Canonical, withMasked}
+use Rattle.adapters.specs.Values.{placeOf, deviceOf, Canonical, injectedDevice}
 use Rattle.image.specs.Image.{unpacked}
 use Rattle.records.specs.Memory.{pendingOf}
-use Rattle.values.specs.States.{Replies, aboutOf}
+use Rattle.values.specs.States.{Replies}
 use Rattle.controller.specs.declared.Controller.{Controller}
-use Rattle.controller.specs.declared.Decision.{Decision}
 use Rattle.controller.specs.declared.Started.{Started}
 use Rattle.queues.specs.Queues.{Held}
 
@@ -29,19 +28,21 @@ use Rattle.queues.specs.Queues.{Held}
 abbrev pub controller : (slots order counts singles : List ℕ) → Bool → Controller
 controller slots order counts singles ais = record { slots = slots; order = order; counts = counts; singles = singles; ais = ais }
 
--- A fresh controller's arrays, with a table of so many places.
-pub record Began (table : ℕ) (ais : Bool) (c c′ : Controller) (d : Device) (r : Started) : Type 0 where
-  pub right : table ≡ paperLimits .places
-      → (r ≡ record {
-        answer = record { code = 0; count = 0 };
-        ais = ais;
-        device = record { simm = 0; nimm = 0; apf = false };
-        restored = paperLimits .places;
-        image = replicate (paperLimits .places) 0;
-      })
-      × (pendingOf (c′ .order) (c′ .counts) (c′ .slots) (c′ .singles) ≡ nothing) × Held (c′ .order) (c′ .counts)
-  pub wrong : (table ≡ paperLimits .places → ⊥)
-      → (r .answer ≡ record { code = 14; count = 0 }) × (r .device ≡ d) × (r .restored ≡ 0) × (c′ ≡ c)
+-- the pending records of a controller
+abbrev pub pendingIn : Controller → Pending
+pendingIn c = pendingOf (c .order) (c .counts) (c .slots) (c .singles)
+
+-- A fresh controller's arrays.
+pub record Began (ais : Bool) (c′ : Controller) (r : Started) : Type 0 where
+  pub started : r ≡ record {
+    answer = record { code = 0; count = 0 };
+    ais = ais;
+    device = record { simm = 0; nimm = 0; apf = false };
+    restored = paperLimits .places;
+    image = replicate (paperLimits .places) 0;
+  }
+  pub pending : pendingIn c′ ≡ nothing
+  pub held : Held (c′ .order) (c′ .counts)
 
 -- the state that a controller's arrays and an image stand for
 abbrev pub playedState : Controller → Started → State
@@ -49,68 +50,53 @@ playedState c r =
     record {
       ais = c .ais;
       adapters = map placeOf (map unpacked (take (paperLimits .places) (r .image)));
-      pending = pendingOf (c .order) (c .counts) (c .slots) (c .singles);
+      pending = pendingIn c;
       device = deviceOf (r .device);
     }
 
--- Playing a list with a table of so many places. Where the controller was made fresh, the image has its places.
-pub record Replayed (table : ℕ) (c c′ : Controller) (d : Device) (b : List ℕ) (r : Started) : Type 0 where
-  pub wrong : (table ≡ paperLimits .places → ⊥) → (r .answer ≡ record { code = 14; count = 0 }) × (r .restored ≡ 0)
-  pub same : r .restored ≡ 0 → (c′ ≡ c) × (r .device ≡ d)
+-- Playing a list. Where the controller was made fresh, the image has its places.
+pub record Replayed (c c′ : Controller) (b : List ℕ) (r : Started) : Type 0 where
+  pub same : r .restored ≡ 0 → c′ ≡ c
   pub whole : (r .restored ≡ 0 → ⊥) → r .restored ≡ paperLimits .places
-  pub held : table ≡ paperLimits .places → Held (c′ .order) (c′ .counts)
+  pub held : Held (c′ .order) (c′ .counts)
   pub canonical : All Canonical (map unpacked (take (paperLimits .places) (r .image)))
-  pub answer : table ≡ paperLimits .places → (s : State) → s .ais ≡ c .ais → s .pending ≡ pendingOf (c .order) (c .counts) (c .slots) (c .singles)
-      → s .device ≡ deviceOf d
+  pub answer : (s : State) → s .ais ≡ c .ais
       → Answers paperLimits s b (plays paperLimits s b) (r .answer) (choose (eqb (r .restored) 0) s (playedState c′ r)) b
-  pub form : table ≡ paperLimits .places → (s : State) → s .ais ≡ c .ais → (code : ℕ) → plays paperLimits s b ≡ refuse code → r .restored ≡ 0
+  pub form : (s : State) → s .ais ≡ c .ais → (code : ℕ) → plays paperLimits s b ≡ refuse code → r .restored ≡ 0
 
--- Writing a list with a table of so many places, from an image of it.
-pub record Wrote (table : ℕ) (c : Controller) (d : Device) (image b b′ : List ℕ) (r : Answer) : Type 0 where
-  pub wrong : (table ≡ paperLimits .places → ⊥) → r ≡ record { code = 14; count = 0 }
-  pub answer : table ≡ paperLimits .places → (s : State) → s .ais ≡ c .ais → s .adapters ≡ map placeOf (map unpacked image)
-      → s .pending ≡ pendingOf (c .order) (c .counts) (c .slots) (c .singles) → s .device ≡ deviceOf d
+-- Writing a list, from an image of the table.
+pub record Wrote (c : Controller) (d : Device) (image b b′ : List ℕ) (r : Answer) : Type 0 where
+  pub answer : (s : State) → s .ais ≡ c .ais → s .adapters ≡ map placeOf (map unpacked image) → s .pending ≡ pendingIn c → s .device ≡ deviceOf d
       → Answers paperLimits s b (writes s b) r s b′
   pub kept : (r .code ≡ 0 → ⊥) → b′ ≡ b
 
--- A set request about pending records alone, with a table of so many places.
-pub record Recorded (table group attr : ℕ) (c c′ : Controller) (b : List ℕ) (r : Answer) : Type 0 where
-  pub wrong : (table ≡ paperLimits .places → ⊥) → r ≡ record { code = 14; count = 0 }
-  pub answer : table ≡ paperLimits .places → (s : State) → s .pending ≡ pendingOf (c .order) (c .counts) (c .slots) (c .singles)
-      → Answers paperLimits s b (request paperLimits s (setRequest group) attr b) r
-      (withPending (pendingOf (c′ .order) (c′ .counts) (c′ .slots) (c′ .singles)) s) b
+-- A set request about pending records alone.
+pub record Recorded (group attr : ℕ) (c c′ : Controller) (b : List ℕ) (r : Answer) : Type 0 where
+  pub answer : (s : State) → s .pending ≡ pendingIn c
+      → Answers paperLimits s b (request paperLimits s (setRequest group) attr b) r (withPending (pendingIn c′) s) b
   pub kept : (r .code ≡ 0 → ⊥) → c′ ≡ c
-  pub held : table ≡ paperLimits .places → Held (c′ .order) (c′ .counts)
+  pub held : Held (c′ .order) (c′ .counts)
 
--- the id where a request is of a group, else one that no table has
-unfoldable pub ifGroup : (group wanted id : ℕ) → ℕ
-ifGroup group wanted id = choose (eqb group wanted) id (2 ^ 64 - 1)
+-- the device record after an injection: noted where a record was appended
+abbrev pub notedIn : Bool → Device → Place → Answer → Device
+notedIn ais d p r = choose (eqb (r .count) 1) (injectedDevice ais d p) d
 
--- the adapter place after any other set request: REGISTER enters it, MODIFY sets its masked field
-abbrev pub placeAfter : ℕ → Place → Decision → Place
-placeAfter group p r = choose (eqb group 6) (r .entered) (choose (eqb group 7) (withMasked (r .masked) p) p)
+-- INJECT, of an adapter id with the place p.
+pub record Injected (id : ℕ) (c c′ : Controller) (d : Device) (p : Place) (r : Answer) : Type 0 where
+  pub answer : (b : List ℕ)
+      → Replies (paperLimits .places) (paperLimits .room) (c .ais) d p id b (λ L s. request L s airqInject id b) (pendingIn c) (pendingIn c′)
+      (record { answer = r; device = notedIn (c .ais) d p r; place = p })
+  pub kept : (r .code ≡ 0 → ⊥) → (c′ ≡ c) × (notedIn (c .ais) d p r ≡ d)
+  pub held : Held (c′ .order) (c′ .counts)
 
--- Any other set request with a table of so many places, on the place p of the adapter that it is about, at an id.
-pub record Decided (table group attr id : ℕ) (c c′ : Controller) (d : Device) (p : Place) (b : List ℕ) (r : Decision) : Type 0 where
-  pub wrong : (table ≡ paperLimits .places → ⊥) → r .answer ≡ record { code = 14; count = 0 }
-  pub ids : (r .enters .0 ≡ ifGroup group 6 id) × (r .masks .0 ≡ ifGroup group 7 id)
-  pub answer : table ≡ paperLimits .places
-      → Replies (paperLimits .places) (paperLimits .room) (c .ais) d p (aboutOf group attr b) b (λ L s. request L s (setRequest group) attr b)
-      (pendingOf (c .order) (c .counts) (c .slots) (c .singles)) (pendingOf (c′ .order) (c′ .counts) (c′ .slots) (c′ .singles))
-      (record { answer = r .answer; device = r .device; place = placeAfter group p r })
-  pub kept : (r .answer .code ≡ 0 → ⊥) → (c′ ≡ c) × (r .device ≡ d) × (placeAfter group p r ≡ p)
-  pub held : table ≡ paperLimits .places → Held (c′ .order) (c′ .counts) × Canonical (placeAfter group p r)
-
--- A get request with a table of so many places.
-pub record Got (table group attr : ℕ) (c : Controller) (d : Device) (b b′ : List ℕ) (r : Answer) : Type 0 where
-  pub wrong : (table ≡ paperLimits .places → ⊥) → r ≡ record { code = 14; count = 0 }
-  pub answer : table ≡ paperLimits .places → (s : State) → s .ais ≡ c .ais → s .pending ≡ pendingOf (c .order) (c .counts) (c .slots) (c .singles)
-      → s .device ≡ deviceOf d → Answers paperLimits s b (request paperLimits s (getRequest group) attr b) r s b′
+-- A get request.
+pub record Got (group attr : ℕ) (c : Controller) (d : Device) (b b′ : List ℕ) (r : Answer) : Type 0 where
+  pub answer : (s : State) → s .ais ≡ c .ais → s .pending ≡ pendingIn c → s .device ≡ deviceOf d
+      → Answers paperLimits s b (request paperLimits s (getRequest group) attr b) r s b′
   pub kept : (r .code ≡ 0 → ⊥) → b′ ≡ b
 
 -- A take.
 pub record Handed (subclasses : ℕ) (external mcheck : Bool) (c c′ : Controller) (b b′ : List ℕ) (r : Answer) : Type 0 where
-  pub answer : (s : State) → s .pending ≡ pendingOf (c .order) (c .counts) (c .slots) (c .singles)
-      → Answers paperLimits s b (takes s subclasses external mcheck b) r (withPending (pendingOf (c′ .order) (c′ .counts) (c′ .slots) (c′ .singles)) s) b′
+  pub answer : (s : State) → s .pending ≡ pendingIn c → Answers paperLimits s b (takes s subclasses external mcheck b) r (withPending (pendingIn c′) s) b′
   pub kept : (r .code ≡ 0 → ⊥) → (c′ ≡ c) × (b′ ≡ b)
   pub held : Held (c′ .order) (c′ .counts)

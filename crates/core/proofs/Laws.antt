@@ -168,3 +168,14 @@ as-get L s attr b c {a} k e h = subst (λ (x : ℕ). Answers L s b (request L s 
 -- a refused reply's answer is a refusal
 pub code-of : {a : Answer} {d : Device} {p : Place} {r : Reply} → r ≡ record { answer = a; device = d; place = p } → (r .answer .code ≡ 0 → ⊥) → a .code ≡ 0 → ⊥
 code-of er n e = n (ap (λ (x : Reply). x .answer .code) er ∙ e)
+
+-- the device record of a reply: an injection that was appended, of count 1, is noted in it, and no other
+pub not-noted : (x : Device) {a : Answer} {code : ℕ} {d : Device} {p : Place} {r : Reply} → r ≡ record { answer = a; device = d; place = p }
+    → a ≡ record { code = code; count = 0 } → r .device ≡ choose (eqb (r .answer .count) 1) x d
+unfolding choose
+not-noted x er ea = rw (er, ea)
+
+pub noted : (d x : Device) {a : Answer} {d′ : Device} {p : Place} {r : Reply} → r ≡ record { answer = a; device = d′; place = p }
+    → a ≡ record { code = 0; count = 1 } → d′ ≡ x → r .device ≡ choose (eqb (r .answer .count) 1) x d
+unfolding choose
+noted d x er ea e = rw (er, ea) e

@@ -3,14 +3,15 @@ ghost use mathlib.Core.Path.{_≡_};
 ghost use mathlib.Core.Bool.{true};
 ghost use mathlib.Core.List.{List};
 ghost use Prim.Native.Nat.{ℕ, _≤_, _<_};
-ghost use lib.Dec.{leb};
+ghost use lib.Dec.{leb, eqb};
+ghost use Rattle.rules.specs.Bytes.{choose};
 ghost use Rattle.rules.specs.State.{Limits, State, withPending};
 ghost use Rattle.rules.specs.Requests.{airqInject, setRequest, getRequest, request};
 ghost use Rattle.slots.specs.Slots.{slotCount};
 ghost use Rattle.queues.specs.Queues.{sum, Held};
 ghost use Rattle.answers.specs.Answers.{Answers};
 ghost use Rattle.records.specs.Memory.{pendingOf};
-ghost use Rattle.adapters.specs.Values.{deviceOf, Canonical, injectionOf};
+ghost use Rattle.adapters.specs.Values.{deviceOf, Canonical, injectionOf, injectedDevice};
 ghost use Rattle.core.specs.Cases.{answerFor, onRecords};
 ghost use Rattle.values.specs.States.{aboutOf, Replies, changeOf, Within};
 use adapters::Device;
@@ -33,7 +34,7 @@ use words::SINGLES_BYTES;
 use words::SLOT_BYTES;
 
 // Group 10: an adapter interrupt.
-fn inject(
+pub fn inject(
     slots: &mut [u8; SLOT_BYTES],
     order: &mut [u8; ROOM],
     counts: &mut [usize; QUEUES],
@@ -48,6 +49,7 @@ fn inject(
     ensures answer { λ r. ⌜ ((singles b : List ℕ) → Replies places room ais device place (id .0) b (λ L s. request L s airqInject (id .0) b) (pendingOf (now (order .entry)) (now (counts .entry)) (now (slots .entry)) singles) (pendingOf (now (order .exit)) (now (counts .exit)) (now (slots .exit)) singles) r) ⌝ }
     ensures held { λ r. ⌜ Held (now (order .exit)) (now (counts .exit)) × (r .place ≡ place) ⌝ }
     ensures kept { λ r. ⌜ ((r .answer .code ≡ 0 → ⊥) → (r .device ≡ device) × (now (slots .exit) ≡ now (slots .entry)) × (now (order .exit) ≡ now (order .entry)) × (now (counts .exit) ≡ now (counts .entry))) ⌝ }
+    ensures noted { λ r. ⌜ r .device ≡ choose (eqb (r .answer .count) 1) (injectedDevice ais device place) device ⌝ }
     ensures told { λ r. ⌜ (id .0 < places → r .answer ≡ answerFor (injectionOf ais device place (leb room (sum (now (counts .entry)))))) ⌝ }
 {
     if places <= id.0 {

@@ -6,7 +6,7 @@ use mathlib.Core.List.{List, [], _∷_, _++_}
 use lib.ListN.{length, take}
 use Rattle.rules.specs.State.{State, paperLimits, fresh}
 use Rattle.rules.specs.Outcome.{Answer as Told}
-use Rattle.rules.specs.MoveList.{entries, total, countIn, mostRequests}
+use Rattle.rules.specs.MoveList.{listRequests, total, countIn, mostRequests}
 use Rattle.rules.specs.Machine.{writeList, playList, Call, Seen, seen, step, answers, after}
 use Rattle.rules.proofs.Reachable.{fresh-ais, reachable}
 use Rattle.rules.proofs.Move.{Move, move, movable-paper}
@@ -48,7 +48,7 @@ pub record Moved : Type 0 where
   pub left : List ℕ
   pub wrote : Answer
   pub writes : Requested writeList (first .ctl) (first .ctl) (first .dev) (first .dev) (first .tab) (first .tab) buffer left wrote
-  pub long : total (entries (machine ais calls₁)) ≤ length buffer
+  pub long : total (listRequests (machine ais calls₁)) ≤ length buffer
   pub start₂ : Host
   pub fresh₂ : Fresh ais start₂
   pub calls₂ : List Call
@@ -71,7 +71,7 @@ pub record Claim (m : Moved) : Type 0 where
   -- the first controller gives the plain machine's answers, counts and bytes, of the writing too
   pub first-seen : m .seen₁ ++ (saw (m .wrote) (m .left) ∷ []) ≡ machineAnswers (m .ais) [] (callsOf m)
   -- the writing is accepted, and its count is the list's length
-  pub written : (m .wrote .code ≡ 0) × (m .wrote .count ≡ total (entries (machine (m .ais) (m .calls₁)))) × (length (listOf m) ≡ m .wrote .count)
+  pub written : (m .wrote .code ≡ 0) × (m .wrote .count ≡ total (listRequests (machine (m .ais) (m .calls₁)))) × (length (listOf m) ≡ m .wrote .count)
   -- the second controller accepts exactly those bytes, whatever it held, and applies as many requests as they say, at most 131
   pub accepted : (m .played .code ≡ 0) × (m .played .count ≡ countIn (listOf m)) × (m .played .count ≤ mostRequests)
   -- from then on both give the plain machine's answers, counts and bytes, for every further list of calls

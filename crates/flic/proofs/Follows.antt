@@ -5,7 +5,7 @@ use mathlib.Core.Bool.{Bool}
 use mathlib.Core.List.{List, _∷_}
 use lib.ListN.{length, length-map}
 use Rattle.rules.specs.State.{State, paperLimits}
-use Rattle.rules.specs.Outcome.{Outcome, refuse, result}
+use Rattle.rules.specs.Outcome.{Outcome, result}
 use Rattle.rules.specs.Outcome.{Answer as Told}
 use Rattle.rules.specs.Machine.{Ask, setAttr, getAttr, guestTake, writeList, playList, Call, Seen, outcome, step, answers, after}
 use Rattle.answers.specs.declared.Answer.{Answer}
@@ -15,7 +15,7 @@ use Rattle.adapters.specs.Values.{placeOf}
 use Rattle.controller.specs.declared.Controller.{Controller}
 use Rattle.flic.specs.Surface.{stateOf, Valid, Steps, Requested, Taken, Played}
 use Rattle.flic.specs.Chain.{Host, Lends, its-own, another, asked, saw, Ran, end, set, get, take, write, play}
-use Rattle.flic.proofs.Promises.{next-sound, wrong-table, not-zero}
+use Rattle.flic.proofs.Promises.{next-sound, Tabled, refused-table, not-zero}
 
 abbrev pub hostState : Host → State
 hostState h = stateOf (h .ctl) (h .dev) (h .tab)
@@ -33,22 +33,6 @@ own-length h g = sym (length-map (h .tab) placeOf) ∙ g .sound .table
 pub record Stepped (h : Host) (c : Call) (s : Seen) (k : Host) : Type 0 where
   pub steps : step paperLimits (hostState h) c ≡ record { code = s .code; count = s .count; next = hostState k; buffer = s .buffer }
   pub good : Good k
-
--- a call that is lent a wrong table is refused, whatever the state
-abbrev pub Tabled : Ask → Type 0
-Tabled (setAttr group attr) = Unit {0}
-Tabled (getAttr group attr) = Unit {0}
-Tabled (guestTake subclasses external mcheck) = ⊥
-Tabled writeList = Unit {0}
-Tabled playList = Unit {0}
-
-pub refused-table : (s : State) (ask : Ask) (n : ℕ) (b : List ℕ) → Tabled ask → (n ≡ paperLimits .places → ⊥) → outcome paperLimits s ask n b ≡ refuse 14
-unfolding outcome
-refused-table s (setAttr group attr) n b t w = wrong-table n 14 _ w
-refused-table s (getAttr group attr) n b t w = wrong-table n 14 _ w
-refused-table s (guestTake subclasses external mcheck) n b t w = absurd t
-refused-table s writeList n b t w = wrong-table n 14 _ w
-refused-table s playList n b t w = wrong-table n 14 _ w
 
 module _ (h : Host) (g : Good h) (ask : Ask) (tabled : Tabled ask) (b b′ : List ℕ) (c′ : Controller) (d′ : Device) (r : Answer) where
   refused-step : (s : State) (n : ℕ) → (n ≡ paperLimits .places → ⊥)

@@ -12,7 +12,7 @@ use Rattle.controller.specs.declared.Controller.{Controller}
 use Rattle.controller.specs.Inner.{controller}
 use Rattle.flic.proofs.Ints.{Ints, ints, FitsInts, ints-tells, ints-makes}
 use Rattle.flic.proofs.Opened.{Has, Arrays}
-use Rattle.flic.proofs.Called.{Told, calls-told}
+use Rattle.table.proofs.Called.{Told, calls-told}
 
 pub data Way : Type 0 where
   mutably : Way

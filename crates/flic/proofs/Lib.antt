@@ -1,16 +1,14 @@
-pub mod Tables
 pub mod Promises
 pub mod Follows
 pub mod Claim
 pub mod Represent
 pub mod Runs
 pub mod Pins
+pub mod Safety
 pub mod Walk
 pub mod Ints
 pub mod Fields
-pub mod Locals
 pub mod Opened
-pub mod Called
 pub mod Four
 pub mod All
 pub mod Calls

@@ -11,7 +11,7 @@ use lib.Dec.{leb}
 use Rattle.rules.specs.State.{State, Pending, recordBytes, paperLimits, fresh, withPending}
 use Rattle.rules.specs.Outcome.{Outcome, refuse, accept, reset, result}
 use Rattle.rules.specs.Machine.{Ask, setAttr, getAttr, guestTake, writeList, playList, Call, Seen, outcome, step}
-use Rattle.rules.specs.MoveList.{entries, total}
+use Rattle.rules.specs.MoveList.{listRequests, total}
 use Rattle.rules.specs.Take.{Handed, handed, handsOut, takes}
 use Rattle.rules.proofs.Checks.{passes, fails}
 use Rattle.rules.proofs.Reachable.{Sound, kept-step, fresh-sound}
@@ -24,8 +24,8 @@ use Rattle.records.specs.Memory.{pendingOf}
 use Rattle.controller.specs.declared.Controller.{Controller}
 use Rattle.flic.specs.Surface.{stateOf, Ready, Valid, Premise, Steps, Requested, Taken, Played}
 use Rattle.flic.specs.Chain.{Host, Lends, its-own, another, asked, Ran, end, set, get, take, write, play}
-use Rattle.flic.proofs.Promises.{by-length}
-use Rattle.flic.proofs.Follows.{hostState, Good, own-length, Tabled, refused-table, requested, taken, played, follows}
+use Rattle.flic.proofs.Promises.{by-length, Tabled, refused-table, wrong-promises}
+use Rattle.flic.proofs.Follows.{hostState, Good, own-length, requested, taken, played, follows}
 use Rattle.flic.proofs.Claim.{Fresh, fresh-good, machine, Moved, good₁, good-second}
 use Rattle.flic.proofs.Represent.{keep, Represents, represent}
 
@@ -62,7 +62,7 @@ module _ (c : Controller) (d : Device) (t : List Place) where
   module _ (v : length t ≡ paperLimits .places → Valid c d t) where
     -- a call with a wrong table is refused
     wrong : (ask : Ask) → Tabled ask → (b : List ℕ) → (length t ≡ paperLimits .places → ⊥) → Requested ask c c d d t t b b (record { code = 14; count = 0 })
-    wrong ask tabled b w = stays ask b 14 v (refused-table s ask (length t) b tabled w)
+    wrong ask tabled b w = wrong-promises c d t b w ask tabled
 
     -- the next state of an accepted call is that of a host
     next-host : (ask : Ask) (b : List ℕ) (count : ℕ) (next : State) (written : List ℕ) → length t ≡ paperLimits .places
@@ -286,7 +286,7 @@ one-more cs then h g playList b n =
 
 pub runs : (cs : List Call) (h : Host) → Good h → Chain h cs
 runs [] h g = record { seen = []; last = h; ran = end }
-runs (c ∷ cs) h g = one-more cs (runs cs) h g (c .ask) (c .buffer) (c .table)
+runs (c ∷ cs) h g = one-more cs (runs cs) h g (c .ask) (c .buffer) (c .tableLength)
 
 -- ---- every call of a chain meets its function's premise
 abbrev pub LentPremise : Host → List Place → Type 0
@@ -347,7 +347,7 @@ premises-fresh h r = premises (fresh-good h) r
 
 -- for any two fresh hosts of a capability, any two lists of calls and any buffer that is long enough there is a move
 pub moved : (ais : Bool) (f₁ f₂ : Host) → Fresh ais f₁ → Fresh ais f₂ → (cs₁ cs₂ : List Call) (b : List ℕ)
-    → total (entries (machine ais cs₁)) ≤ length b → Moved
+    → total (listRequests (machine ais cs₁)) ≤ length b → Moved
 moved ais f₁ f₂ h₁ h₂ cs₁ cs₂ b long =
     let x = runs-fresh h₁ cs₁ in
     let y = runs-fresh h₂ cs₂ in

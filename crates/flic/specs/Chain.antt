@@ -25,7 +25,7 @@ pub data Lends (own lent left : List Place) : List Place → Type 0 where
   another : (length lent ≡ paperLimits .places → ⊥) → Lends own lent left own
 
 abbrev pub asked : Ask → List ℕ → ℕ → Call
-asked ask b n = record { ask = ask; buffer = b; table = n }
+asked ask b n = record { ask = ask; buffer = b; tableLength = n }
 
 abbrev pub saw : Answer → List ℕ → Seen
 saw r b = record { code = r .code; count = r .count; buffer = b }

@@ -1,2 +1,3 @@
 pub mod Surface
 pub mod Chain
+pub mod Safety

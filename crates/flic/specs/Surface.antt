@@ -47,7 +47,7 @@ Premise c d t = length t ≡ paperLimits .places → Valid c d t
 -- 01, 'How much each promise says': code, count, next state and each byte of the buffer are the plain machine's.
 abbrev pub Steps : Ask → (c c′ : Controller) (d d′ : Device) (t t′ : List Place) (b b′ : List ℕ) → Answer → Type 0
 Steps ask c c′ d d′ t t′ b b′ r =
-    step paperLimits (stateOf c d t) (record { ask = ask; buffer = b; table = length t })
+    step paperLimits (stateOf c d t) (record { ask = ask; buffer = b; tableLength = length t })
     ≡ record { code = r .code; count = r .count; next = stateOf c′ d′ t′; buffer = b′ }
 
 -- What a request promises of the controller, the device record, the table, the buffer before and after it, and its answer. A refusal leaves each

@@ -5,7 +5,11 @@ ghost use Rattle.flic.specs.Surface.{Ready, Premise, Made, Requested, Ta
 use adapters::Device;
 use adapters::Place;
 use answers::Answer;
+use answers::EFAULT;
 use controller::Controller;
+use words::AIRQ_INJECT;
+use words::AdapterId;
+use words::PLACES;
 
 // A fresh controller with this capability. Its memory holds any values of its types before, for example zeros.
 #[no_mangle]
@@ -17,15 +21,14 @@ pub extern "C" fn flic_make(
 ) -> Answer
     ensures { λ r. ⌜ Made ais (now (c .entry)) (now (c .exit)) (now (d .entry)) (now (d .exit)) (now (t .entry)) (now (t .exit)) r ⌝ }
 {
-    let device = table::read_device(d);
+    if t.len() != PLACES {
+        return answers::refuse(EFAULT);
+    }
     let r = controller::start(
         &mut c.slots,
         &mut c.order,
         &mut c.counts,
         &mut c.singles,
-        t.len(),
-        c.ais,
-        device,
         ais,
     );
     c.ais = r.ais;
@@ -47,39 +50,44 @@ pub extern "C" fn flic_set(
     requires { ⌜ Premise (now c) (now d) (now t) ⌝ }
     ensures { λ r. ⌜ Requested (setAttr group attr) (now (c .entry)) (now (c .exit)) (now (d .entry)) (now (d .exit)) (now (t .entry)) (now (t .exit)) (now (payload .entry)) (now (payload .entry)) r ⌝ }
 {
+    if t.len() != PLACES {
+        return answers::refuse(EFAULT);
+    }
     if core::on_records(group) {
         return controller::answer_records(
             &mut c.slots,
             &mut c.order,
             &mut c.counts,
             &mut c.singles,
-            t.len(),
             group,
             attr,
             payload,
         );
     }
-    let id = values::about(group, attr, payload);
-    let place = table::look_up(t, id);
-    let device = table::read_device(d);
-    let r = controller::decide(
-        &mut c.slots,
-        &mut c.order,
-        &mut c.counts,
-        &mut c.singles,
-        t.len(),
-        c.ais,
-        device,
-        id,
-        place,
-        group,
-        attr,
-        payload,
-    );
-    table::store_device(d, r.device);
-    table::register(t, r.enters, r.entered);
-    table::mask(t, r.masks, r.masked);
-    r.answer
+    if group == AIRQ_INJECT {
+        let id = AdapterId(attr);
+        let place = table::look_up(t, id);
+        let device = table::read_device(d);
+        let r = controller::answer_inject(
+            &mut c.slots,
+            &mut c.order,
+            &mut c.counts,
+            &mut c.singles,
+            c.ais,
+            device,
+            place,
+            id,
+        );
+        if r.count != 1 {
+            return r; // refused, or dropped
+        }
+        table::note_injection(d, c.ais, place);
+        return r;
+    }
+    if values::on_place(group) {
+        return table::set_place(t, group, attr, payload);
+    }
+    table::set_modes(d, c.ais, group, attr, payload)
 }
 
 // A request that gets.
@@ -95,13 +103,15 @@ pub extern "C" fn flic_get(
     requires { ⌜ Premise (now c) (now d) (now t) ⌝ }
     ensures { λ r. ⌜ Requested (getAttr group attr) (now (c .entry)) (now (c .entry)) (now (d .entry)) (now (d .entry)) (now (t .entry)) (now (t .entry)) (now (out .entry)) (now (out .exit)) r ⌝ }
 {
+    if t.len() != PLACES {
+        return answers::refuse(EFAULT);
+    }
     let device = table::read_device(d);
     controller::answer_get(
         &c.slots,
         &c.order,
         &c.counts,
         &c.singles,
-        t.len(),
         c.ais,
         device,
         group,
@@ -140,6 +150,9 @@ pub extern "C" fn flic_write_list(c: &Controller, d: &Device, t: &[Place], out: 
     requires { ⌜ Premise (now c) (now d) (now t) ⌝ }
     ensures { λ r. ⌜ Requested writeList (now (c .entry)) (now (c .entry)) (now (d .entry)) (now (d .entry)) (now (t .entry)) (now (t .entry)) (now (out .entry)) (now (out .exit)) r ⌝ }
 {
+    if t.len() != PLACES {
+        return answers::refuse(EFAULT);
+    }
     let device = table::read_device(d);
     let image = table::snapshot(t);
     controller::write_from(
@@ -147,7 +160,6 @@ pub extern "C" fn flic_write_list(c: &Controller, d: &Device, t: &[Place], out: 
         &c.order,
         &c.counts,
         &c.singles,
-        t.len(),
         c.ais,
         device,
         image,
@@ -166,17 +178,20 @@ pub extern "C" fn flic_play_list(
     requires { ⌜ Premise (now c) (now d) (now t) ⌝ }
     ensures { λ r. ⌜ Played (now (c .entry)) (now (c .exit)) (now (d .entry)) (now (d .exit)) (now (t .entry)) (now (t .exit)) (now (list .entry)) r ⌝ }
 {
-    let device = table::read_device(d);
+    if t.len() != PLACES {
+        return answers::refuse(EFAULT);
+    }
     let r = controller::replay(
         &mut c.slots,
         &mut c.order,
         &mut c.counts,
         &mut c.singles,
-        t.len(),
         c.ais,
-        device,
         list,
     );
+    if r.restored == 0 {
+        return r.answer;
+    }
     table::store_device(d, r.device);
     table::restore(t, r.restored, r.image);
     r.answer

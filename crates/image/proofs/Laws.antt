@@ -7,7 +7,7 @@ use native.Mathlib.Omega.{arith}
 use borrow.Author.Tests.{lt-ltb, le-ltb, eq-eqb, ne-eqb}
 use lib.Dec.{eqb, ltb}
 use Rattle.rules.specs.Bytes.{choose}
-use Rattle.rules.specs.MoveList.{flag}
+use Rattle.rules.specs.MoveList.{oneIf}
 use Rattle.rules.proofs.Lists.{All}
 use Rattle.rules.proofs.Decode.{flag-le}
 use Rattle.adapters.specs.declared.Place.{Place}
@@ -15,7 +15,7 @@ use Rattle.adapters.specs.Values.{unused, Canonical}
 use Rattle.image.specs.Image.{packed, unpacked}
 
 -- the byte of a used place
-pub used-byte : (p : Place) → p .used ≡ true → packed p ≡ 128 + p .isc % 8 * 16 + flag (p .maskable) * 8 + flag (p .swap) * 4 + flag (p .suppressible) * 2 + flag (p .masked)
+pub used-byte : (p : Place) → p .used ≡ true → packed p ≡ 128 + p .isc % 8 * 16 + oneIf (p .maskable) * 8 + oneIf (p .swap) * 4 + oneIf (p .suppressible) * 2 + oneIf (p .masked)
 unfolding packed choose
 used-byte p e = rw e
 
@@ -44,7 +44,7 @@ unpacked-isc b = go (ltb b 128) refl
     go true e = rw e (omega arith)
     go false e = rw e (omega arith)
 
-flag-back : (n : ℕ) (a : Bool) → n ≡ flag a → eqb n 1 ≡ a
+flag-back : (n : ℕ) (a : Bool) → n ≡ oneIf a → eqb n 1 ≡ a
 flag-back n true e = eq-eqb n 1 e
 flag-back n false e = ne-eqb n 1 (λ h. omega arith)
 

@@ -3,7 +3,7 @@ use Prim.Native.Nat.{ℕ, _+_, _*_, _/_, _%_}
 use mathlib.Core.Bool.{true}
 use lib.Dec.{eqb, ltb}
 use Rattle.rules.specs.Bytes.{choose}
-use Rattle.rules.specs.MoveList.{flag}
+use Rattle.rules.specs.MoveList.{oneIf}
 use Rattle.rules.specs.State.{paperLimits}
 use Rattle.adapters.specs.declared.Place.{Place}
 use Rattle.adapters.specs.Values.{unused}
@@ -15,7 +15,7 @@ imageSize = paperLimits .places
 unfoldable pub packed : Place → ℕ
 packed p =
     choose (p .used)
-    (128 + p .isc % 8 * 16 + flag (p .maskable) * 8 + flag (p .swap) * 4 + flag (p .suppressible) * 2 + flag (p .masked))
+    (128 + p .isc % 8 * 16 + oneIf (p .maskable) * 8 + oneIf (p .swap) * 4 + oneIf (p .suppressible) * 2 + oneIf (p .masked))
     0
 
 unfoldable pub unpacked : ℕ → Place

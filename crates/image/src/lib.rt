@@ -2,14 +2,14 @@
 ghost use mathlib.Core.Path.{_≡_};
 ghost use Prim.Native.Nat.{_≤_};
 ghost use lib.ListN.{getD, set, replicate};
-ghost use Rattle.rules.specs.MoveList.{flag};
+ghost use Rattle.rules.specs.MoveList.{oneIf};
 ghost use Rattle.image.specs.Image.{imageSize, packed, unpacked};
 use adapters::Place;
 use words::PLACES;
 
 // 1 where it holds, else 0.
 fn flag(on: bool) -> u8
-    ensures { λ r. ⌜ (r ≡ flag on) × (r ≤ 1) ⌝ }
+    ensures { λ r. ⌜ (r ≡ oneIf on) × (r ≤ 1) ⌝ }
 {
     if on {
         return 1;

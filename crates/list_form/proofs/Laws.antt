@@ -13,7 +13,7 @@ use Rattle.rules.specs.Bytes.{field}
 use Rattle.rules.specs.Requests.{isZero}
 use Rattle.rules.specs.State.{Limits, State, fresh}
 use Rattle.rules.specs.Outcome.{Outcome, EINVAL, EOPNOTSUPP, E2BIG, refuse, need_else_⨾_}
-use Rattle.rules.specs.MoveList.{flag, headerBytes, slotBytes, totalIn, countIn, tableIn, payloadsIn, payloadsAt, flagIn, Slot, slotIn, slotsIn, movable, formed, entriesIn, applies, mostRequests, plays}
+use Rattle.rules.specs.MoveList.{oneIf, headerBytes, tableEntryBytes, totalIn, countIn, tableOffsetIn, payloadOffsetIn, payloadOffset, aisFlagIn, TableEntry, tableEntryIn, tableEntriesIn, movable, formed, requestsIn, applies, mostRequests, plays}
 use Rattle.rules.proofs.Checks.{left, right}
 use Rattle.list_form.specs.Form.{slotAt, slotsOf, slotFormed, Formed, Form}
 
@@ -22,21 +22,21 @@ pub inside : (e k n : ℕ) (b : List ℕ) → field (e + k) n b ≡ field k n (d
 inside e k n b = rw (drop-drop k e b)
 
 -- the entries of the table from a place on
-abbrev pub slotsFrom : ℕ → ℕ → List ℕ → List Slot
-slotsFrom place n b = slotsIn (n - place) (drop (headerBytes + slotBytes * place) b)
+abbrev pub slotsFrom : ℕ → ℕ → List ℕ → List TableEntry
+slotsFrom place n b = tableEntriesIn (n - place) (drop (headerBytes + tableEntryBytes * place) b)
 
 pub next-slot : (place n : ℕ) (b : List ℕ) → place < n → slotsFrom place n b ≡ slotAt place b ∷ slotsFrom (place + 1) n b
-unfolding slotsIn
+unfolding tableEntriesIn
 next-slot place n b h =
     let e : n - place ≡ suc (n - (place + 1)) = omega arith in
-    let f : headerBytes + slotBytes * place + slotBytes ≡ headerBytes + slotBytes * (place + 1) = omega arith in
-    rw (e, drop-drop slotBytes (headerBytes + slotBytes * place) b, f)
+    let f : headerBytes + tableEntryBytes * place + tableEntryBytes ≡ headerBytes + tableEntryBytes * (place + 1) = omega arith in
+    rw (e, drop-drop tableEntryBytes (headerBytes + tableEntryBytes * place) b, f)
 
 pub last-slot : (place n : ℕ) (b : List ℕ) → n ≤ place → slotsFrom place n b ≡ []
-unfolding slotsIn
+unfolding tableEntriesIn
 last-slot place n b h = let e : n - place ≡ 0 = omega arith in rw e
 
-pub slots-all : (n : ℕ) (b : List ℕ) → slotsFrom 0 n b ≡ slotsIn n (drop headerBytes b)
+pub slots-all : (n : ℕ) (b : List ℕ) → slotsFrom 0 n b ≡ tableEntriesIn n (drop headerBytes b)
 slots-all n b = let e : n - 0 ≡ n = omega arith in rw e
 
 -- a turn of the check, where an entry passes and where it does not
@@ -67,7 +67,7 @@ unfolding formed
 formed-ends end at place n b h = rw (last-slot place n b h)
 
 -- what a well-formed table says of the rest and of one entry
-module _ (end at : ℕ) (e : Slot) (es : List Slot) (h : formed end at (e ∷ es) ≡ true) where
+module _ (end at : ℕ) (e : TableEntry) (es : List TableEntry) (h : formed end at (e ∷ es) ≡ true) where
   rest-formed : formed end (at + e .size) es ≡ true
   unfolding formed
   rest-formed = right (movable (e .group)) _ (right (isZero (e .zeroWord)) _ (right (eqb (e .at) at) _ h))
@@ -80,48 +80,48 @@ module _ (end at : ℕ) (e : Slot) (es : List Slot) (h : formed end at (e ∷ es
   unfolding formed
   here-movable = left (movable (e .group)) _ (right (isZero (e .zeroWord)) _ (right (eqb (e .at) at) _ h))
 
-reaches : (end at : ℕ) (es : List Slot) → formed end at es ≡ true → at ≤ end
+reaches : (end at : ℕ) (es : List TableEntry) → formed end at es ≡ true → at ≤ end
 unfolding formed
 reaches end at [] h = let e = eqb-true at end h in omega arith
 reaches end at (e ∷ es) h = let r = reaches end (at + e .size) es (rest-formed end at e es h) in omega arith
 
-within : (end at n place : ℕ) (b : List ℕ) → place < n → formed end at (slotsIn n b) ≡ true
-    → (slotIn (drop (slotBytes * place) b) .at + slotIn (drop (slotBytes * place) b) .size ≤ end) × (movable (slotIn (drop (slotBytes * place) b) .group) ≡ true)
-unfolding slotsIn
+within : (end at n place : ℕ) (b : List ℕ) → place < n → formed end at (tableEntriesIn n b) ≡ true
+    → (tableEntryIn (drop (tableEntryBytes * place) b) .at + tableEntryIn (drop (tableEntryBytes * place) b) .size ≤ end) × (movable (tableEntryIn (drop (tableEntryBytes * place) b) .group) ≡ true)
+unfolding tableEntriesIn
 within end at zero place b p h = absurd (not-suc-le-zero p)
 within end at (suc n) zero b p h =
-    let r = reaches end (at + slotIn b .size) (slotsIn n (drop slotBytes b)) (rest-formed end at (slotIn b) (slotsIn n (drop slotBytes b)) h) in
-    let e = here-at end at (slotIn b) (slotsIn n (drop slotBytes b)) h in
-    (omega arith, here-movable end at (slotIn b) (slotsIn n (drop slotBytes b)) h)
+    let r = reaches end (at + tableEntryIn b .size) (tableEntriesIn n (drop tableEntryBytes b)) (rest-formed end at (tableEntryIn b) (tableEntriesIn n (drop tableEntryBytes b)) h) in
+    let e = here-at end at (tableEntryIn b) (tableEntriesIn n (drop tableEntryBytes b)) h in
+    (omega arith, here-movable end at (tableEntryIn b) (tableEntriesIn n (drop tableEntryBytes b)) h)
 within end at (suc n) (suc place) b p h =
-    let e : slotBytes * suc place ≡ slotBytes + slotBytes * place = omega arith in
-    rw (e, ← drop-drop (slotBytes * place) slotBytes b)
-    (within end (at + slotIn b .size) n place (drop slotBytes b) (le-of-suc-le-suc p)
-    (rest-formed end at (slotIn b) (slotsIn n (drop slotBytes b)) h))
+    let e : tableEntryBytes * suc place ≡ tableEntryBytes + tableEntryBytes * place = omega arith in
+    rw (e, ← drop-drop (tableEntryBytes * place) tableEntryBytes b)
+    (within end (at + tableEntryIn b .size) n place (drop tableEntryBytes b) (le-of-suc-le-suc p)
+    (rest-formed end at (tableEntryIn b) (tableEntriesIn n (drop tableEntryBytes b)) h))
 
 -- the payload of a table entry lies within the list, and its group may be moved
 pub slot-within : (b : List ℕ) (place : ℕ) → Formed b → place < countIn b
     → (slotAt place b .at + slotAt place b .size ≤ length b) × (movable (slotAt place b .group) ≡ true)
 slot-within b place h p =
-    rw (← drop-drop (slotBytes * place) headerBytes b) (within (length b) (payloadsAt (countIn b)) (countIn b) place (drop headerBytes b) p (h .slots))
+    rw (← drop-drop (tableEntryBytes * place) headerBytes b) (within (length b) (payloadOffset (countIn b)) (countIn b) place (drop headerBytes b) p (h .slots))
 
 -- ---- the checks of a list that are left after the first, the second, ..
 module _ (L : Limits) (s : State) (b : List ℕ) where
   abbrev pub fromAis : Outcome
-  fromAis = need eqb (flagIn b) (flag (s .ais)) else EOPNOTSUPP ⨾ applies L 0 (fresh L (s .ais)) (entriesIn b (slotsOf b))
+  fromAis = need eqb (aisFlagIn b) (oneIf (s .ais)) else EOPNOTSUPP ⨾ applies L 0 (fresh L (s .ais)) (requestsIn b (slotsOf b))
 
   abbrev pub fromSlots : Outcome
-  fromSlots = need formed (length b) (payloadsIn b) (slotsOf b) else EINVAL ⨾ fromAis
+  fromSlots = need formed (length b) (payloadOffsetIn b) (slotsOf b) else EINVAL ⨾ fromAis
 
   abbrev pub fromOffsets : Outcome
   fromOffsets =
-      need eqb (tableIn b) headerBytes && (eqb (payloadsIn b) (payloadsAt (countIn b)) && leb (payloadsIn b) (length b)) else EINVAL ⨾ fromSlots
+      need eqb (tableOffsetIn b) headerBytes && (eqb (payloadOffsetIn b) (payloadOffset (countIn b)) && leb (payloadOffsetIn b) (length b)) else EINVAL ⨾ fromSlots
 
   abbrev pub fromCount : Outcome
   fromCount = need leb (countIn b) mostRequests else E2BIG ⨾ fromOffsets
 
   abbrev pub fromFlag : Outcome
-  fromFlag = need leb (flagIn b) 1 else EINVAL ⨾ fromCount
+  fromFlag = need leb (aisFlagIn b) 1 else EINVAL ⨾ fromCount
 
   abbrev pub fromTotal : Outcome
   fromTotal = need eqb (totalIn b) (length b) else EINVAL ⨾ fromFlag

@@ -8,27 +8,27 @@ use lib.Dec.{eqb}
 use Rattle.rules.specs.State.{Limits, State, fresh}
 use Rattle.rules.specs.Outcome.{refuse}
 use Rattle.rules.specs.Requests.{isZero}
-use Rattle.rules.specs.MoveList.{headerBytes, slotBytes, countIn, payloadsAt, Slot, slotIn, slotsIn, movable, formed, entriesIn, applies, mostRequests, plays}
+use Rattle.rules.specs.MoveList.{headerBytes, tableEntryBytes, countIn, payloadOffset, TableEntry, tableEntryIn, tableEntriesIn, movable, formed, requestsIn, applies, mostRequests, plays}
 
 -- the table entry at a place, from 0, and all of them
-abbrev pub slotAt : ℕ → List ℕ → Slot
-slotAt place b = slotIn (drop (headerBytes + slotBytes * place) b)
+abbrev pub slotAt : ℕ → List ℕ → TableEntry
+slotAt place b = tableEntryIn (drop (headerBytes + tableEntryBytes * place) b)
 
-abbrev pub slotsOf : List ℕ → List Slot
-slotsOf b = slotsIn (countIn b) (drop headerBytes b)
+abbrev pub slotsOf : List ℕ → List TableEntry
+slotsOf b = tableEntriesIn (countIn b) (drop headerBytes b)
 
 -- place without gap, zero word, group
-abbrev pub slotFormed : ℕ → Slot → Bool
+abbrev pub slotFormed : ℕ → TableEntry → Bool
 slotFormed at e = eqb (e .at) at && (isZero (e .zeroWord) && movable (e .group))
 
 -- what a list of good form has
 pub record Formed (b : List ℕ) : Type 0 where
   pub few : countIn b ≤ mostRequests
-  pub table : payloadsAt (countIn b) ≤ length b
-  pub slots : formed (length b) (payloadsAt (countIn b)) (slotsOf b) ≡ true
+  pub table : payloadOffset (countIn b) ≤ length b
+  pub slots : formed (length b) (payloadOffset (countIn b)) (slotsOf b) ≡ true
 
 -- What a code says of a list: 0, its form is good and its requests are applied to a fresh controller; else it is refused with this code.
 pub record Form (ais : Bool) (b : List ℕ) (code : ℕ) : Type 0 where
   pub good : code ≡ 0 → Formed b
-  pub played : code ≡ 0 → (L : Limits) (s : State) → s .ais ≡ ais → plays L s b ≡ applies L 0 (fresh L ais) (entriesIn b (slotsOf b))
+  pub played : code ≡ 0 → (L : Limits) (s : State) → s .ais ≡ ais → plays L s b ≡ applies L 0 (fresh L ais) (requestsIn b (slotsOf b))
   pub refused : (code ≡ 0 → ⊥) → (L : Limits) (s : State) → s .ais ≡ ais → plays L s b ≡ refuse code

@@ -4,7 +4,7 @@ ghost use mathlib.Core.Bool.{_&&_};
 ghost use Prim.Native.Nat.{_+_, _*_, _≤_, _<_};
 ghost use lib.ListN.{length, drop};
 ghost use lib.Dec.{leb, eqb};
-ghost use Rattle.rules.specs.MoveList.{flag, headerBytes, slotBytes, tableIn, payloadsIn, payloadsAt, slotsIn, movable, formed};
+ghost use Rattle.rules.specs.MoveList.{oneIf, headerBytes, tableEntryBytes, tableOffsetIn, payloadOffsetIn, payloadOffset, tableEntriesIn, movable, formed};
 ghost use Rattle.list_form.specs.Form.{slotAt, slotFormed, Form};
 use answers::E2BIG;
 use answers::EFAULT;
@@ -12,7 +12,7 @@ use answers::EINVAL;
 use answers::EOPNOTSUPP;
 
 pub fn flag_of(on: bool) -> u64
-    ensures { λ r. ⌜ (r ≡ flag on) × (r ≤ 1) ⌝ }
+    ensures { λ r. ⌜ (r ≡ oneIf on) × (r ≤ 1) ⌝ }
 {
     if on { 1 } else { 0 }
 }
@@ -38,12 +38,12 @@ fn is_movable(group: u64) -> bool
 
 // The table entry at a place has its payload at this offset, a zero word and a group that may be moved.
 fn slot_formed(list: &[u8], place: usize, at: u64) -> bool
-    requires { ⌜ (place < 131) × (headerBytes + slotBytes * (place + 1) ≤ length (now list)) ⌝ }
+    requires { ⌜ (place < 131) × (headerBytes + tableEntryBytes * (place + 1) ≤ length (now list)) ⌝ }
     ensures { λ r. ⌜ r ≡ slotFormed at (slotAt place (now (list .entry))) ⌝ }
 {
     let e = 20 + 24 * place;
     if words::read_be(list, e, 4) != at {
-        return false;
+        return false; // not where the one before ended
     }
     if words::read_be(list, e + 12, 4) != 0 {
         return false;
@@ -53,8 +53,8 @@ fn slot_formed(list: &[u8], place: usize, at: u64) -> bool
 
 // Entry by entry, and the last end.
 fn slots_formed(list: &[u8], count: usize) -> bool
-    requires { ⌜ (count ≤ 131) × (payloadsAt count ≤ length (now list)) ⌝ }
-    ensures { λ r. ⌜ r ≡ formed (length (now (list .entry))) (payloadsAt count) (slotsIn count (drop headerBytes (now (list .entry)))) ⌝ }
+    requires { ⌜ (count ≤ 131) × (payloadOffset count ≤ length (now list)) ⌝ }
+    ensures { λ r. ⌜ r ≡ formed (length (now (list .entry))) (payloadOffset count) (tableEntriesIn count (drop headerBytes (now (list .entry)))) ⌝ }
 {
     let mut at = (20 + 24 * count) as u64;
     let mut i = 0;
@@ -71,7 +71,7 @@ fn slots_formed(list: &[u8], count: usize) -> bool
 // Both offsets are what the count says, and the payload offset is not above the total.
 fn offsets(list: &[u8], count: u64) -> bool
     requires { ⌜ (headerBytes ≤ length (now list)) × (count ≤ 131) ⌝ }
-    ensures { λ r. ⌜ r ≡ (eqb (tableIn (now (list .entry))) headerBytes && (eqb (payloadsIn (now (list .entry))) (payloadsAt count) && leb (payloadsIn (now (list .entry))) (length (now (list .entry))))) ⌝ }
+    ensures { λ r. ⌜ r ≡ (eqb (tableOffsetIn (now (list .entry))) headerBytes && (eqb (payloadOffsetIn (now (list .entry))) (payloadOffset count) && leb (payloadOffsetIn (now (list .entry))) (length (now (list .entry))))) ⌝ }
 {
     if words::read_be(list, 8, 4) != 20 {
         return false;
@@ -91,7 +91,7 @@ pub fn form(list: &[u8], ais: bool) -> u32
         return EFAULT;
     }
     if words::read_be(list, 0, 4) != list.len() as u64 {
-        return EINVAL;
+        return EINVAL; // another total
     }
     let flag = words::read_be(list, 16, 4);
     if 1 < flag {

@@ -10,7 +10,7 @@ use lib.ListN.{length, getD, take, drop, length-append, length-drop, length-map,
 use lib.Seq.{take-at, take-all, drop-at, drop-cons, drop-drop, length-take-le, paste}
 use Rattle.rules.specs.Bytes.{choose, bytes}
 use Rattle.rules.specs.State as rules
-use Rattle.rules.specs.MoveList.{Entry, flag, byRisingId, registerEntry, modifyEntry, payloads, table}
+use Rattle.rules.specs.MoveList.{ListRequest, oneIf, byRisingId, registerRequest, modifyRequest, payloads, writtenTable}
 use Rattle.rules.proofs.Codec.{length-bytes}
 use Rattle.rules.proofs.Decode.{length-table, flag-le}
 use Rattle.adapters.specs.declared.Place.{Place}
@@ -63,23 +63,23 @@ five-numbers o₀ o₁ o₂ o₃ o₄ o₅ at w a b c d e h p q r s t =
     ∙ ap (put o₀ at) (simp append-assoc)
 
 -- ---- tables and payloads of lists one after another
-pub payloads-append : (es fs : List Entry) → payloads (es ++ fs) ≡ payloads es ++ payloads fs
+pub payloads-append : (es fs : List ListRequest) → payloads (es ++ fs) ≡ payloads es ++ payloads fs
 unfolding payloads
 payloads-append [] fs = refl
 payloads-append (e ∷ es) fs = rw (payloads-append es fs, append-assoc (e .payload) (payloads es) (payloads fs))
 
-pub table-append : (at : ℕ) (es fs : List Entry) → table at (es ++ fs) ≡ table at es ++ table (at + length (payloads es)) fs
-unfolding table payloads
+pub table-append : (at : ℕ) (es fs : List ListRequest) → writtenTable at (es ++ fs) ≡ writtenTable at es ++ writtenTable (at + length (payloads es)) fs
+unfolding writtenTable payloads
 table-append at [] fs = rw (add-zero at)
 table-append at (e ∷ es) fs =
     rw (table-append (at + length (e .payload)) es fs, length-append (e .payload) (payloads es), ← add-assoc at (length (e .payload)) (length (payloads es)))
     (simp append-assoc)
 
 -- ---- the entry of one place
-abbrev pub entryAt : Bool → ℕ → Place → Entry
+abbrev pub entryAt : Bool → ℕ → Place → ListRequest
 entryAt modify id p = record { group = groupOf modify; attr = 0; payload = payloadOf modify id p }
 
-abbrev pub maybe : Bool → Entry → List Entry
+abbrev pub maybe : Bool → ListRequest → List ListRequest
 maybe on e = choose on (e ∷ []) []
 
 pub length-payload : (modify : Bool) (id : ℕ) (p : Place) → length (payloadOf modify id p) ≡ sizeOf modify
@@ -87,8 +87,8 @@ unfolding payloadOf
 length-payload true id p = simp (length-append, length-bytes)
 length-payload false id p = simp (length-append, length-bytes)
 
-module _ (e : Entry) where
-  pub maybe-length : (on : Bool) → length (maybe on e) ≡ flag on
+module _ (e : ListRequest) where
+  pub maybe-length : (on : Bool) → length (maybe on e) ≡ oneIf on
   unfolding choose
   maybe-length true = refl
   maybe-length false = refl
@@ -98,19 +98,19 @@ module _ (e : Entry) where
   maybe-payloads true = append-nil (e .payload)
   maybe-payloads false = refl
 
-  pub maybe-size : (on : Bool) → length (payloads (maybe on e)) ≡ length (e .payload) * flag on
+  pub maybe-size : (on : Bool) → length (payloads (maybe on e)) ≡ length (e .payload) * oneIf on
   unfolding choose payloads
   maybe-size true = rw append-nil (omega arith)
   maybe-size false = omega arith
 
-  pub maybe-table : (on : Bool) (at : ℕ) → table at (maybe on e) ≡ choose on (five 8 at (e .group) (length (e .payload)) 0 (e .attr)) []
-  unfolding choose table
+  pub maybe-table : (on : Bool) (at : ℕ) → writtenTable at (maybe on e) ≡ choose on (five 8 at (e .group) (length (e .payload)) 0 (e .attr)) []
+  unfolding choose writtenTable
   maybe-table true at = rw append-nil
   maybe-table false at = refl
 
 by-place : (modify : Bool) (id : ℕ) (p : Place) (ps : List rules.Place)
     → byRisingId (entryOf modify) id (placeOf p ∷ ps) ≡ maybe (isWritten modify p) (entryAt modify id p) ++ byRisingId (entryOf modify) (suc id) ps
-unfolding placeOf choose byRisingId registerEntry modifyEntry payloadOf
+unfolding placeOf choose byRisingId registerRequest modifyRequest payloadOf
 by-place modify id p ps = go modify (p .used) (p .masked) refl refl
   where
     go : (modify u m : Bool) → p .used ≡ u → p .masked ≡ m
@@ -122,7 +122,7 @@ by-place modify id p ps = go modify (p .used) (p .masked) refl refl
     go false false m e f = rw e
 
 -- ---- the entries of an image, from an id on
-abbrev pub eachFrom : Bool → ℕ → List ℕ → List Entry
+abbrev pub eachFrom : Bool → ℕ → List ℕ → List ListRequest
 eachFrom modify i image = byRisingId (entryOf modify) i (drop i (placesOf image))
 
 length-places : (image : List ℕ) → length (placesOf image) ≡ length image
@@ -147,34 +147,34 @@ module _ (modify : Bool) (i : ℕ) (image : List ℕ) (h : i < length image) whe
 
   -- a turn of the table's loop, and of the payloads'
   module _ (on : Bool) (t : on ≡ isWritten modify here) (out out′ : List ℕ) (a : ℕ) where
-    pub count-turn : length (eachFrom modify i image) ≡ flag on + length (eachFrom modify (i + 1) image)
+    pub count-turn : length (eachFrom modify i image) ≡ oneIf on + length (eachFrom modify (i + 1) image)
     count-turn = rw (each-next, length-append, maybe-length (entryAt modify i here), t)
 
-    pub room-turn : (k n : ℕ) → a + k * length (eachFrom modify i image) ≤ n → a + k * flag on + k * length (eachFrom modify (i + 1) image) ≤ n
-    room-turn k n h = omega (arith, rw count-turn at h, mul-add k (flag on) (length (eachFrom modify (i + 1) image)))
+    pub room-turn : (k n : ℕ) → a + k * length (eachFrom modify i image) ≤ n → a + k * oneIf on + k * length (eachFrom modify (i + 1) image) ≤ n
+    room-turn k n h = omega (arith, rw count-turn at h, mul-add k (oneIf on) (length (eachFrom modify (i + 1) image)))
 
-    size-is : length (payloads (maybe on (entryAt modify i here))) ≡ sizeOf modify * flag on
+    size-is : length (payloads (maybe on (entryAt modify i here))) ≡ sizeOf modify * oneIf on
     size-is = rw (maybe-size (entryAt modify i here) on, length-payload modify i here)
 
     pub slots-turn : (p : ℕ) → a + 24 * length (eachFrom modify i image) ≤ length out
         → out′ ≡ put out a (choose on (five 8 p (groupOf modify) (sizeOf modify) 0 0) [])
-        → put out a (table p (eachFrom modify i image)) ≡ put out′ (a + 24 * flag on) (table (p + sizeOf modify * flag on) (eachFrom modify (i + 1) image))
+        → put out a (writtenTable p (eachFrom modify i image)) ≡ put out′ (a + 24 * oneIf on) (writtenTable (p + sizeOf modify * oneIf on) (eachFrom modify (i + 1) image))
     slots-turn p r e =
         let x = maybe on (entryAt modify i here) in
-        let k : table p x ≡ choose on (five 8 p (groupOf modify) (sizeOf modify) 0 0) [] = maybe-table (entryAt modify i here) on p ∙ rw (length-payload modify i here) in
-        let n : length (table p x) ≡ 24 * flag on = length-table p x ∙ rw (maybe-length (entryAt modify i here) on) in
+        let k : writtenTable p x ≡ choose on (five 8 p (groupOf modify) (sizeOf modify) 0 0) [] = maybe-table (entryAt modify i here) on p ∙ rw (length-payload modify i here) in
+        let n : length (writtenTable p x) ≡ 24 * oneIf on = length-table p x ∙ rw (maybe-length (entryAt modify i here) on) in
         let w : eachFrom modify i image ≡ x ++ eachFrom modify (i + 1) image = rw (each-next, t) in
         rw (w, table-append p x (eachFrom modify (i + 1) image), size-is, e, ← k)
-        (sym (put-put out a (24 * flag on) (table p x) _ n (omega (arith, room-turn 24 (length out) r))))
+        (sym (put-put out a (24 * oneIf on) (writtenTable p x) _ n (omega (arith, room-turn 24 (length out) r))))
 
     pub payloads-turn : a + sizeOf modify * length (eachFrom modify i image) ≤ length out → out′ ≡ put out a (choose on (payloadOf modify i here) [])
-        → put out a (payloads (eachFrom modify i image)) ≡ put out′ (a + sizeOf modify * flag on) (payloads (eachFrom modify (i + 1) image))
+        → put out a (payloads (eachFrom modify i image)) ≡ put out′ (a + sizeOf modify * oneIf on) (payloads (eachFrom modify (i + 1) image))
     payloads-turn r e =
         let x = maybe on (entryAt modify i here) in
         let k : payloads x ≡ choose on (payloadOf modify i here) [] = maybe-payloads (entryAt modify i here) on in
         let w : eachFrom modify i image ≡ x ++ eachFrom modify (i + 1) image = rw (each-next, t) in
         rw (w, payloads-append x (eachFrom modify (i + 1) image), e, ← k)
-        (sym (put-put out a (sizeOf modify * flag on) (payloads x) _ size-is (omega (arith, room-turn (sizeOf modify) (length out) r))))
+        (sym (put-put out a (sizeOf modify * oneIf on) (payloads x) _ size-is (omega (arith, room-turn (sizeOf modify) (length out) r))))
 
 -- the four bytes of REGISTER behind the id
 pub four-bytes : (a b c d : ℕ) → a < 256 → b ≤ 1 → c ≤ 1 → d ≤ 1 → bytes 4 (a * 16777216 + (b * 65536 + c * 256 + d)) ≡ a ∷ b ∷ c ∷ d ∷ []
@@ -188,7 +188,7 @@ four-bytes a b c d p q r s =
     λ i. e₁ i ∷ e₂ i ∷ e₃ i ∷ e₄ i ∷ []
 
 -- room for a payload
-pub payload-room : (on modify : Bool) (at n : ℕ) → at + sizeOf modify * flag on ≤ n → on ≡ true → (at + 8 ≤ n) × (modify ≡ true → at + 16 ≤ n)
+pub payload-room : (on modify : Bool) (at n : ℕ) → at + sizeOf modify * oneIf on ≤ n → on ≡ true → (at + 8 ≤ n) × (modify ≡ true → at + 16 ≤ n)
 payload-room true true at n h e = (omega arith, λ f. omega arith)
 payload-room true false at n h e = (omega arith, λ f. let z : _≡_ {A = ℕ} 0 1 = cc in absurd (omega arith))
 payload-room false modify at n h e = let z : _≡_ {A = ℕ} 0 1 = cc in absurd (omega arith)
@@ -203,12 +203,12 @@ module _ (o₀ o₁ o₂ : List ℕ) (at id : ℕ) (p : Place) (h : at + 8 ≤ l
       let f₂ = put-number o₀ o₁ o₂ at 4 4 16842752 (bytes 4 id) (length-bytes 4 id) (omega arith) f₁ g in
       put-number o₀ o₂ o₃ at 8 8 0 (bytes 4 id ++ bytes 4 16842752) (simp (length-append, length-bytes)) h f₂ k
 
-  pub register-put : o₂ ≡ paste o₁ (at + 4) (bytes 4 (p .isc * 16777216 + (flag (p .maskable) * 65536 + flag (p .swap) * 256 + flag (p .suppressible)))) 4
+  pub register-put : o₂ ≡ paste o₁ (at + 4) (bytes 4 (p .isc * 16777216 + (oneIf (p .maskable) * 65536 + oneIf (p .swap) * 256 + oneIf (p .suppressible)))) 4
       → p .isc ≤ 7 → o₂ ≡ put o₀ at (payloadOf false id p)
   unfolding payloadOf
   register-put g k =
       put-number o₀ o₁ o₂ at 4 4 _ (bytes 4 id) (length-bytes 4 id) (omega arith) (f ∙ put-paste o₀ at (bytes 4 id) 4 (length-bytes 4 id)) g
-      ∙ rw (four-bytes (p .isc) (flag (p .maskable)) (flag (p .swap)) (flag (p .suppressible)) (omega arith) (flag-le (p .maskable)) (flag-le (p .swap)) (flag-le (p .suppressible)))
+      ∙ rw (four-bytes (p .isc) (oneIf (p .maskable)) (oneIf (p .swap)) (oneIf (p .suppressible)) (omega arith) (flag-le (p .maskable)) (flag-le (p .swap)) (flag-le (p .suppressible)))
 
 -- the payloads of all adapters' entries have one length each
 pub each-size : (modify : Bool) (id : ℕ) (image : List ℕ)

@@ -5,7 +5,7 @@ use mathlib.Core.List.{List, [], _∷_, _++_}
 use lib.ListN.{length, take, drop, replicate}
 use Rattle.rules.specs.Bytes.{bytes}
 use Rattle.rules.specs.State.{Adapter}
-use Rattle.rules.specs.MoveList.{Entry, flag, byRisingId, registerEntry, modifyEntry}
+use Rattle.rules.specs.MoveList.{ListRequest, oneIf, byRisingId, registerRequest, modifyRequest}
 use Rattle.adapters.specs.declared.Place.{Place}
 use Rattle.image_places.specs.Places.{placesOf}
 
@@ -18,11 +18,11 @@ abbrev pub five : (w a b c d e : ℕ) → List ℕ
 five w a b c d e = bytes 4 a ++ (bytes 4 b ++ (bytes 4 c ++ (bytes 4 d ++ bytes w e)))
 
 -- Of an adapter: MODIFY if masked, or REGISTER. Of every adapter of an image, by rising id.
-abbrev pub entryOf : Bool → ℕ → Adapter → List Entry
-entryOf true = modifyEntry
-entryOf false = registerEntry
+abbrev pub entryOf : Bool → ℕ → Adapter → List ListRequest
+entryOf true = modifyRequest
+entryOf false = registerRequest
 
-abbrev pub each : Bool → List ℕ → List Entry
+abbrev pub each : Bool → List ℕ → List ListRequest
 each modify image = byRisingId (entryOf modify) 0 (placesOf image)
 
 -- whether a place has such an entry, its group and its payload's length
@@ -40,4 +40,4 @@ sizeOf false = 8
 -- the payload: MODIFY type 1 with mask 1 and unread bytes 0, or REGISTER with bytes 0 or 1
 unfoldable pub payloadOf : Bool → ℕ → Place → List ℕ
 payloadOf true id p = bytes 4 id ++ (1 ∷ 1 ∷ replicate 10 0)
-payloadOf false id p = bytes 4 id ++ (p .isc ∷ flag (p .maskable) ∷ flag (p .swap) ∷ flag (p .suppressible) ∷ [])
+payloadOf false id p = bytes 4 id ++ (p .isc ∷ oneIf (p .maskable) ∷ oneIf (p .swap) ∷ oneIf (p .suppressible) ∷ [])

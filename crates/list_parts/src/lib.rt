@@ -4,7 +4,7 @@ ghost use mathlib.Core.List.{[]};
 ghost use Prim.Native.Nat.{_+_, _*_, _≤_};
 ghost use lib.ListN.{length};
 ghost use Rattle.rules.specs.Bytes.{choose};
-ghost use Rattle.rules.specs.MoveList.{flag, slotBytes, payloads, table};
+ghost use Rattle.rules.specs.MoveList.{oneIf, tableEntryBytes, payloads, writtenTable};
 ghost use Rattle.list_parts.specs.Parts.{put, five, each, isWritten, groupOf, sizeOf, payloadOf};
 ghost use Rattle.image.specs.Image.{imageSize};
 use adapters::Place;
@@ -24,7 +24,7 @@ pub fn put_five(out: &mut [u8], at: usize, w: usize, a: u64, b: u64, c: u64, d: 
 
 // A table entry, if there is one.
 pub fn put_slot(out: &mut [u8], on: bool, at: usize, pay: u64, group: u64, size: u64, attr: u64)
-    requires { ⌜ at + slotBytes * flag on ≤ length (now out) ⌝ }
+    requires { ⌜ at + tableEntryBytes * oneIf on ≤ length (now out) ⌝ }
     ensures { λ _. ⌜ now (out .exit) ≡ put (now (out .entry)) at (choose on (five 8 pay group size 0 attr) []) ⌝ }
 {
     if on {
@@ -58,14 +58,14 @@ fn size_of(modify: bool) -> usize
 
 // The length of a payload, if there is one.
 fn size_if(on: bool, modify: bool) -> usize
-    ensures { λ r. ⌜ (r ≡ sizeOf modify * flag on) × (r ≤ 16) ⌝ }
+    ensures { λ r. ⌜ (r ≡ sizeOf modify * oneIf on) × (r ≤ 16) ⌝ }
 {
     if on { size_of(modify) } else { 0 }
 }
 
 // The payload of a place's entry, if it has one.
 fn put_payload(out: &mut [u8], on: bool, at: usize, id: u64, p: Place, modify: bool)
-    requires { ⌜ (p .isc ≤ 7) × (at + sizeOf modify * flag on ≤ length (now out)) ⌝ }
+    requires { ⌜ (p .isc ≤ 7) × (at + sizeOf modify * oneIf on ≤ length (now out)) ⌝ }
     ensures { λ _. ⌜ now (out .exit) ≡ put (now (out .entry)) at (choose on (payloadOf modify id p) []) ⌝ }
 {
     if !on {
@@ -99,8 +99,8 @@ pub fn count(image: [u8; PLACES], modify: bool) -> usize
 
 // The table entries of the adapters, by rising id; the first payload begins at pay.
 pub fn put_slots(out: &mut [u8], at: usize, pay: usize, image: [u8; PLACES], modify: bool)
-    requires { ⌜ (pay ≤ 65536) × (at + slotBytes * length (each modify image) ≤ length (now out)) ⌝ }
-    ensures { λ _. ⌜ now (out .exit) ≡ put (now (out .entry)) at (table pay (each modify image)) ⌝ }
+    requires { ⌜ (pay ≤ 65536) × (at + tableEntryBytes * length (each modify image) ≤ length (now out)) ⌝ }
+    ensures { λ _. ⌜ now (out .exit) ≡ put (now (out .entry)) at (writtenTable pay (each modify image)) ⌝ }
 {
     let group = group_of(modify);
     let size = size_of(modify) as u64;

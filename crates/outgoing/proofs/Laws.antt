@@ -13,7 +13,7 @@ use lib.Seq.{take-all, take-suc, take-at, drop-at, drop-drop, take-set-le, getD-
 use Rattle.rules.specs.Bytes.{choose, byte, part, field}
 use Rattle.rules.specs.State.{Limits, State, Record, Pending, nothing, withPending, single, listing}
 use Rattle.rules.specs.Outcome.{refuse, accept}
-use Rattle.rules.specs.Requests.{isZero, isFor, withoutFirst, request, clearIoIrq, clearsIo, removes, clears, lists}
+use Rattle.rules.specs.Requests.{isZero, isFor, withoutFirst, request, clearIoIrq, clearsIo, removes, clears, getsAll}
 use Rattle.rules.specs.Take.{firstAllowed, orElse, handMchk, handService, handDone, handIo, handed, handsOut, takes}
 use Rattle.rules.proofs.Checks.{passes, fails}
 use Rattle.rules.proofs.Lists.{flatten-append}
@@ -330,12 +330,12 @@ clears-all s p q n e f k = rw (e, f, k)
 
 -- ---- GET_ALL_IRQS
 module _ (s : State) (p : Pending) (n attr : ℕ) (e : s .pending ≡ p) (f : n ≡ length (listing p)) where
-  pub lists-none : attr < n * 72 → lists s attr ≡ refuse 12
-  unfolding lists
+  pub lists-none : attr < n * 72 → getsAll s attr ≡ refuse 12
+  unfolding getsAll
   lists-none h = fails _ _ _ (lt-leb (72 * length (listing (s .pending))) attr (rw e (omega arith)))
 
-  pub lists-all : n * 72 ≤ attr → lists s attr ≡ accept n s (flatten (listing p))
-  unfolding lists
+  pub lists-all : n * 72 ≤ attr → getsAll s attr ≡ accept n s (flatten (listing p))
+  unfolding getsAll
   lists-all h = passes _ _ _ (le-leb (72 * length (listing (s .pending))) attr (rw e (omega arith))) ∙ rw (e, f)
 
 -- what was written is as long as the place where the old bytes go on

@@ -62,7 +62,7 @@ pub fn clear_irqs(
     queues::clear(counts);
     singles::drop_service(singles);
     singles::drop_mchk(singles);
-    answers::accept(n as u64)
+    answers::accept(n as u64) // those removed
 }
 
 // Writes the listing to out.
@@ -115,7 +115,7 @@ pub fn get_all(
         return answers::refuse(ENOMEM);
     }
     list_all(slots, order, counts, singles, out);
-    answers::accept(n as u64)
+    answers::accept(n as u64) // those listed
 }
 
 // Group 8: the first I/O record in listing order for a subchannel is removed.
@@ -155,7 +155,7 @@ fn hand(out: &mut [u8], r: [u8; 72]) -> Answer
     ensures { λ a. ⌜ (a ≡ record { code = 0; count = 1 }) × (now (out .exit) ≡ r ++ drop 72 (now (out .entry))) ⌝ }
 {
     words::save(out, 0, r);
-    answers::accept(1)
+    answers::accept(1) // one record
 }
 
 // The machine check, which is there no more.

@@ -15,7 +15,7 @@ use Rattle.rules.specs.State.{Limits, Pending, State, nothing, fresh}
 use Rattle.rules.specs.Outcome.{Outcome, refuse, accept, reset, result}
 use Rattle.rules.specs.Outcome as told
 use Rattle.rules.specs.Requests.{setRequest, request}
-use Rattle.rules.specs.MoveList.{Entry, Slot, onward, applies, entriesIn, plays}
+use Rattle.rules.specs.MoveList.{ListRequest, TableEntry, onward, applies, requestsIn, plays}
 use Rattle.rules.proofs.Checks.{chosen, passed}
 use Rattle.answers.specs.declared.Answer.{Answer}
 use Rattle.answers.specs.Answers.{Answers}
@@ -49,7 +49,7 @@ as-state places room ais device place id image image′ b o p₀ p₁ r a d h ea
     })
 
 -- the request of a table entry, by the numbers that were read of it
-pub as-slot : (L : Limits) (s t : State) (b : List ℕ) (e : Slot) (a : Answer) (at size group attr : ℕ) → at ≡ e .at → size ≡ e .size → group ≡ e .group
+pub as-slot : (L : Limits) (s t : State) (b : List ℕ) (e : TableEntry) (a : Answer) (at size group attr : ℕ) → at ≡ e .at → size ≡ e .size → group ≡ e .group
     → attr ≡ e .attr
     → Answers L s (take (at + size - at) (drop at b)) (request L s (setRequest group) attr (take (at + size - at) (drop at b))) a t (take (at + size - at) (drop at b))
     → Answers L s (part (e .at) (e .size) b) (requestIn L s b e) a t (part (e .at) (e .size) b)
@@ -81,16 +81,16 @@ module _ (L : Limits) (s t : State) (b : List ℕ) (o : Outcome) (a : Answer) (k
 module _ (L : Limits) (s t : State) (b : List ℕ) (a : Answer) (place n : ℕ) (i : place < n)
     (h : let e = slotAt place b in Answers L s (part (e .at) (e .size) b) (requestIn L s b e) a t (part (e .at) (e .size) b)) where
   pub applies-next : a .code ≡ 0
-      → applies L place s (entriesIn b (slotsFrom place n b)) ≡ applies L (place + 1) t (entriesIn b (slotsFrom (place + 1) n b))
-  unfolding applies entriesIn
+      → applies L place s (requestsIn b (slotsFrom place n b)) ≡ applies L (place + 1) t (requestsIn b (slotsFrom (place + 1) n b))
+  unfolding applies requestsIn
   applies-next z = rw (next-slot place n b i, add-one place) (onward-accepts L s t _ _ a (plain-request L s _ _ _) h place _ z)
 
-  pub applies-stops : (a .code ≡ 0 → ⊥) → applies L place s (entriesIn b (slotsFrom place n b)) ≡ reset (a .code) place
-  unfolding applies entriesIn
+  pub applies-stops : (a .code ≡ 0 → ⊥) → applies L place s (requestsIn b (slotsFrom place n b)) ≡ reset (a .code) place
+  unfolding applies requestsIn
   applies-stops z = rw (next-slot place n b i) (onward-refuses L s t _ _ a (plain-request L s _ _ _) h place _ z)
 
-pub applies-ends : (L : Limits) (s : State) (b : List ℕ) (place n : ℕ) → n ≤ place → applies L place s (entriesIn b (slotsFrom place n b)) ≡ accept place s []
-unfolding applies entriesIn
+pub applies-ends : (L : Limits) (s : State) (b : List ℕ) (place n : ℕ) → n ≤ place → applies L place s (requestsIn b (slotsFrom place n b)) ≡ accept place s []
+unfolding applies requestsIn
 applies-ends L s b place n h = rw (last-slot place n b h)
 
 -- a list whose requests are applied is not refused as a whole
@@ -105,12 +105,12 @@ applied-onward (refuse code) place rest h = tt
 applied-onward (accept count next written) place rest h = h next
 applied-onward (reset code at) place rest h = tt
 
-applied : (L : Limits) (place : ℕ) (s : State) (es : List Entry) → Applied (applies L place s es)
+applied : (L : Limits) (place : ℕ) (s : State) (es : List ListRequest) → Applied (applies L place s es)
 unfolding applies
 applied L place s [] = tt
 applied L place s (e ∷ es) = applied-onward _ place (λ t. applies L (suc place) t es) (λ t. applied L (suc place) t es)
 
-pub not-refused : (L : Limits) (place : ℕ) (s : State) (es : List Entry) (code : ℕ) (o : Outcome) → o ≡ applies L place s es → o ≡ refuse code → ⊥
+pub not-refused : (L : Limits) (place : ℕ) (s : State) (es : List ListRequest) (code : ℕ) (o : Outcome) → o ≡ applies L place s es → o ≡ refuse code → ⊥
 not-refused L place s es code o e f = subst Applied (sym e ∙ f) (applied L place s es)
 
 -- what an answer to the requests of a list says
@@ -145,7 +145,7 @@ pub not-played : (L : Limits) (s t : State) (b : List ℕ) (code : ℕ) (a : Ans
 unfolding result choose
 not-played L s t b code a p e = ap (result L s b) p ∙ rw e
 
-module _ (places room : ℕ) (ais : Bool) (b : List ℕ) (es : List Entry) (start next : State) (a : Answer) (h : 0 < places)
+module _ (places room : ℕ) (ais : Bool) (b : List ℕ) (es : List ListRequest) (start next : State) (a : Answer) (h : 0 < places)
     (f : fresh (limitsOf places room) ais ≡ start) (r : applies (limitsOf places room) 0 start es ≡ ranTo a next) (L : Limits) (s : State)
     (e1 : L .places ≡ places) (e2 : L .room ≡ room) (e3 : s .ais ≡ ais) (p : plays L s b ≡ applies L 0 (fresh L ais) es) where
   comes-to : plays L s b ≡ ranTo a next

@@ -7,7 +7,7 @@ use native.Mathlib.Omega.{arith}
 use Rattle.rules.specs.Bytes.{choose}
 use Rattle.rules.specs.State.{Limits, Adapter, Place, free, holds, Record, State}
 use Rattle.rules.specs.Outcome.{Outcome, refuse, accept, reset, need_else_⨾_, holder_else_⨾_}
-use Rattle.rules.specs.Requests.{Request, noRequest, getAllIrqs, enqueue, clearIrqs, apfEnable, apfDisableWait, adapterRegister, adapterModify, clearIoIrq, aism, airqInject, setAismAll, getAismAll, lists, enqueues, clears, flags, registers, modifies, removes, clearsIo, setsMode, injects, request}
+use Rattle.rules.specs.Requests.{Request, noRequest, getAllIrqs, enqueue, clearIrqs, apfEnable, apfDisableWait, adapterRegister, adapterModify, clearIoIrq, aism, airqInject, setAismAll, getAismAll, getsAll, enqueues, clears, setsApf, registers, modifies, removes, clearsIo, setsMode, injects, request}
 
 abbrev pub Plain : Outcome → Type 0
 Plain (refuse code) = 0 < code
@@ -35,7 +35,7 @@ plain-removes s none = tt
 plain-removes s (some qs) = tt
 
 pub plain-request : (L : Limits) (s : State) (r : Request) (attr : ℕ) (b : List ℕ) → Plain (request L s r attr b)
-unfolding request lists enqueues clears flags registers modifies clearsIo setsMode injects
+unfolding request getsAll enqueues clears setsApf registers modifies clearsIo setsMode injects
 plain-request L s noRequest attr b = omega arith
 plain-request L s getAllIrqs attr b = plain-need _ _ _ (omega arith) (plain-need _ _ _ (omega arith) (plain-need _ _ _ (omega arith) tt))
 plain-request L s enqueue attr b =

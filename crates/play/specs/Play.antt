@@ -8,7 +8,7 @@ use Rattle.rules.specs.Bytes.{choose, part}
 use Rattle.rules.specs.State.{Limits, Pending, State}
 use Rattle.rules.specs.Outcome.{Outcome, accept, reset}
 use Rattle.rules.specs.Requests.{setRequest, request}
-use Rattle.rules.specs.MoveList.{Slot}
+use Rattle.rules.specs.MoveList.{TableEntry}
 use Rattle.answers.specs.declared.Answer.{Answer}
 use Rattle.adapters.specs.declared.Device.{Device}
 use Rattle.adapters.specs.Values.{deviceOf}
@@ -23,7 +23,7 @@ stateOf ais places image pending device =
     record { ais = ais; adapters = take places (placesOf image); pending = pending; device = deviceOf device }
 
 -- the request of a table entry
-abbrev pub requestIn : Limits → State → List ℕ → Slot → Outcome
+abbrev pub requestIn : Limits → State → List ℕ → TableEntry → Outcome
 requestIn L s b e = request L s (setRequest (e .group)) (e .attr) (part (e .at) (e .size) b)
 
 -- An answer to the requests of a list: all are applied, their number is the count and this is the next state; or the one at the place that is

@@ -1,6 +1,6 @@
 // Inner crate: playing a move list on lent memory, with the adapter places in an image of bytes.
 ghost use mathlib.Core.Path.{_≡_};
-ghost use mathlib.Core.Bool.{true};
+ghost use mathlib.Core.Bool.{true, false};
 ghost use Prim.Native.Nat.{ℕ, _≤_, _<_};
 ghost use lib.ListN.{take, replicate};
 ghost use lib.Dec.{eqb};
@@ -8,7 +8,7 @@ ghost use Rattle.rules.specs.Bytes.{choose, part};
 ghost use Rattle.rules.specs.State.{Limits, State};
 ghost use Rattle.rules.specs.Outcome.{refuse};
 ghost use Rattle.rules.specs.Requests.{setRequest, request};
-ghost use Rattle.rules.specs.MoveList.{countIn, movable, entriesIn, applies, plays};
+ghost use Rattle.rules.specs.MoveList.{countIn, movable, requestsIn, applies, plays};
 ghost use Rattle.answers.specs.Answers.{Answers};
 ghost use Rattle.queues.specs.Queues.{Held};
 ghost use Rattle.records.specs.Memory.{pendingOf};
@@ -125,7 +125,7 @@ fn apply_all(
     count: usize,
 ) -> Ran
     requires { ⌜ (room ≤ slotCount) × (places ≤ imageSize) × Held (now order) (now counts) × AllCanonical (now image) × Formed (now list) × (count ≡ countIn (now list)) ⌝ }
-    ensures answer { λ r. ⌜ applies (limitsOf places room) 0 (stateOf ais places (now (image .entry)) (pendingOf (now (order .entry)) (now (counts .entry)) (now (slots .entry)) (now (singles .entry))) device) (entriesIn (now (list .entry)) (slotsOf (now (list .entry)))) ≡ ranTo (r .answer) (stateOf ais places (now (image .exit)) (pendingOf (now (order .exit)) (now (counts .exit)) (now (slots .exit)) (now (singles .exit))) (r .device)) ⌝ }
+    ensures answer { λ r. ⌜ applies (limitsOf places room) 0 (stateOf ais places (now (image .entry)) (pendingOf (now (order .entry)) (now (counts .entry)) (now (slots .entry)) (now (singles .entry))) device) (requestsIn (now (list .entry)) (slotsOf (now (list .entry)))) ≡ ranTo (r .answer) (stateOf ais places (now (image .exit)) (pendingOf (now (order .exit)) (now (counts .exit)) (now (slots .exit)) (now (singles .exit))) (r .device)) ⌝ }
     ensures held { λ _. ⌜ Held (now (order .exit)) (now (counts .exit)) × AllCanonical (now (image .exit)) ⌝ }
 {
     let mut d = device;
@@ -159,8 +159,8 @@ fn apply_all(
     Ran { answer, device: d }
 }
 
-// An answer, with the device record as it is then. Where the controller was made fresh, `restored` is the number of its places and the image
-// has them; where nothing changed it is 0.
+// An answer. Where the controller was made fresh, `restored` is the number of its places, the image has them, and the device record is this;
+// where nothing changed it is 0.
 pub struct Played {
     pub answer: Answer,
     pub device: Device,
@@ -169,14 +169,14 @@ pub struct Played {
 }
 
 // A refusal of form: nothing has changed.
-fn not_played(code: u32, device: Device) -> Played
-    ensures { λ r. ⌜ r ≡ record { answer = record { code = code; count = 0 }; device = device; restored = 0; image = replicate imageSize 0 } ⌝ }
+fn not_played(code: u32) -> Played
+    ensures { λ r. ⌜ r ≡ record { answer = record { code = code; count = 0 }; device = record { simm = 0; nimm = 0; apf = false }; restored = 0; image = replicate imageSize 0 } ⌝ }
 {
     let answer = answers::refuse(code);
     let image = image::empty();
     Played {
         answer,
-        device,
+        device: adapters::fresh_device(),
         restored: 0,
         image,
     }
@@ -191,19 +191,18 @@ pub fn play_list(
     places: u64,
     room: usize,
     ais: bool,
-    device: Device,
     list: &[u8],
 ) -> Played
     requires { ⌜ (room ≤ slotCount) × (0 < places) × (places ≤ imageSize) × Held (now order) (now counts) ⌝ }
-    ensures answer { λ r. ⌜ ((L : Limits) (s : State) → L .places ≡ places → L .room ≡ room → s .ais ≡ ais → s .pending ≡ pendingOf (now (order .entry)) (now (counts .entry)) (now (slots .entry)) (now (singles .entry)) → s .device ≡ deviceOf device → Answers L s (now (list .entry)) (plays L s (now (list .entry))) (r .answer) (choose (eqb (r .restored) 0) s (stateOf ais places (r .image) (pendingOf (now (order .exit)) (now (counts .exit)) (now (slots .exit)) (now (singles .exit))) (r .device))) (now (list .entry))) ⌝ }
+    ensures answer { λ r. ⌜ ((L : Limits) (s : State) → L .places ≡ places → L .room ≡ room → s .ais ≡ ais → Answers L s (now (list .entry)) (plays L s (now (list .entry))) (r .answer) (choose (eqb (r .restored) 0) s (stateOf ais places (r .image) (pendingOf (now (order .exit)) (now (counts .exit)) (now (slots .exit)) (now (singles .exit))) (r .device))) (now (list .entry))) ⌝ }
     ensures held { λ r. ⌜ Held (now (order .exit)) (now (counts .exit)) × AllCanonical (take places (r .image)) ⌝ }
     ensures restored { λ r. ⌜ ((r .restored ≡ 0 → ⊥) → r .restored ≡ places) ⌝ }
     ensures form { λ r. ⌜ ((L : Limits) (s : State) → s .ais ≡ ais → (code : ℕ) → plays L s (now (list .entry)) ≡ refuse code → r .restored ≡ 0) ⌝ }
-    ensures kept { λ r. ⌜ (r .restored ≡ 0 → (now (slots .exit) ≡ now (slots .entry)) × (now (order .exit) ≡ now (order .entry)) × (now (counts .exit) ≡ now (counts .entry)) × (now (singles .exit) ≡ now (singles .entry)) × (r .device ≡ device)) ⌝ }
+    ensures kept { λ r. ⌜ (r .restored ≡ 0 → (now (slots .exit) ≡ now (slots .entry)) × (now (order .exit) ≡ now (order .entry)) × (now (counts .exit) ≡ now (counts .entry)) × (now (singles .exit) ≡ now (singles .entry))) ⌝ }
 {
     let code = list_form::form(list, ais);
     if code != 0 {
-        return not_played(code, device);
+        return not_played(code);
     }
     let mut image = image::empty();
     memory::fresh(order, counts, singles);

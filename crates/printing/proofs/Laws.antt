@@ -11,7 +11,7 @@ use lib.Seq.{take-length, length-take-le}
 use Rattle.rules.specs.Bytes.{choose}
 use Rattle.rules.specs.State.{Limits, State, Pending, paperLimits, fresh, listing}
 use Rattle.rules.specs.Outcome.{result}
-use Rattle.rules.specs.MoveList.{headerBytes, flagIn, plays}
+use Rattle.rules.specs.MoveList.{headerBytes, aisFlagIn, plays}
 use Rattle.rules.specs.Listing.{shown, refusal, told, freshFor, mostBytes, printed}
 use Rattle.rules.proofs.Checks.{fails, chosen, passed}
 use Rattle.answers.specs.Answers.{Answers}
@@ -31,7 +31,7 @@ too-short : (L : Limits) (s : State) (b : List ℕ) → length b < headerBytes �
 unfolding told result plays choose
 too-short L s b h = rw (fails (leb headerBytes (length b)) 14 _ (lt-leb headerBytes (length b) h))
 
-told-by : (b : List ℕ) (ais t : Bool) → leb headerBytes (length b) ≡ t → (headerBytes ≤ length b → ais ≡ eqb (flagIn b) 1)
+told-by : (b : List ℕ) (ais t : Bool) → leb headerBytes (length b) ≡ t → (headerBytes ≤ length b → ais ≡ eqb (aisFlagIn b) 1)
     → told (result paperLimits (freshFor b) b (plays paperLimits (freshFor b) b)) ≡ told (result paperLimits (fresh paperLimits ais) b (plays paperLimits (fresh paperLimits ais) b))
 told-by b ais true e h = rw (h (leb-true headerBytes (length b) e))
 told-by b ais false e h =
@@ -49,7 +49,7 @@ either true x y p h k = h refl
 either false x y p h k = k
 
 pub printed-is : (b : List ℕ) (ais : Bool) (a : Answer) (restored : ℕ) (next : State) (p : Pending) → length b ≤ mostBytes
-    → (headerBytes ≤ length b → ais ≡ eqb (flagIn b) 1)
+    → (headerBytes ≤ length b → ais ≡ eqb (aisFlagIn b) 1)
     → Answers paperLimits (fresh paperLimits ais) b (plays paperLimits (fresh paperLimits ais) b) a (choose (eqb restored 0) (fresh paperLimits ais) next) b
     → next .pending ≡ p → (restored ≡ 0 → fresh paperLimits ais .pending ≡ p)
     → printed b ≡ choose (eqb (a .code) 0) (shown (listing p)) (refusal (a .code))

@@ -4,7 +4,7 @@ ghost use mathlib.Core.List.{_++_};
 ghost use Prim.Native.Nat.{_≤_};
 ghost use lib.ListN.{length, take, drop};
 ghost use lib.Dec.{eqb};
-ghost use Rattle.rules.specs.MoveList.{flagIn, headerBytes};
+ghost use Rattle.rules.specs.MoveList.{aisFlagIn, headerBytes};
 ghost use Rattle.rules.specs.Listing.{printed};
 use answers::E2BIG;
 use text::TEXT_BYTES;
@@ -19,7 +19,7 @@ pub const MOST_BYTES: usize = 65536;
 
 // Whether the flag of a list is 1; a list too short for a header is refused in any case.
 fn capable(list: &[u8]) -> bool
-    ensures { λ r. ⌜ (headerBytes ≤ length (now (list .entry)) → r ≡ eqb (flagIn (now (list .entry))) 1) ⌝ }
+    ensures { λ r. ⌜ (headerBytes ≤ length (now (list .entry)) → r ≡ eqb (aisFlagIn (now (list .entry))) 1) ⌝ }
 {
     if list.len() < 20 {
         return false;
@@ -49,7 +49,6 @@ pub fn print_list(input: &[u8], out: &mut [u8; TEXT_BYTES]) -> usize
         PLACES as u64,
         ROOM,
         capable(input),
-        adapters::fresh_device(),
         input,
     );
     let code = played.answer.code;

@@ -16,7 +16,7 @@ use Rattle.rules.specs.Bytes.{choose, number, bytes, part, field}
 use Rattle.rules.specs.State as rules
 use Rattle.rules.specs.State.{Limits, State, Record, Pending, withPending, kind, subclass, addIo, addAs, add, addAll, firstOr, mergedOr, queued}
 use Rattle.rules.specs.Outcome.{refuse, need_else_⨾_}
-use Rattle.rules.specs.Requests.{recordsIn, taken, allTaken, wants, allWant, enqueue, enqueues, adapterInterrupt, request}
+use Rattle.rules.specs.Requests.{recordsIn, kindAccepted, allAccepted, wants, allWant, enqueue, enqueues, adapterInterrupt, request}
 use Rattle.rules.proofs.Checks.{passes, fails, both}
 use Rattle.rules.proofs.Lists.{flatten-append}
 use Rattle.words.proofs.Laws.{drop-take}
@@ -76,8 +76,8 @@ io-told r k s e f =
 
 -- a case's tag tells what a record of its kind wants
 pub tag-wants : (k : rules.Kind) (isc t : ℕ) → t ≡ tagOf the-type (asCase k isc)
-    → ((t ≡ 0) ⊎ (t ≡ 1) → (taken k ≡ true) × (wants k ≡ 1)) × ((t ≡ 2) ⊎ (t ≡ 3) → (taken k ≡ true) × (wants k ≡ 0))
-unfolding asCase taken wants
+    → ((t ≡ 0) ⊎ (t ≡ 1) → (kindAccepted k ≡ true) × (wants k ≡ 1)) × ((t ≡ 2) ⊎ (t ≡ 3) → (kindAccepted k ≡ true) × (wants k ≡ 0))
+unfolding asCase kindAccepted wants
 tag-wants rules.Kind.io isc t e = (λ h. (refl, refl), λ h. absurd (⊎-elim (λ f. omega arith) (λ f. omega arith) h))
 tag-wants rules.Kind.done isc t e = (λ h. (refl, refl), λ h. absurd (⊎-elim (λ f. omega arith) (λ f. omega arith) h))
 tag-wants rules.Kind.service isc t e = (λ h. absurd (⊎-elim (λ f. omega arith) (λ f. omega arith) h), λ h. (refl, refl))
@@ -120,43 +120,43 @@ unfolding choose
 step-good true x place w e = (refl, e)
 step-good false x place w e = let z : _≡_ {A = ℕ} 0 1 = cc in absurd (omega arith)
 
-pub check-good : (rs : List Record) (place n w : ℕ) → Good w ≡ checkFrom place n rs → (allTaken rs ≡ true) × (w ≡ n + allWant rs)
-unfolding checkFrom allTaken allWant
+pub check-good : (rs : List Record) (place n w : ℕ) → Good w ≡ checkFrom place n rs → (allAccepted rs ≡ true) × (w ≡ n + allWant rs)
+unfolding checkFrom allAccepted allWant
 check-good [] place n w e = (refl, let f : w ≡ n = cc in omega arith)
 check-good (r ∷ rs) place n w e =
-    let s = step-good (taken (kind r)) (checkFrom (suc place) (n + wants (kind r)) rs) place w e in
+    let s = step-good (kindAccepted (kind r)) (checkFrom (suc place) (n + wants (kind r)) rs) place w e in
     let t = check-good rs (suc place) (n + wants (kind r)) w (s .1) in
-    (both (taken (kind r)) (allTaken rs) (s .0) (t .0), omega arith)
+    (both (kindAccepted (kind r)) (allAccepted rs) (s .0) (t .0), omega arith)
 
 step-bad : (t a : Bool) (x : Checked) (place j : ℕ) → BadAt j ≡ choose t x (BadAt place) → (BadAt j ≡ x → a ≡ false) → (t && a) ≡ false
 unfolding choose
 step-bad true a x place j e f = f e
 step-bad false a x place j e f = refl
 
-pub check-bad : (rs : List Record) (place n j : ℕ) → BadAt j ≡ checkFrom place n rs → allTaken rs ≡ false
-unfolding checkFrom allTaken
+pub check-bad : (rs : List Record) (place n j : ℕ) → BadAt j ≡ checkFrom place n rs → allAccepted rs ≡ false
+unfolding checkFrom allAccepted
 check-bad [] place n j e = let z : _≡_ {A = ℕ} 0 1 = cc in absurd (omega arith)
 check-bad (r ∷ rs) place n j e =
-    step-bad (taken (kind r)) (allTaken rs) (checkFrom (suc place) (n + wants (kind r)) rs) place j e
+    step-bad (kindAccepted (kind r)) (allAccepted rs) (checkFrom (suc place) (n + wants (kind r)) rs) place j e
     (check-bad rs (suc place) (n + wants (kind r)) j)
 
 -- what the answer to checked records tells
 module _ (rs : List Record) (n q room : ℕ) (a : Answer) where
   pub answer-good : a ≡ answerTo (checkFrom 0 0 rs) n q room → a .code ≡ 0
-      → (a ≡ record { code = 0; count = n }) × (allTaken rs ≡ true) × (q + allWant rs ≤ room)
+      → (a ≡ record { code = 0; count = n }) × (allAccepted rs ≡ true) × (q + allWant rs ≤ room)
   unfolding choose answerTo
   answer-good e h = go (checkFrom 0 0 rs) refl e
     where
       roomy : (w : ℕ) → Good w ≡ checkFrom 0 0 rs → (t : Bool) → leb (q + w) room ≡ t
           → a ≡ choose t (record { code = 0; count = n }) (record { code = 16; count = 0 })
-          → (a ≡ record { code = 0; count = n }) × (allTaken rs ≡ true) × (q + allWant rs ≤ room)
+          → (a ≡ record { code = 0; count = n }) × (allAccepted rs ≡ true) × (q + allWant rs ≤ room)
       roomy w c true r e =
           let g = check-good rs 0 0 w c in
           (e, g .0, omega (arith, g .1, leb-true (q + w) room r))
       roomy w c false r e = let z : ⊥ = omega (arith, h, ap (λ (x : Answer). x .code) e) in absurd z
 
       go : (x : Checked) → x ≡ checkFrom 0 0 rs → a ≡ answerTo x n q room
-          → (a ≡ record { code = 0; count = n }) × (allTaken rs ≡ true) × (q + allWant rs ≤ room)
+          → (a ≡ record { code = 0; count = n }) × (allAccepted rs ≡ true) × (q + allWant rs ≤ room)
       go (Good w) c e = roomy w c (leb (q + w) room) refl e
       go (BadAt j) c e = let z : ⊥ = omega (arith, h, ap (λ (x : Answer). x .code) e) in absurd z
 
@@ -203,12 +203,12 @@ good-few n w b e = omega (arith, check-good (recordsIn n b) 0 0 w e .1, all-want
 
 -- a turn of the check, and its ends
 module _ (i n w : ℕ) (b : List ℕ) where
-  pub check-next : (w′ : ℕ) → i < n → taken (kind (part (i * 72) 72 b)) ≡ true → w′ ≡ w + wants (kind (part (i * 72) 72 b))
+  pub check-next : (w′ : ℕ) → i < n → kindAccepted (kind (part (i * 72) 72 b)) ≡ true → w′ ≡ w + wants (kind (part (i * 72) 72 b))
       → checkFrom i w (recordsFrom i n b) ≡ checkFrom (i + 1) w′ (recordsFrom (i + 1) n b)
   unfolding checkFrom choose
   check-next w′ h k e = rw (records-next i n b h, k, e, add-one)
 
-  pub check-stops : i < n → taken (kind (part (i * 72) 72 b)) ≡ false → checkFrom i w (recordsFrom i n b) ≡ BadAt i
+  pub check-stops : i < n → kindAccepted (kind (part (i * 72) 72 b)) ≡ false → checkFrom i w (recordsFrom i n b) ≡ BadAt i
   unfolding checkFrom choose
   check-stops h k = rw (records-next i n b h, k)
 

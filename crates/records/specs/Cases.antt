@@ -6,7 +6,7 @@ use Rattle.rules.specs.Bytes.{choose}
 use Rattle.rules.specs.State as rules
 use Rattle.rules.specs.State.{Record, kind, subclass}
 use Rattle.rules.specs.Outcome.{EINVAL, EBUSY}
-use Rattle.rules.specs.Requests.{taken, wants}
+use Rattle.rules.specs.Requests.{kindAccepted, wants}
 use Rattle.answers.specs.declared.Answer.{Answer}
 use Rattle.records.specs.declared.Kind.{Kind}
 use Rattle.records.specs.declared.Kind.the-variants.{Io, Done, Service, MachineCheck, Other}
@@ -27,7 +27,7 @@ kindOf r = asCase (kind r) (subclass r)
 -- 01, group 2: all records are of types taken and want so many places of the nine queues, or the place of the first that is not
 unfoldable pub checkFrom : ℕ → ℕ → List Record → Checked
 checkFrom place n [] = Good n
-checkFrom place n (r ∷ rs) = choose (taken (kind r)) (checkFrom (suc place) (n + wants (kind r)) rs) (BadAt place)
+checkFrom place n (r ∷ rs) = choose (kindAccepted (kind r)) (checkFrom (suc place) (n + wants (kind r)) rs) (BadAt place)
 
 -- 01, group 2 and 'Codes and the order of checks': the answer to n checked records, by the types, then by the room
 unfoldable pub answerTo : Checked → (n queued room : ℕ) → Answer

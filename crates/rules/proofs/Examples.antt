@@ -45,7 +45,7 @@ pub record Outlook (A : Type 0) : Type 0 where
   pub seen : List Seen
 
 unfoldable pub callOf : Line → Call
-callOf l = record { ask = l .ask; buffer = l .buffer; table = l .table }
+callOf l = record { ask = l .ask; buffer = l .buffer; tableLength = l .table }
 
 unfoldable pub expectedOf : Line → Seen
 expectedOf l = record { code = l .code; count = l .count; buffer = l .written ++ drop (length (l .written)) (l .buffer) }
@@ -323,9 +323,13 @@ furtherExamples =
       ais = true;
       lines =
           lent 63 (setAttr 4 0) [] 14 0
+          ∷ lent 65 (setAttr 4 0) [] 14 0
+          ∷ lent 63 (getAttr 11 0) (7 ∷ 7 ∷ []) 14 0
           ∷ lent 65 (getAttr 77 1) [] 14 0
           ∷ lent 0 writeList (replicate 20 7) 14 0
+          ∷ lent 65 writeList (replicate 20 7) 14 0
           ∷ lent 63 playList (emptyList 1) 14 0
+          ∷ lent 65 playList (emptyList 1) 14 0
           ∷ lent 0 (guestTake 0xff true true) (replicate 72 7) 0 0
           ∷ line writeList (replicate 20 7) 0 20 (emptyList 1)
           ∷ [];

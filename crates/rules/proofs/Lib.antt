@@ -6,6 +6,7 @@ pub mod Reachable
 pub mod Replay
 pub mod Move
 pub mod Shapes
+pub mod Outcomes
 pub mod Unread
 pub mod Computes
 pub mod Examples

@@ -11,7 +11,7 @@ use Rattle.rules.specs.Bytes.{choose, bytes}
 use Rattle.rules.specs.State.{Limits, paperLimits, Adapter, Place, free, holds, Record, recordBytes, State, fresh, listing}
 use Rattle.rules.specs.Outcome.{accept, Answer, result}
 use Rattle.rules.specs.Requests.{nonZero}
-use Rattle.rules.specs.MoveList.{Entry, flag, byRisingId, registerEntry, modifyEntry, enqueueEntry, aismAllEntry, apfEntry, entries, payloads, payloadsAt, total, moveList, writes, countIn, mostRequests}
+use Rattle.rules.specs.MoveList.{ListRequest, oneIf, byRisingId, registerRequest, modifyRequest, enqueueRequest, aismAllRequest, apfRequest, listRequests, payloads, payloadOffset, total, moveList, writes, countIn, mostRequests}
 use Rattle.rules.specs.Machine.{Call, setAttr, writeList, playList, outcome, step, answers, after}
 use Rattle.rules.proofs.Checks.{passes}
 use Rattle.rules.proofs.Computes.{computes}
@@ -22,18 +22,18 @@ use Rattle.rules.proofs.Replay.{Movable, replays}
 
 -- ---- how long a list is
 
-payloads-append : (es fs : List Entry) → length (payloads (es ++ fs)) ≡ length (payloads es) + length (payloads fs)
+payloads-append : (es fs : List ListRequest) → length (payloads (es ++ fs)) ≡ length (payloads es) + length (payloads fs)
 unfolding payloads
 payloads-append [] fs = omega arith
 payloads-append (e ∷ es) fs = simp length-append (omega (arith, payloads-append es fs))
 
 -- entries that fit a slot, so many at most, with so many payload bytes at most
-record Short (count size : ℕ) (es : List Entry) : Type 0 where
+record Short (count size : ℕ) (es : List ListRequest) : Type 0 where
   fits : All Fits es
   few : length es ≤ count
   small : length (payloads es) ≤ size
 
-short-append : (m n a b : ℕ) (es fs : List Entry) → Short m a es → Short n b fs → Short (m + n) (a + b) (es ++ fs)
+short-append : (m n a b : ℕ) (es fs : List ListRequest) → Short m a es → Short n b fs → Short (m + n) (a + b) (es ++ fs)
 short-append m n a b es fs h k =
     record {
       fits = all-append Fits es fs (h .fits) (k .fits);
@@ -41,18 +41,18 @@ short-append m n a b es fs h k =
       small = rw payloads-append (omega (arith, h .small, k .small));
     }
 
-short-wider : (m n a b : ℕ) (es : List Entry) → m ≤ n → a ≤ b → Short m a es → Short n b es
+short-wider : (m n a b : ℕ) (es : List ListRequest) → m ≤ n → a ≤ b → Short m a es → Short n b es
 short-wider m n a b es p q h = record { fits = h .fits; few = omega (arith, h .few); small = omega (arith, h .small) }
 
 short-none : (count size : ℕ) → Short count size []
 unfolding payloads
 short-none count size = record { fits = tt; few = omega arith; small = omega arith }
 
-short-one : (e : Entry) → Fits e → Short 1 (length (e .payload)) (e ∷ [])
+short-one : (e : ListRequest) → Fits e → Short 1 (length (e .payload)) (e ∷ [])
 unfolding payloads
 short-one e h = record { fits = (h, tt); few = omega arith; small = simp length-append (omega arith) }
 
-short-by-id : (size : ℕ) (f : ℕ → Adapter → List Entry) → ((id : ℕ) (x : Adapter) → Short 1 size (f id x))
+short-by-id : (size : ℕ) (f : ℕ → Adapter → List ListRequest) → ((id : ℕ) (x : Adapter) → Short 1 size (f id x))
     → (id : ℕ) (ps : List Place) → Short (length ps) (size * length ps) (byRisingId f id ps)
 unfolding byRisingId
 short-by-id size f h id [] = short-none _ _
@@ -60,12 +60,12 @@ short-by-id size f h id (free ∷ ps) = short-wider _ _ _ _ _ (omega arith) (ome
 short-by-id size f h id (holds x ∷ ps) =
     short-wider _ _ _ _ _ (omega arith) (omega arith) (short-append _ _ _ _ (f id x) (byRisingId f (suc id) ps) (h id x) (short-by-id size f h (suc id) ps))
 
-register-short : (id : ℕ) (x : Adapter) → Short 1 8 (registerEntry id x)
-unfolding registerEntry bytes
+register-short : (id : ℕ) (x : Adapter) → Short 1 8 (registerRequest id x)
+unfolding registerRequest bytes
 register-short id x = short-one _ (record { moves = refl; group = omega arith; attr = omega arith })
 
-modify-short : (id : ℕ) (x : Adapter) → Short 1 16 (modifyEntry id x)
-unfolding modifyEntry choose bytes
+modify-short : (id : ℕ) (x : Adapter) → Short 1 16 (modifyRequest id x)
+unfolding modifyRequest choose bytes
 modify-short id x = go (x .masked)
   where
     go : (m : Bool) → Short 1 16 (choose m (record { group = 7; attr = 0; payload = bytes 4 id ++ (1 ∷ 1 ∷ replicate 10 0) } ∷ []) [])
@@ -73,15 +73,15 @@ modify-short id x = go (x .masked)
     go false = short-none 1 16
 
 enqueue-short : (size : ℕ) (rs : List Record) → All Whole rs → recordBytes * length rs ≤ size → size < 2 ^ 64
-    → Short 1 size (enqueueEntry rs)
-unfolding enqueueEntry
+    → Short 1 size (enqueueRequest rs)
+unfolding enqueueRequest
 enqueue-short size [] w h k = short-none 1 size
 enqueue-short size (r ∷ rs) w h k =
     short-wider _ _ _ _ _ (omega arith) (rw (length-records (r ∷ rs) w) h)
     (short-one _ (record { moves = refl; group = omega arith; attr = omega arith }))
 
-masks-short : (ais : Bool) (simm nimm : ℕ) → Short (flag ais) (2 * flag ais) (aismAllEntry ais simm nimm)
-unfolding aismAllEntry choose
+masks-short : (ais : Bool) (simm nimm : ℕ) → Short (oneIf ais) (2 * oneIf ais) (aismAllRequest ais simm nimm)
+unfolding aismAllRequest choose
 masks-short false simm nimm = short-none 0 0
 masks-short true simm nimm = go (nonZero simm || nonZero nimm)
   where
@@ -89,52 +89,52 @@ masks-short true simm nimm = go (nonZero simm || nonZero nimm)
     go true = short-one _ (record { moves = refl; group = omega arith; attr = omega arith })
     go false = short-none 1 2
 
-flag-short : (on : Bool) → Short 1 0 (apfEntry on)
-unfolding apfEntry
+flag-short : (on : Bool) → Short 1 0 (apfRequest on)
+unfolding apfRequest
 flag-short true = short-one _ (record { moves = refl; group = omega arith; attr = omega arith })
 flag-short false = short-none 1 0
 
 -- the longest list over the limits: REGISTER and MODIFY for each place, ENQUEUE of a full listing, APF_ENABLE, AISM_ALL if capable
 abbrev pub mostWritten : Limits → Bool → ℕ
-mostWritten L ais = 2 * L .places + 2 + flag ais
+mostWritten L ais = 2 * L .places + 2 + oneIf ais
 
 abbrev pub longest : Limits → Bool → ℕ
-longest L ais = payloadsAt (mostWritten L ais) + (8 + 16) * L .places + recordBytes * (L .room + 2) + 2 * flag ais
+longest L ais = payloadOffset (mostWritten L ais) + (8 + 16) * L .places + recordBytes * (L .room + 2) + 2 * oneIf ais
 
 module _ (L : Limits) (fits : Movable L) (s : State) (h : Sound L s) where
-  entries-short : Short (mostWritten L (s .ais)) ((8 + 16) * L .places + recordBytes * (L .room + 2) + 2 * flag (s .ais)) (entries s)
-  unfolding entries
+  entries-short : Short (mostWritten L (s .ais)) ((8 + 16) * L .places + recordBytes * (L .room + 2) + 2 * oneIf (s .ais)) (listRequests s)
+  unfolding listRequests
   entries-short =
       short-wider _ _ _ _ _ (omega (arith, h .table)) (omega (arith, h .table))
-      (short-append _ _ _ _ (byRisingId registerEntry 0 (s .adapters)) _ (short-by-id 8 registerEntry register-short 0 (s .adapters))
-      (short-append _ _ _ _ (byRisingId modifyEntry 0 (s .adapters)) _ (short-by-id 16 modifyEntry modify-short 0 (s .adapters))
-      (short-append _ _ _ _ (enqueueEntry (listing (s .pending))) _
+      (short-append _ _ _ _ (byRisingId registerRequest 0 (s .adapters)) _ (short-by-id 8 registerRequest register-short 0 (s .adapters))
+      (short-append _ _ _ _ (byRisingId modifyRequest 0 (s .adapters)) _ (short-by-id 16 modifyRequest modify-short 0 (s .adapters))
+      (short-append _ _ _ _ (enqueueRequest (listing (s .pending))) _
       (enqueue-short (recordBytes * (L .room + 2)) (listing (s .pending)) (listing-sendable (s .pending) (h .pending) .whole)
       (omega (arith, listing-length (s .pending), h .within)) (omega (arith, fits .little-room)))
-      (short-append _ _ _ _ (aismAllEntry (s .ais) (s .device .simm) (s .device .nimm)) _ (masks-short (s .ais) (s .device .simm) (s .device .nimm))
+      (short-append _ _ _ _ (aismAllRequest (s .ais) (s .device .simm) (s .device .nimm)) _ (masks-short (s .ais) (s .device .simm) (s .device .nimm))
       (flag-short (s .device .apf))))))
 
-  pub requests-bound : length (entries s) ≤ mostWritten L (s .ais)
+  pub requests-bound : length (listRequests s) ≤ mostWritten L (s .ais)
   requests-bound = entries-short .few
 
-  pub total-bound : total (entries s) ≤ longest L (s .ais)
+  pub total-bound : total (listRequests s) ≤ longest L (s .ais)
   total-bound = omega (arith, entries-short .few, entries-short .small)
 
-  few-requests : length (entries s) ≤ mostRequests
+  few-requests : length (listRequests s) ≤ mostRequests
   few-requests = omega (arith, requests-bound, flag-le (s .ais), fits .few-places)
 
-  fits-word : total (entries s) < 2 ^ 32
+  fits-word : total (listRequests s) < 2 ^ 32
   fits-word = omega (arith, total-bound, flag-le (s .ais), fits .few-places, fits .little-room)
 
-  writes-list : (b : List ℕ) → total (entries s) ≤ length b → outcome L s writeList (L .places) b ≡ accept (total (entries s)) s (moveList (s .ais) (entries s))
+  writes-list : (b : List ℕ) → total (listRequests s) ≤ length b → outcome L s writeList (L .places) b ≡ accept (total (listRequests s)) s (moveList (s .ais) (listRequests s))
   unfolding outcome writes
   writes-list b k = passes _ _ _ (eq-eqb (L .places) (L .places) refl) ∙ passes _ _ _ (le-leb _ _ k)
 
-  plays-list : (t : State) → t .ais ≡ s .ais → outcome L t playList (L .places) (moveList (s .ais) (entries s)) ≡ accept (length (entries s)) s []
+  plays-list : (t : State) → t .ais ≡ s .ais → outcome L t playList (L .places) (moveList (s .ais) (listRequests s)) ≡ accept (length (listRequests s)) s []
   unfolding outcome
   plays-list t e =
       passes _ _ _ (eq-eqb (L .places) (L .places) refl)
-      ∙ reads-back L t (s .ais) (entries s) e (entries-short .fits) fits-word few-requests ∙ replays L fits s h
+      ∙ reads-back L t (s .ais) (listRequests s) e (entries-short .fits) fits-word few-requests ∙ replays L fits s h
 
 -- ---- the move
 
@@ -145,18 +145,18 @@ module _ (L : Limits) (ais : Bool) (cs : List Call) (b : List ℕ) (t : State) w
   first = after L (fresh L ais) cs
 
   abbrev pub written : Answer
-  written = step L first (record { ask = writeList; buffer = b; table = L .places })
+  written = step L first (record { ask = writeList; buffer = b; tableLength = L .places })
 
   abbrev pub list : List ℕ
   list = take (written .count) (written .buffer)
 
   abbrev pub played : Answer
-  played = step L t (record { ask = playList; buffer = list; table = L .places })
+  played = step L t (record { ask = playList; buffer = list; tableLength = L .places })
 
   pub record Move : Type 0 where
     -- writing is accepted, its count is the list's length, and the rest of the buffer stays
     pub write-accepted : written .code ≡ 0
-    pub write-count : written .count ≡ total (entries first)
+    pub write-count : written .count ≡ total (listRequests first)
     pub write-length : length list ≡ written .count
     pub write-rest : written .buffer ≡ list ++ drop (written .count) b
     pub write-keeps : written .next ≡ first
@@ -171,19 +171,19 @@ module _ (L : Limits) (ais : Bool) (cs : List Call) (b : List ℕ) (t : State) w
 
 -- For every list of calls, a buffer that is long enough, and any state of the same capability.
 pub move : (L : Limits) → Movable L → (ais : Bool) (cs : List Call) (b : List ℕ) (t : State)
-    → total (entries (after L (fresh L ais) cs)) ≤ length b → t .ais ≡ ais → Move L ais cs b t
+    → total (listRequests (after L (fresh L ais) cs)) ≤ length b → t .ais ≡ ais → Move L ais cs b t
 unfolding step result
 move L fits ais cs b t long same =
     record {
       write-accepted = ap (λ (a : Answer). a .code) w;
       write-count = ap (λ (a : Answer). a .count) w;
-      write-length = ap length is-list ∙ length-moveList (s .ais) (entries s) ∙ sym (ap (λ (a : Answer). a .count) w);
+      write-length = ap length is-list ∙ length-moveList (s .ais) (listRequests s) ∙ sym (ap (λ (a : Answer). a .count) w);
       write-rest =
           ap (λ (a : Answer). a .buffer) w
-          ∙ sym (ap₂ (λ (l : List ℕ) (n : ℕ). l ++ drop n b) is-list (ap (λ (a : Answer). a .count) w ∙ sym (length-moveList (s .ais) (entries s))));
+          ∙ sym (ap₂ (λ (l : List ℕ) (n : ℕ). l ++ drop n b) is-list (ap (λ (a : Answer). a .count) w ∙ sym (length-moveList (s .ais) (listRequests s))));
       write-keeps = ap (λ (a : Answer). a .next) w;
       play-accepted = ap (λ (a : Answer). a .code) p;
-      play-count = ap (λ (a : Answer). a .count) p ∙ sym (ap countIn is-list ∙ count-written (s .ais) (entries s) (fits-word L fits s h));
+      play-count = ap (λ (a : Answer). a .count) p ∙ sym (ap countIn is-list ∙ count-written (s .ais) (listRequests s) (fits-word L fits s h));
       play-few = rw (ap (λ (a : Answer). a .count) p) (few-requests L fits s h);
       play-keeps = ap (λ (a : Answer). a .buffer) p;
       play-state = ap (λ (a : Answer). a .next) p ∙ sym (ap (λ (a : Answer). a .next) w);
@@ -199,15 +199,15 @@ move L fits ais cs b t long same =
     capable : t .ais ≡ s .ais
     capable = same ∙ sym (reachable L ais cs .same-ais ∙ fresh-ais L ais)
 
-    w : written L ais cs b t ≡ result L s b (accept (total (entries s)) s (moveList (s .ais) (entries s)))
+    w : written L ais cs b t ≡ result L s b (accept (total (listRequests s)) s (moveList (s .ais) (listRequests s)))
     w = ap (result L s b) (writes-list L fits s h b long)
 
-    is-list : list L ais cs b t ≡ moveList (s .ais) (entries s)
+    is-list : list L ais cs b t ≡ moveList (s .ais) (listRequests s)
     is-list =
         ap (λ (a : Answer). take (a .count) (a .buffer)) w
-        ∙ take-at (moveList (s .ais) (entries s)) _ (total (entries s)) (length-moveList (s .ais) (entries s))
+        ∙ take-at (moveList (s .ais) (listRequests s)) _ (total (listRequests s)) (length-moveList (s .ais) (listRequests s))
 
-    p : played L ais cs b t ≡ result L t (list L ais cs b t) (accept (length (entries s)) s [])
+    p : played L ais cs b t ≡ result L t (list L ais cs b t) (accept (length (listRequests s)) s [])
     p =
         ap (result L t (list L ais cs b t))
         (ap (outcome L t playList (L .places)) is-list ∙ plays-list L fits s h t capable)
@@ -217,13 +217,13 @@ move L fits ais cs b t long same =
 pub movable-paper : Movable paperLimits
 movable-paper = record { few-places = omega arith; little-room = omega arith }
 
-pub longest-bound : (ais : Bool) (cs : List Call) → total (entries (after paperLimits (fresh paperLimits ais) cs)) ≤ 23278
+pub longest-bound : (ais : Bool) (cs : List Call) → total (listRequests (after paperLimits (fresh paperLimits ais) cs)) ≤ 23278
 longest-bound ais cs =
     let s = after paperLimits (fresh paperLimits ais) cs in
     omega (arith, total-bound paperLimits movable-paper s (reachable paperLimits ais cs .sound), flag-le (s .ais))
 
 fullCall : ℕ → ℕ → List ℕ → Call
-fullCall group attr payload = record { ask = setAttr group attr; buffer = payload; table = paperLimits .places }
+fullCall group attr payload = record { ask = setAttr group attr; buffer = payload; tableLength = paperLimits .places }
 
 forEachId : ℕ → (ℕ → Call) → List Call
 forEachId zero f = []
@@ -239,7 +239,7 @@ fullCalls =
     ∷ fullCall 4 0 []
     ∷ []))
 
-longest-reached : (total (entries (after paperLimits (fresh paperLimits true) fullCalls)) ≡ 23278)
-    × (length (entries (after paperLimits (fresh paperLimits true) fullCalls)) ≡ 131)
+longest-reached : (total (listRequests (after paperLimits (fresh paperLimits true) fullCalls)) ≡ 23278)
+    × (length (listRequests (after paperLimits (fresh paperLimits true) fullCalls)) ≡ 131)
 unfolding fullCall forEachId fullCalls computes
 longest-reached = (refl, refl)

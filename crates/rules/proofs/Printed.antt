@@ -3,11 +3,11 @@ use Prim.Native.Nat.{ℕ}
 use mathlib.Core.Path.{_≡_, refl}
 use mathlib.Core.List.{List, [], _∷_, _++_}
 use lib.ListN.{replicate}
-use Rattle.rules.specs.Listing.{ascii, digit, digits, size, decimal, line, name, ofIo, recordLine, linesFrom, shown, refusal, told, printed}
+use Rattle.rules.specs.Listing.{ascii, digit, digits, digitCount, decimal, line, name, ofIo, recordLine, linesFrom, shown, refusal, told, printed}
 use Rattle.rules.proofs.Examples.{shows, headerOf, slotOf, airqRecord, recordOf, emptyList, afterP9}
 
 unfoldable prints : Unit {0}
-unfolding shows headerOf slotOf ascii digit digits size decimal line name ofIo recordLine linesFrom shown refusal told printed
+unfolding shows headerOf slotOf ascii digit digits digitCount decimal line name ofIo recordLine linesFrom shown refusal told printed
 prints = tt
 
 -- from the 174 bytes of the move list after P9
@@ -29,7 +29,7 @@ printed-four : printed fourKinds ≡ ascii "pending 4\n0 io 7 04000000 b8000abc\
 unfolding prints fourKinds
 printed-four = refl
 
--- fewer than 20 bytes; a list without the capability that sets AISM_ALL; one byte too many
+-- fewer than 20 bytes; a list without the capability that sets AISM_ALL; as many bytes as are read, whose total is wrong; one byte too many
 printed-short : printed (replicate 19 0) ≡ ascii "refused 14\n"
 unfolding prints
 printed-short = refl
@@ -37,6 +37,10 @@ printed-short = refl
 printed-incapable : printed (headerOf 46 1 0 ++ (slotOf 44 11 2 0 ++ (0 ∷ 0 ∷ []))) ≡ ascii "refused 95\n"
 unfolding prints
 printed-incapable = refl
+
+printed-most : printed (replicate 65536 0) ≡ ascii "refused 22\n"
+unfolding prints
+printed-most = refl
 
 printed-long : printed (replicate 65537 0) ≡ ascii "refused 7\n"
 unfolding prints

@@ -14,9 +14,9 @@ use borrow.Author.Tests.{leb-true, ltb-true}
 use Rattle.rules.specs.Bytes.{choose, field, bytes, number}
 use Rattle.rules.specs.State.{Limits, Adapter, Place, free, holds, Record, recordBytes, Pending, Device, State, nothing, fresh, withPending, withDevice, withAdapter, hasBit, withBit, Kind, kindOf, kind, subclass, merged, addIo, firstOr, mergedOr, addAs, add, addAll, queued, single, listing}
 use Rattle.rules.specs.Outcome.{Outcome, refuse, accept, reset, need_else_⨾_, holder_else_⨾_, result}
-use Rattle.rules.specs.Requests.{Request, noRequest, getAllIrqs, enqueue, clearIrqs, apfEnable, apfDisableWait, adapterRegister, adapterModify, clearIoIrq, aism, airqInject, setAismAll, getAismAll, setRequest, getRequest, lists, recordsIn, taken, allTaken, wants, allWant, enqueues, clears, flags, placeOf, registers, adapterIn, withMask, modifies, consTo, without, orIn, withoutFirst, removes, clearsIo, withMasks, setsMode, adapterInterrupt, injected, injects, request}
+use Rattle.rules.specs.Requests.{Request, noRequest, getAllIrqs, enqueue, clearIrqs, apfEnable, apfDisableWait, adapterRegister, adapterModify, clearIoIrq, aism, airqInject, setAismAll, getAismAll, setRequest, getRequest, getsAll, recordsIn, kindAccepted, allAccepted, wants, allWant, enqueues, clears, setsApf, placeOf, registers, adapterIn, withMask, modifies, consTo, without, orIn, withoutFirst, removes, clearsIo, withMasks, setsMode, adapterInterrupt, injected, injects, request}
 use Rattle.rules.specs.Take.{Handed, orElse, handMchk, handService, handDone, keep, firstAllowed, handIo, handed, handsOut, takes}
-use Rattle.rules.specs.MoveList.{Entry, writes, entriesIn, slotsIn, countIn, headerBytes, onward, applies, plays}
+use Rattle.rules.specs.MoveList.{ListRequest, writes, requestsIn, tableEntriesIn, countIn, headerBytes, onward, applies, plays}
 use Rattle.rules.specs.Machine.{Ask, setAttr, getAttr, guestTake, writeList, playList, Call, outcome, step, after}
 use Rattle.rules.proofs.Checks.{left}
 use Rattle.rules.proofs.Decode.{length-moveList}
@@ -173,20 +173,20 @@ whole-records (suc n) b h = (
 -- whole records of the types taken, that want so many places of the nine queues
 pub record Sendable (n : ℕ) (rs : List Record) : Type 0 where
   pub whole : All Whole rs
-  pub good : allTaken rs ≡ true
+  pub good : allAccepted rs ≡ true
   pub wanted : allWant rs ≡ n
 
 sendable-none : Sendable 0 []
-unfolding allTaken allWant
+unfolding allAccepted allWant
 sendable-none = record { whole = tt; good = refl; wanted = refl }
 
-sendable-more : (k : Kind) (n : ℕ) (r : Record) (rs : List Record) → IsKind k r → taken k ≡ true → Sendable n rs → Sendable (wants k + n) (r ∷ rs)
-unfolding allTaken allWant
+sendable-more : (k : Kind) (n : ℕ) (r : Record) (rs : List Record) → IsKind k r → kindAccepted k ≡ true → Sendable n rs → Sendable (wants k + n) (r ∷ rs)
+unfolding allAccepted allWant
 sendable-more k n r rs h ok u =
     record { whole = (h .whole, u .whole); good = rw (h .is-kind, ok) (u .good); wanted = rw (h .is-kind, u .wanted) }
 
 -- records of one kind, before others
-sendable-kind : (k : Kind) (n : ℕ) (q rs : List Record) → taken k ≡ true → All (IsKind k) q → Sendable n rs → Sendable (wants k * length q + n) (q ++ rs)
+sendable-kind : (k : Kind) (n : ℕ) (q rs : List Record) → kindAccepted k ≡ true → All (IsKind k) q → Sendable n rs → Sendable (wants k * length q + n) (q ++ rs)
 sendable-kind k n [] rs ok h u = rw (mul-zero, zero-add) u
 sendable-kind k n (r ∷ q) rs ok h u =
     subst (λ (m : ℕ). Sendable m (r ∷ q ++ rs)) (omega arith)
@@ -206,7 +206,7 @@ all-queues n [] h = tt
 all-queues n (q ∷ qs) h = all-append (IsKind Kind.io) q (flatten qs) (all-io n q (h .0)) (all-queues (suc n) qs (h .1))
 
 pub listing-sendable : (p : Pending) → SoundPending p → Sendable (queued p) (listing p)
-unfolding listing wants taken
+unfolding listing wants kindAccepted
 listing-sendable p h =
     subst (λ (m : ℕ). Sendable m (listing p)) (omega arith)
     (sendable-kind Kind.io _ (flatten (p .io)) _ refl (all-queues 0 (p .io) (h .in-io))
@@ -444,8 +444,8 @@ module _ (L : Limits) (s : State) (h : Sound L s) (b : List ℕ) where
   abbrev K : State → Type 0
   K = Kept L s
 
-  kept-lists : (claimed : ℕ) → claimed ≤ length b → Gives K b (lists s claimed)
-  unfolding lists
+  kept-lists : (claimed : ℕ) → claimed ≤ length b → Gives K b (getsAll s claimed)
+  unfolding getsAll
   kept-lists claimed w =
       gives-need K b _ _ _ (λ e. (
         as-it-was L s h,
@@ -510,7 +510,7 @@ module _ (L : Limits) (s : State) (h : Sound L s) (b : List ℕ) where
       go e false f = h .no-masks e .1
 
   pub kept-request : (q : Request) (attr : ℕ) → Gives K b (request L s q attr b)
-  unfolding request clears flags clearsIo setsMode injects adapterIn
+  unfolding request clears setsApf clearsIo setsMode injects adapterIn
   kept-request noRequest attr = tt
   kept-request getAllIrqs attr = gives-need K b _ _ _ (λ e. gives-need K b _ _ _ (λ f. kept-lists attr (leb-true attr (length b) f)))
   kept-request enqueue attr =
@@ -611,14 +611,14 @@ module _ (L : Limits) (s : State) (h : Sound L s) (b : List ℕ) where
   kept-hands none k w = quietly b (as-it-was L s h)
   kept-hands (some x) k w = (with-pending L s h (x .left) (k .0) (k .1), omega (arith, k .2, w))
 
-  kept-takes : (subclasses : ℕ) (external mcheck : Bool) → Gives K b (takes s subclasses external mcheck b)
+  kept-takes : (subclasses : ℕ) (externalAllowed mchkAllowed : Bool) → Gives K b (takes s subclasses externalAllowed mchkAllowed b)
   unfolding takes handed
-  kept-takes subclasses external mcheck =
+  kept-takes subclasses externalAllowed mchkAllowed =
       gives-need K b _ _ _ (λ e.
-      kept-hands (handed (s .pending) subclasses external mcheck)
-      (or-else _ _ (if-allowed mcheck _ (mchk-handed (s .pending .mchk) (h .pending .in-mchk)))
-      (or-else _ _ (if-allowed external _ (service-handed (s .pending .service) (h .pending .in-service)))
-      (or-else _ _ (if-allowed external _ (done-handed (s .pending .done) (h .pending .in-done) (h .within)))
+      kept-hands (handed (s .pending) subclasses externalAllowed mchkAllowed)
+      (or-else _ _ (if-allowed mchkAllowed _ (mchk-handed (s .pending .mchk) (h .pending .in-mchk)))
+      (or-else _ _ (if-allowed externalAllowed _ (service-handed (s .pending .service) (h .pending .in-service)))
+      (or-else _ _ (if-allowed externalAllowed _ (done-handed (s .pending .done) (h .pending .in-done) (h .within)))
       (io-handed (firstAllowed 0 subclasses (s .pending .io)) (first-allowed-less 0 subclasses (s .pending .io))
       (first-allowed-whole 0 subclasses 0 (s .pending .io) (h .pending .in-io))))))
       (leb-true recordBytes (length b) e))
@@ -635,7 +635,7 @@ kept-onward P Q b c (refuse code) place rest k f = tt
 kept-onward P Q b c (accept count next written) place rest k f = f next (k .0)
 kept-onward P Q b c (reset code at) place rest k f = tt
 
-kept-applies : (L : Limits) (s : State) (b : List ℕ) (place : ℕ) (t : State) (es : List Entry) → Kept L s t → Gives (Kept L s) b (applies L place t es)
+kept-applies : (L : Limits) (s : State) (b : List ℕ) (place : ℕ) (t : State) (es : List ListRequest) → Kept L s t → Gives (Kept L s) b (applies L place t es)
 unfolding applies
 kept-applies L s b place t [] k = quietly b k
 kept-applies L s b place t (e ∷ es) k =
@@ -648,7 +648,7 @@ unfolding plays
 kept-plays L s b =
     gives-need K b _ _ _ (λ e1. gives-need K b _ _ _ (λ e2. gives-need K b _ _ _ (λ e3. gives-need K b _ _ _ (λ e4.
     gives-need K b _ _ _ (λ e5. gives-need K b _ _ _ (λ e6. gives-need K b _ _ _ (λ e7.
-    kept-applies L s b 0 (fresh L (s .ais)) (entriesIn b (slotsIn (countIn b) (drop headerBytes b)))
+    kept-applies L s b 0 (fresh L (s .ais)) (requestsIn b (tableEntriesIn (countIn b) (drop headerBytes b)))
     (record { sound = fresh-sound L (s .ais); same-ais = fresh-ais L (s .ais) }))))))))
   where
     K : State → Type 0
@@ -659,7 +659,7 @@ kept-outcome : (L : Limits) (s : State) → Sound L s → (ask : Ask) (table : �
 unfolding outcome
 kept-outcome L s h (setAttr group attr) table b = gives-need (Kept L s) b _ _ _ (λ e. kept-request L s h b (setRequest group) attr)
 kept-outcome L s h (getAttr group attr) table b = gives-need (Kept L s) b _ _ _ (λ e. kept-request L s h b (getRequest group) attr)
-kept-outcome L s h (guestTake subclasses external mcheck) table b = kept-takes L s h b subclasses external mcheck
+kept-outcome L s h (guestTake subclasses externalAllowed mchkAllowed) table b = kept-takes L s h b subclasses externalAllowed mchkAllowed
 kept-outcome L s h writeList table b = gives-need (Kept L s) b _ _ _ (λ e. kept-writes L s h b)
 kept-outcome L s h playList table b = gives-need (Kept L s) b _ _ _ (λ e. kept-plays L s b)
 
@@ -672,12 +672,12 @@ kept-result L s h b (reset code place) k = (record { sound = fresh-sound L (s .a
 
 pub kept-step : (L : Limits) (s : State) → Sound L s → (c : Call) → Kept L s (step L s c .next)
 unfolding step
-kept-step L s h c = kept-result L s h (c .buffer) _ (kept-outcome L s h (c .ask) (c .table) (c .buffer)) .0
+kept-step L s h c = kept-result L s h (c .buffer) _ (kept-outcome L s h (c .ask) (c .tableLength) (c .buffer)) .0
 
 -- no byte past the lent buffer is written: what a call leaves is as long as what it was lent
 pub lent-length : (L : Limits) (s : State) → Sound L s → (c : Call) → length (step L s c .buffer) ≡ length (c .buffer)
 unfolding step
-lent-length L s h c = kept-result L s h (c .buffer) _ (kept-outcome L s h (c .ask) (c .table) (c .buffer)) .1
+lent-length L s h c = kept-result L s h (c .buffer) _ (kept-outcome L s h (c .ask) (c .tableLength) (c .buffer)) .1
 
 -- and so does every list of calls, from a fresh state too
 pub kept-after : (L : Limits) (s : State) → Sound L s → (cs : List Call) → Kept L s (after L s cs)

@@ -14,8 +14,8 @@ use borrow.Author.Tests.{le-leb, lt-ltb, eq-eqb, ne-eqb, eqb-true}
 use Rattle.rules.specs.Bytes.{choose, bytes}
 use Rattle.rules.specs.State.{Limits, Adapter, Place, free, holds, Record, recordBytes, Pending, Device, State, nothing, fresh, withPending, withDevice, Kind, addIo, addAs, add, addAll, queued, single, listing}
 use Rattle.rules.specs.Outcome.{accept}
-use Rattle.rules.specs.Requests.{enqueue, setRequest, enqueueBytes, nonZero, recordsIn, allWant, enqueues, flags, isFree, registers, adapterIn, withMask, modifies, withMasks, request}
-use Rattle.rules.specs.MoveList.{Entry, flag, byRisingId, registerEntry, modifyEntry, enqueueEntry, aismAllEntry, apfEntry, entries, onward, applies, mostRequests}
+use Rattle.rules.specs.Requests.{enqueue, setRequest, enqueueBytes, nonZero, recordsIn, allWant, enqueues, setsApf, isFree, registers, adapterIn, withMask, modifies, withMasks, request}
+use Rattle.rules.specs.MoveList.{ListRequest, oneIf, byRisingId, registerRequest, modifyRequest, enqueueRequest, aismAllRequest, apfRequest, listRequests, onward, applies, mostRequests}
 use Rattle.rules.proofs.Checks.{passes, found, both, left}
 use Rattle.rules.proofs.Lists.{All, Maybe}
 use Rattle.rules.proofs.Codec.{field-here}
@@ -24,18 +24,18 @@ use Rattle.rules.proofs.Reachable.{Whole, SoundAdapter, SoundPlace, IsK
 -- ---- requests in turn
 
 -- the requests, applied at a place, lead from one state to another, whatever follows them
-abbrev pub Leads : Limits → ℕ → State → List Entry → State → Type 0
-Leads L place s es t = (fs : List Entry) → applies L place s (es ++ fs) ≡ applies L (place + length es) t fs
+abbrev pub Leads : Limits → ℕ → State → List ListRequest → State → Type 0
+Leads L place s es t = (fs : List ListRequest) → applies L place s (es ++ fs) ≡ applies L (place + length es) t fs
 
 leads-none : (L : Limits) (place : ℕ) (s : State) → Leads L place s [] s
 leads-none L place s fs = rw add-zero
 
-leads-one : (L : Limits) (place : ℕ) (s t : State) (e : Entry) (count : ℕ)
+leads-one : (L : Limits) (place : ℕ) (s t : State) (e : ListRequest) (count : ℕ)
     → request L s (setRequest (e .group)) (e .attr) (e .payload) ≡ accept count t [] → Leads L place s (e ∷ []) t
 unfolding applies onward
 leads-one L place s t e count h fs = rw (h, add-one)
 
-leads-then : (L : Limits) (place : ℕ) (s t u : State) (es fs : List Entry) → Leads L place s es t → Leads L (place + length es) t fs u
+leads-then : (L : Limits) (place : ℕ) (s t u : State) (es fs : List ListRequest) → Leads L place s es t → Leads L (place + length es) t fs u
     → Leads L place s (es ++ fs) u
 leads-then L place s t u es fs h k gs =
     ap (applies L place s) (append-assoc es fs gs) ∙ h (fs ++ gs) ∙ k gs
@@ -46,7 +46,7 @@ leads-then L place s t u es fs h k gs =
 abbrev withAdapters : List Place → State → State
 withAdapters ps s = record { ais = s .ais; adapters = ps; pending = s .pending; device = s .device }
 
-module _ (L : Limits) (s : State) (f : ℕ → Adapter → List Entry) (from to : Place → Place) (same : from free ≡ to free)
+module _ (L : Limits) (s : State) (f : ℕ → Adapter → List ListRequest) (from to : Place → Place) (same : from free ≡ to free)
     (turn : (place : ℕ) (pre post : List Place) (x : Adapter) → SoundAdapter x → length pre < L .places
     → Leads L place (withAdapters (pre ++ (from (holds x) ∷ post)) s) (f (length pre) x) (withAdapters (pre ++ (to (holds x) ∷ post)) s))
   where
@@ -76,16 +76,16 @@ unmasked (holds x) = holds (withMask false x)
 abbrev freed : Place → Place
 freed p = free
 
-flag-yes : (m : Bool) → nonZero (flag m) ≡ m
+flag-yes : (m : Bool) → nonZero (oneIf m) ≡ m
 flag-yes true = refl
 flag-yes false = refl
 
-flag-odd : (m : Bool) → eqb (flag m % 2) 1 ≡ m
+flag-odd : (m : Bool) → eqb (oneIf m % 2) 1 ≡ m
 flag-odd true = refl
 flag-odd false = refl
 
 abbrev registerBytes : ℕ → Adapter → List ℕ
-registerBytes id x = bytes 4 id ++ (x .isc ∷ flag (x .maskable) ∷ flag (x .swap) ∷ flag (x .suppressible) ∷ [])
+registerBytes id x = bytes 4 id ++ (x .isc ∷ oneIf (x .maskable) ∷ oneIf (x .swap) ∷ oneIf (x .suppressible) ∷ [])
 
 adapter-back : (id : ℕ) (x : Adapter) → adapterIn (registerBytes id x) ≡ withMask false x
 unfolding adapterIn bytes
@@ -107,12 +107,12 @@ module _ (L : Limits) (s : State) (pre post : List Place) where
       ∙ ap (λ (ps : List Place). accept 0 (withAdapters ps s) []) (set-at pre free post (holds x) (length pre) refl)
 
   register-turn : L .places ≤ 2 ^ 32 → (place : ℕ) (x : Adapter) → SoundAdapter x → length pre < L .places
-      → Leads L place (withAdapters (pre ++ (free ∷ post)) s) (registerEntry (length pre) x) (withAdapters (pre ++ (holds (withMask false x) ∷ post)) s)
-  unfolding registerEntry request bytes
+      → Leads L place (withAdapters (pre ++ (free ∷ post)) s) (registerRequest (length pre) x) (withAdapters (pre ++ (holds (withMask false x) ∷ post)) s)
+  unfolding registerRequest request bytes
   register-turn few place x k w =
       leads-one L place _ _ _ 0
       (passes _ _ _ refl ∙ passes _ _ _ refl
-      ∙ ap (λ (id : ℕ). registers L (withAdapters (pre ++ (free ∷ post)) s) id (adapterIn (registerBytes (length pre) x))) (field-here 4 (length pre) (x .isc ∷ flag (x .maskable) ∷ flag (x .swap) ∷ flag (x .suppressible) ∷ []) (omega arith))
+      ∙ ap (λ (id : ℕ). registers L (withAdapters (pre ++ (free ∷ post)) s) id (adapterIn (registerBytes (length pre) x))) (field-here 4 (length pre) (x .isc ∷ oneIf (x .maskable) ∷ oneIf (x .swap) ∷ oneIf (x .suppressible) ∷ []) (omega arith))
       ∙ ap (registers L (withAdapters (pre ++ (free ∷ post)) s) (length pre)) (adapter-back (length pre) x)
       ∙ registers-at (withMask false x) w (k .subclass-small))
 
@@ -125,8 +125,8 @@ module _ (L : Limits) (s : State) (pre post : List Place) where
       ∙ ap (λ (ps : List Place). accept 0 (withAdapters ps s) []) (set-at pre (holds x) post (holds (withMask true x)) (length pre) refl)
 
   modify-turn : L .places ≤ 2 ^ 32 → (place : ℕ) (x : Adapter) → SoundAdapter x → length pre < L .places
-      → Leads L place (withAdapters (pre ++ (holds (withMask false x) ∷ post)) s) (modifyEntry (length pre) x) (withAdapters (pre ++ (holds x ∷ post)) s)
-  unfolding modifyEntry choose request bytes
+      → Leads L place (withAdapters (pre ++ (holds (withMask false x) ∷ post)) s) (modifyRequest (length pre) x) (withAdapters (pre ++ (holds x ∷ post)) s)
+  unfolding modifyRequest choose request bytes
   modify-turn few place x k w = go (x .masked) refl
     where
       as-masked : (m : Bool) → x .masked ≡ m → withMask m x ≡ x
@@ -230,8 +230,8 @@ enqueue-accepted L s n rs u w k more =
     ∙ passes _ _ _ (le-leb (queued (s .pending) + allWant rs) (L .room) (rw (u .wanted) w))
 
 enqueue-leads : (L : Limits) (place : ℕ) (s : State) (n : ℕ) (rs : List Record) → Sendable n rs → queued (s .pending) + n ≤ L .room
-    → recordBytes * length rs ≤ enqueueBytes → Leads L place s (enqueueEntry rs) (withPending (addAll rs (s .pending)) s)
-unfolding enqueueEntry
+    → recordBytes * length rs ≤ enqueueBytes → Leads L place s (enqueueRequest rs) (withPending (addAll rs (s .pending)) s)
+unfolding enqueueRequest
 enqueue-leads L place s n [] u w k = nothing-added L place s
 enqueue-leads L place s n (r ∷ rs) u w k =
     leads-one L place s _ _ (length (r ∷ rs)) (enqueue-accepted L s n (r ∷ rs) u w k (omega arith))
@@ -245,8 +245,8 @@ neither false b h = (sym h, (cc))
 
 module _ (L : Limits) (place : ℕ) (s : State) where
   masks-leads : (simm nimm : ℕ) → s .device .simm ≡ 0 → s .device .nimm ≡ 0
-      → (s .ais ≡ false → (simm ≡ 0) × (nimm ≡ 0)) → Leads L place s (aismAllEntry (s .ais) simm nimm) (withMasks simm nimm s)
-  unfolding aismAllEntry choose request
+      → (s .ais ≡ false → (simm ≡ 0) × (nimm ≡ 0)) → Leads L place s (aismAllRequest (s .ais) simm nimm) (withMasks simm nimm s)
+  unfolding aismAllRequest choose request
   masks-leads simm nimm z y h = go (s .ais && (nonZero simm || nonZero nimm)) refl
     where
       zeros : (a : Bool) → s .ais ≡ a → (a && (nonZero simm || nonZero nimm)) ≡ false → (simm ≡ 0) × (nimm ≡ 0)
@@ -268,8 +268,8 @@ module _ (L : Limits) (place : ℕ) (s : State) where
       go false e = subst (Leads L place s []) (kept (zeros (s .ais) refl e)) (leads-none L place s)
 
   flag-leads : (on : Bool) → s .device .apf ≡ false
-      → Leads L place s (apfEntry on) (withDevice (record { simm = s .device .simm; nimm = s .device .nimm; apf = on }) s)
-  unfolding apfEntry request flags
+      → Leads L place s (apfRequest on) (withDevice (record { simm = s .device .simm; nimm = s .device .nimm; apf = on }) s)
+  unfolding apfRequest request setsApf
   flag-leads true e = leads-one L place _ _ _ 0 (passes _ _ _ refl)
   flag-leads false e =
       subst (Leads L place s [])
@@ -315,23 +315,23 @@ module _ (L : Limits) (fits : Movable L) (s : State) (h : Sound L s) where
   few = omega (arith, fits .few-places)
 
   registered : (place : ℕ)
-      → Leads L place (stage (map freed (s .adapters)) nothing unset) (byRisingId registerEntry 0 (s .adapters)) (stage (map unmasked (s .adapters)) nothing unset)
+      → Leads L place (stage (map freed (s .adapters)) nothing unset) (byRisingId registerRequest 0 (s .adapters)) (stage (map unmasked (s .adapters)) nothing unset)
   unfolding stage
   registered place =
-      pass L (stage [] nothing unset) registerEntry freed unmasked refl
+      pass L (stage [] nothing unset) registerRequest freed unmasked refl
       (λ place pre post x k w. register-turn L (stage [] nothing unset) pre post few place x k w)
       place [] (s .adapters) (h .adapters) (omega (arith, h .table))
 
   modified : (place : ℕ)
-      → Leads L place (stage (map unmasked (s .adapters)) nothing unset) (byRisingId modifyEntry 0 (s .adapters)) (stage (s .adapters) nothing unset)
+      → Leads L place (stage (map unmasked (s .adapters)) nothing unset) (byRisingId modifyRequest 0 (s .adapters)) (stage (s .adapters) nothing unset)
   unfolding stage
   modified place =
       rw map-same at
-      (pass L (stage [] nothing unset) modifyEntry unmasked (λ p. p) refl
+      (pass L (stage [] nothing unset) modifyRequest unmasked (λ p. p) refl
       (λ place pre post x k w. modify-turn L (stage [] nothing unset) pre post few place x k w)
       place [] (s .adapters) (h .adapters) (omega (arith, h .table)))
 
-  listed : (place : ℕ) → Leads L place (stage (s .adapters) nothing unset) (enqueueEntry (listing (s .pending))) (stage (s .adapters) (s .pending) unset)
+  listed : (place : ℕ) → Leads L place (stage (s .adapters) nothing unset) (enqueueRequest (listing (s .pending))) (stage (s .adapters) (s .pending) unset)
   unfolding stage
   listed place =
       rw (listing-back (s .pending) (h .pending)) at
@@ -340,23 +340,23 @@ module _ (L : Limits) (fits : Movable L) (s : State) (h : Sound L s) where
       (omega (arith, fits .little-room, listing-length (s .pending), h .within)))
 
   -- the five parts of the list, and where each begins
-  abbrev r : List Entry
-  r = byRisingId registerEntry 0 (s .adapters)
+  abbrev r : List ListRequest
+  r = byRisingId registerRequest 0 (s .adapters)
 
-  abbrev m : List Entry
-  m = byRisingId modifyEntry 0 (s .adapters)
+  abbrev m : List ListRequest
+  m = byRisingId modifyRequest 0 (s .adapters)
 
-  abbrev q : List Entry
-  q = enqueueEntry (listing (s .pending))
+  abbrev q : List ListRequest
+  q = enqueueRequest (listing (s .pending))
 
-  abbrev a : List Entry
-  a = aismAllEntry (s .ais) (s .device .simm) (s .device .nimm)
+  abbrev a : List ListRequest
+  a = aismAllRequest (s .ais) (s .device .simm) (s .device .nimm)
 
-  abbrev f : List Entry
-  f = apfEntry (s .device .apf)
+  abbrev f : List ListRequest
+  f = apfRequest (s .device .apf)
 
-  all-lead : Leads L 0 (stage (map freed (s .adapters)) nothing unset) (entries s) s
-  unfolding entries stage unset
+  all-lead : Leads L 0 (stage (map freed (s .adapters)) nothing unset) (listRequests s) s
+  unfolding listRequests stage unset
   all-lead =
       let i : ℕ = 0 + length r in
       let j : ℕ = i + length m in
@@ -369,8 +369,8 @@ module _ (L : Limits) (fits : Movable L) (s : State) (h : Sound L s) where
       (leads-then L k u v s a f (masks-leads L k u (s .device .simm) (s .device .nimm) refl refl (h .no-masks))
       (flag-leads L (k + length a) v (s .device .apf) refl))))
 
-  pub replays : applies L 0 (fresh L (s .ais)) (entries s) ≡ accept (length (entries s)) s []
+  pub replays : applies L 0 (fresh L (s .ais)) (listRequests s) ≡ accept (length (listRequests s)) s []
   unfolding applies
   replays =
-      ap (applies L 0 (fresh L (s .ais))) (sym (append-nil (entries s))) ∙ ap (λ (t : State). applies L 0 t (entries s ++ [])) fresh-is
-      ∙ all-lead [] ∙ ap (λ (n : ℕ). accept n s []) (zero-add (length (entries s)))
+      ap (applies L 0 (fresh L (s .ais))) (sym (append-nil (listRequests s))) ∙ ap (λ (t : State). applies L 0 t (listRequests s ++ [])) fresh-is
+      ∙ all-lead [] ∙ ap (λ (n : ℕ). accept n s []) (zero-add (length (listRequests s)))

@@ -8,9 +8,9 @@ use mathlib.Core.List.{List, [], _∷_}
 use Rattle.rules.specs.Bytes.{choose}
 use Rattle.rules.specs.State.{Limits, Adapter, Place, free, holds, Record, Pending, State}
 use Rattle.rules.specs.Outcome.{Outcome, refuse, accept, reset, need_else_⨾_, holder_else_⨾_}
-use Rattle.rules.specs.Requests.{Request, noRequest, getAllIrqs, enqueue, clearIrqs, apfEnable, apfDisableWait, adapterRegister, adapterModify, clearIoIrq, aism, airqInject, setAismAll, getAismAll, setGroups, getGroups, setRequest, getRequest, lists, enqueues, clears, flags, registers, modifies, removes, clearsIo, setsMode, injects, request}
+use Rattle.rules.specs.Requests.{Request, noRequest, getAllIrqs, enqueue, clearIrqs, apfEnable, apfDisableWait, adapterRegister, adapterModify, clearIoIrq, aism, airqInject, setAismAll, getAismAll, setGroups, getGroups, setRequest, getRequest, getsAll, enqueues, clears, setsApf, registers, modifies, removes, clearsIo, setsMode, injects, request}
 use Rattle.rules.specs.Take.{Handed, handsOut, takes}
-use Rattle.rules.specs.MoveList.{Entry, writes, onward, applies, plays}
+use Rattle.rules.specs.MoveList.{ListRequest, writes, onward, applies, plays}
 use Rattle.rules.specs.Machine.{setAttr, getAttr, guestTake, writeList, playList, outcome}
 use Rattle.rules.proofs.Lists.{all-get}
 
@@ -70,7 +70,7 @@ sets-removed s none = (tt, refl)
 sets-removed s (some qs) = (tt, refl)
 
 sets-one : (L : Limits) (s : State) (q : Request) (attr : ℕ) (b : List ℕ) → IsSet q → Sets (request L s q attr b)
-unfolding request enqueues clears flags registers modifies clearsIo setsMode injects
+unfolding request enqueues clears setsApf registers modifies clearsIo setsMode injects
 sets-one L s noRequest attr b k = tt
 sets-one L s getAllIrqs attr b k = absurd k
 sets-one L s enqueue attr b k = set-need _ _ _ (set-need _ _ _ (set-need _ _ _ (set-need _ _ _ (tt, refl))))
@@ -121,7 +121,7 @@ module _ (L : Limits) (s : State) where
   get-need = needs (λ t. t ≡ s) Any ⊥
 
   gets-one : (q : Request) (attr : ℕ) (b : List ℕ) → IsGet q → Gets s (request L s q attr b)
-  unfolding request lists
+  unfolding request getsAll
   gets-one noRequest attr b k = tt
   gets-one getAllIrqs attr b k = get-need _ _ _ (get-need _ _ _ (get-need _ _ _ (refl, tt)))
   gets-one enqueue attr b k = absurd k
@@ -154,7 +154,7 @@ apply-shape (refuse code) place rest h = tt
 apply-shape (accept count next written) place rest h = h next
 apply-shape (reset code at) place rest h = tt
 
-applies-shape : (L : Limits) (place : ℕ) (s : State) (es : List Entry) → Shape Any None (Unit {0}) (applies L place s es)
+applies-shape : (L : Limits) (place : ℕ) (s : State) (es : List ListRequest) → Shape Any None (Unit {0}) (applies L place s es)
 unfolding applies
 applies-shape L place s [] = (tt, refl)
 applies-shape L place s (e ∷ es) = apply-shape _ place (λ t. applies L (suc place) t es) (λ t. applies-shape L (suc place) t es)

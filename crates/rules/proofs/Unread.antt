@@ -15,7 +15,7 @@ use Rattle.rules.specs.State.{Limits, State, recordBytes, fresh}
 use Rattle.rules.specs.Outcome.{Outcome, refuse, accept, reset, need_else_⨾_, Answer, result}
 use Rattle.rules.specs.Requests.{Request, noRequest, getAllIrqs, enqueue, clearIrqs, apfEnable, apfDisableWait, adapterRegister, adapterModify, clearIoIrq, aism, airqInject, setAismAll, getAismAll, setRequest, getRequest, recordsIn, adapterIn, request}
 use Rattle.rules.specs.Take.{takes}
-use Rattle.rules.specs.MoveList.{entries, headerBytes, slotBytes, payloadsAt, total, writes, countIn, Slot, slotsIn, entriesIn, onward, applies, plays}
+use Rattle.rules.specs.MoveList.{listRequests, headerBytes, tableEntryBytes, payloadOffset, total, writes, countIn, TableEntry, tableEntriesIn, requestsIn, onward, applies, plays}
 use Rattle.rules.specs.Machine.{Ask, setAttr, getAttr, guestTake, writeList, playList, Call, outcome, step}
 
 -- 01, 'Request numbers and effects': whether a request looks at the payload byte at a place. Of MODIFY's 16 bytes the last 10 are unread,
@@ -52,7 +52,7 @@ needs setAismAll attr = 2
 needs getAismAll attr = 2
 
 -- 01, 'Move list': whether a byte at a place of the list lies in the payload of one of the table's requests that looks at it.
-unfoldable pub slotsRead : List Slot → ℕ → Bool
+unfoldable pub slotsRead : List TableEntry → ℕ → Bool
 slotsRead [] i = false
 slotsRead (e ∷ es) i =
     leb (e .at) i && (ltb i (e .at + e .size) && reads (setRequest (e .group)) (e .attr) (i - e .at)) || slotsRead es i
@@ -62,17 +62,17 @@ slotsRead (e ∷ es) i =
 unfoldable pub callReads : Ask → List ℕ → ℕ → Bool
 callReads (setAttr group attr) b i = reads (setRequest group) attr i
 callReads (getAttr group attr) b i = reads (getRequest group) attr i
-callReads (guestTake subclasses external mcheck) b i = false
+callReads (guestTake subclasses externalAllowed mchkAllowed) b i = false
 callReads writeList b i = false
-callReads playList b i = ltb i (payloadsAt (countIn b)) || slotsRead (slotsIn (countIn b) (drop headerBytes b)) i
+callReads playList b i = ltb i (payloadOffset (countIn b)) || slotsRead (tableEntriesIn (countIn b) (drop headerBytes b)) i
 
 -- 01, 'Codes and the order of checks', codes 14 and 12: how many bytes a call must be lent. Of two played lists each must be as long as the
 -- other, since a list's length has to be its total.
 unfoldable pub callNeeds : State → Ask → List ℕ → ℕ
 callNeeds s (setAttr group attr) other = needs (setRequest group) attr
 callNeeds s (getAttr group attr) other = needs (getRequest group) attr
-callNeeds s (guestTake subclasses external mcheck) other = recordBytes
-callNeeds s writeList other = total (entries s)
+callNeeds s (guestTake subclasses externalAllowed mchkAllowed) other = recordBytes
+callNeeds s writeList other = total (listRequests s)
 callNeeds s playList other = length other
 
 -- Buffers that have the same byte wherever one is looked at.
@@ -82,7 +82,7 @@ Agree looked b c = (i : ℕ) → looked i ≡ true → byte i b ≡ byte i c
 -- Calls that ask the same, lent tables of one length and buffers that are long enough and agree on what is read.
 pub record Alike (s : State) (c d : Call) : Type 0 where
   pub ask : c .ask ≡ d .ask
-  pub table : c .table ≡ d .table
+  pub table : c .tableLength ≡ d .tableLength
   pub firstLent : callNeeds s (c .ask) (d .buffer) ≤ length (c .buffer)
   pub secondLent : callNeeds s (c .ask) (c .buffer) ≤ length (d .buffer)
   pub agree : Agree (callReads (c .ask) (c .buffer)) (c .buffer) (d .buffer)
@@ -132,12 +132,12 @@ words-same : {to : ℕ} {b c : List ℕ} → Same 0 to b c → 16 ≤ to
     → (part 0 4 b ≡ part 0 4 c) × (part 4 4 b ≡ part 4 4 c) × (part 8 4 b ≡ part 8 4 c) × (part 12 4 b ≡ part 12 4 c)
 words-same S p = (part-same S 0 4 (omega arith), part-same S 4 4 (omega arith), part-same S 8 4 (omega arith), part-same S 12 4 (omega arith))
 
-slots-same : (n : ℕ) {to : ℕ} {b c : List ℕ} → Same 0 to b c → slotBytes * n ≤ to → slotsIn n b ≡ slotsIn n c
-unfolding slotsIn
+slots-same : (n : ℕ) {to : ℕ} {b c : List ℕ} → Same 0 to b c → tableEntryBytes * n ≤ to → tableEntriesIn n b ≡ tableEntriesIn n c
+unfolding tableEntriesIn
 slots-same zero S p = refl
 slots-same (suc n) S p =
     let words = words-same S (omega arith) in
-    cc (part-same S 16 8 (omega arith), slots-same n (drop-same S slotBytes (slotBytes * n) (omega arith)) (omega arith))
+    cc (part-same S 16 8 (omega arith), slots-same n (drop-same S tableEntryBytes (tableEntryBytes * n) (omega arith)) (omega arith))
 
 -- A check, and what comes after it; the check of the lent length, which both pass or neither does.
 check-same : (t : Bool) (code : ℕ) (x y : Outcome) → (t ≡ true → x ≡ y) → (need t else code ⨾ x) ≡ (need t else code ⨾ y)
@@ -191,7 +191,7 @@ pub request-unread : (L : Limits) (s : State) (q : Request) (attr : ℕ) (b c : 
 request-unread L s q attr b c m n h = request-same L s q attr b c (long-enough m n) h
 
 -- A played list: the payload of a request, the requests in order, the whole.
-payload-same : (x : Slot) (es : List Slot) (b c : List ℕ) → Agree (slotsRead (x ∷ es)) b c
+payload-same : (x : TableEntry) (es : List TableEntry) (b c : List ℕ) → Agree (slotsRead (x ∷ es)) b c
     → Agree (reads (setRequest (x .group)) (x .attr)) (part (x .at) (x .size) b) (part (x .at) (x .size) c)
 unfolding slotsRead
 payload-same x es b c h i r = elim (decLt i (x .size)) [
@@ -202,9 +202,9 @@ payload-same x es b c h i r = elim (decLt i (x .size)) [
   | no p ↦ rw (part-past (x .at) (x .size) b i (omega arith), part-past (x .at) (x .size) c i (omega arith))
 ]
 
-applies-same : (L : Limits) (b c : List ℕ) → length b ≡ length c → (es : List Slot) → Agree (slotsRead es) b c → (place : ℕ) (s : State)
-    → applies L place s (entriesIn b es) ≡ applies L place s (entriesIn c es)
-unfolding applies entriesIn slotsRead
+applies-same : (L : Limits) (b c : List ℕ) → length b ≡ length c → (es : List TableEntry) → Agree (slotsRead es) b c → (place : ℕ) (s : State)
+    → applies L place s (requestsIn b es) ≡ applies L place s (requestsIn c es)
+unfolding applies requestsIn slotsRead
 applies-same L b c e [] h place s = refl
 applies-same L b c e (x ∷ es) h place s =
     ap₂ (λ o rest. onward o place rest)
@@ -214,12 +214,12 @@ applies-same L b c e (x ∷ es) h place s =
 plays-same : (L : Limits) (s : State) (b c : List ℕ) → length b ≡ length c → Agree (callReads playList b) b c → plays L s b ≡ plays L s c
 unfolding plays callReads
 plays-same L s b c e h =
-    let S : Same 0 (payloadsAt (countIn b)) b c = record { reach = rw e; bytes = λ i lo hi. h i (rw (lt-ltb i _ hi)) } in
+    let S : Same 0 (payloadOffset (countIn b)) b c = record { reach = rw e; bytes = λ i lo hi. h i (rw (lt-ltb i _ hi)) } in
     let words = words-same S (omega arith) in
     cc (
       part-same S 16 4 (omega arith),
-      slots-same (countIn b) (drop-same S headerBytes (slotBytes * countIn b) (omega arith)) (omega arith),
-      applies-same L b c e (slotsIn (countIn b) (drop headerBytes b)) (λ i r. h i (rw (r, or-true))) 0 (fresh L (s .ais)),
+      slots-same (countIn b) (drop-same S headerBytes (tableEntryBytes * countIn b) (omega arith)) (omega arith),
+      applies-same L b c e (tableEntriesIn (countIn b) (drop headerBytes b)) (λ i r. h i (rw (r, or-true))) 0 (fresh L (s .ais)),
     )
 
 outcome-same : (L : Limits) (s : State) (ask : Ask) (table : ℕ) (b c : List ℕ) → callNeeds s ask c ≤ length b → callNeeds s ask b ≤ length c
@@ -227,7 +227,7 @@ outcome-same : (L : Limits) (s : State) (ask : Ask) (table : ℕ) (b c : List �
 unfolding outcome callReads callNeeds takes writes
 outcome-same L s (setAttr group attr) table b c m n h = ap (need_else_⨾_ _ _) (request-unread L s (setRequest group) attr b c m n h)
 outcome-same L s (getAttr group attr) table b c m n h = ap (need_else_⨾_ _ _) (request-unread L s (getRequest group) attr b c m n h)
-outcome-same L s (guestTake subclasses external mcheck) table b c m n h = rw (long-enough m n)
+outcome-same L s (guestTake subclasses externalAllowed mchkAllowed) table b c m n h = rw (long-enough m n)
 outcome-same L s writeList table b c m n h = rw (long-enough m n)
 outcome-same L s playList table b c m n h = ap (need_else_⨾_ _ _) (plays-same L s b c (omega arith) h)
 
@@ -241,5 +241,5 @@ result-same L s b c (reset code place) = record { code = refl; count = refl; nex
 pub unread : (L : Limits) (s : State) (c d : Call) → Alike s c d → SameAnswer (c .buffer) (d .buffer) (step L s c) (step L s d)
 unfolding step
 unread L s c d h =
-    rw (← (h .ask), ← (h .table), ← (outcome-same L s (c .ask) (c .table) (c .buffer) (d .buffer) (h .firstLent) (h .secondLent) (h .agree)))
+    rw (← (h .ask), ← (h .table), ← (outcome-same L s (c .ask) (c .tableLength) (c .buffer) (d .buffer) (h .firstLent) (h .secondLent) (h .agree)))
     (result-same L s (c .buffer) (d .buffer) _)

@@ -1,4 +1,4 @@
--- 01, 'Move list'; the codes for it are of 'Codes and the order of checks'.
+-- Paper 01, 'Move list'. Its codes are from 'Codes and the order of checks'.
 use Prim.Native.Nat.{ℕ, zero, suc, _+_, _*_}
 use mathlib.Core.Bool.{Bool, true, false, _&&_, _||_}
 use mathlib.Core.List.{List, [], _∷_, _++_, flatten}
@@ -9,160 +9,174 @@ use Rattle.rules.specs.State.{Limits, Adapter, Place, free, holds, Recor
 use Rattle.rules.specs.Outcome.{EINVAL, EOPNOTSUPP, EFAULT, ENOMEM, E2BIG, Outcome, refuse, accept, reset, need_else_⨾_}
 use Rattle.rules.specs.Requests.{isZero, nonZero, setRequest, request}
 
--- A request of the list, always a set.
-pub record Entry : Type 0 where
+-- A request of a list with its payload. It is always a set.
+pub record ListRequest : Type 0 where
   pub group : ℕ
   pub attr : ℕ
   pub payload : List ℕ
 
-abbrev pub flag : Bool → ℕ
-flag true = 1
-flag false = 0
+-- 1 for true and 0 for false.
+abbrev pub oneIf : Bool → ℕ
+oneIf true = 1
+oneIf false = 0
 
--- Written, in order: REGISTER for each adapter by rising id (bytes 0 or 1); MODIFY type 1 for each masked one by rising id (mask 1, unread
--- bytes 0); ..
-unfoldable pub byRisingId : (ℕ → Adapter → List Entry) → ℕ → List Place → List Entry
+-- What f gives for each adapter, by rising id; the first place of the list has the id given.
+unfoldable pub byRisingId : (ℕ → Adapter → List ListRequest) → ℕ → List Place → List ListRequest
 byRisingId f id [] = []
 byRisingId f id (free ∷ ps) = byRisingId f (suc id) ps
 byRisingId f id (holds x ∷ ps) = f id x ++ byRisingId f (suc id) ps
 
-unfoldable pub registerEntry : ℕ → Adapter → List Entry
-registerEntry id x =
+-- Written first: REGISTER for each adapter by rising id (bytes 0 or 1).
+unfoldable pub registerRequest : ℕ → Adapter → List ListRequest
+registerRequest id x =
     record {
       group = 6;
       attr = 0;
-      payload = bytes 4 id ++ (x .isc ∷ flag (x .maskable) ∷ flag (x .swap) ∷ flag (x .suppressible) ∷ []);
+      payload = bytes 4 id ++ (x .isc ∷ oneIf (x .maskable) ∷ oneIf (x .swap) ∷ oneIf (x .suppressible) ∷ []);
     } ∷ []
 
-unfoldable pub modifyEntry : ℕ → Adapter → List Entry
-modifyEntry id x = choose (x .masked) (record { group = 7; attr = 0; payload = bytes 4 id ++ (1 ∷ 1 ∷ replicate 10 0) } ∷ []) []
+-- Written second: MODIFY type 1 for each masked adapter by rising id (mask 1, unread bytes 0).
+unfoldable pub modifyRequest : ℕ → Adapter → List ListRequest
+modifyRequest id x = choose (x .masked) (record { group = 7; attr = 0; payload = bytes 4 id ++ (1 ∷ 1 ∷ replicate 10 0) } ∷ []) []
 
--- .. one ENQUEUE of the whole listing if any; AISM_ALL set if capable and a mask is not 0; APF_ENABLE if on. Attribute is the length for
--- ENQUEUE, else 0.
-unfoldable pub enqueueEntry : List Record → List Entry
-enqueueEntry [] = []
-enqueueEntry (r ∷ rs) = record { group = 2; attr = recordBytes * length (r ∷ rs); payload = flatten (r ∷ rs) } ∷ []
+-- Written third: one ENQUEUE of the whole listing, if any. Its attribute is the length; the other requests have 0.
+unfoldable pub enqueueRequest : List Record → List ListRequest
+enqueueRequest [] = []
+enqueueRequest (r ∷ rs) = record { group = 2; attr = recordBytes * length (r ∷ rs); payload = flatten (r ∷ rs) } ∷ []
 
-unfoldable pub aismAllEntry : Bool → ℕ → ℕ → List Entry
-aismAllEntry ais simm nimm =
+-- Written fourth: AISM_ALL, if capable and a mask is not 0.
+unfoldable pub aismAllRequest : Bool → ℕ → ℕ → List ListRequest
+aismAllRequest ais simm nimm =
     choose (ais && (nonZero simm || nonZero nimm)) (record { group = 11; attr = 0; payload = simm ∷ nimm ∷ [] } ∷ []) []
 
-unfoldable pub apfEntry : Bool → List Entry
-apfEntry true = record { group = 4; attr = 0; payload = [] } ∷ []
-apfEntry false = []
+-- Written last: APF_ENABLE, if the page-fault flag is on.
+unfoldable pub apfRequest : Bool → List ListRequest
+apfRequest true = record { group = 4; attr = 0; payload = [] } ∷ []
+apfRequest false = []
 
-unfoldable pub entries : State → List Entry
-entries s =
-    byRisingId registerEntry 0 (s .adapters)
-    ++ (byRisingId modifyEntry 0 (s .adapters)
-    ++ (enqueueEntry (listing (s .pending)) ++ (aismAllEntry (s .ais) (s .device .simm) (s .device .nimm) ++ apfEntry (s .device .apf))))
+-- The requests that are written, in order.
+unfoldable pub listRequests : State → List ListRequest
+listRequests s =
+    byRisingId registerRequest 0 (s .adapters)
+    ++ (byRisingId modifyRequest 0 (s .adapters)
+    ++ (enqueueRequest (listing (s .pending)) ++ (aismAllRequest (s .ais) (s .device .simm) (s .device .nimm) ++ apfRequest (s .device .apf))))
 
--- Header of five 4-byte numbers: total length, request count, table offset (20), payload offset (20 + 24 x count), flag. Table entries of 24
--- bytes: payload offset, group, payload length, zero (4 each), attribute (8). Payloads without gaps, the last ending at the total.
+-- The header has five 4-byte numbers: total length, request count, table offset (20), payload offset (20 + 24 x count),
+-- flag (AIS capability 0 or 1). A table entry has 24 bytes: payload offset, group, payload length, zero (4 each),
+-- attribute (8). The payloads follow without gaps in table order, the last ending at the total.
 abbrev pub headerBytes : ℕ
 headerBytes = 20
 
-abbrev pub slotBytes : ℕ
-slotBytes = 24
+abbrev pub tableEntryBytes : ℕ
+tableEntryBytes = 24
 
-unfoldable pub payloads : List Entry → List ℕ
+-- The bytes of all payloads.
+unfoldable pub payloads : List ListRequest → List ℕ
 payloads [] = []
 payloads (e ∷ es) = e .payload ++ payloads es
 
-unfoldable pub table : ℕ → List Entry → List ℕ
-table at [] = []
-table at (e ∷ es) =
-    bytes 4 at ++ (bytes 4 (e .group) ++ (bytes 4 (length (e .payload)) ++ (bytes 4 0 ++ (bytes 8 (e .attr) ++ table (at + length (e .payload)) es))))
+-- The bytes of the table. The first payload is at the offset given.
+unfoldable pub writtenTable : ℕ → List ListRequest → List ℕ
+writtenTable at [] = []
+writtenTable at (e ∷ es) =
+    bytes 4 at ++ (bytes 4 (e .group) ++ (bytes 4 (length (e .payload)) ++ (bytes 4 0 ++ (bytes 8 (e .attr) ++ writtenTable (at + length (e .payload)) es))))
 
-abbrev pub payloadsAt : ℕ → ℕ
-payloadsAt count = headerBytes + slotBytes * count
+-- The payload offset of a list of so many requests.
+abbrev pub payloadOffset : ℕ → ℕ
+payloadOffset count = headerBytes + tableEntryBytes * count
 
-abbrev pub total : List Entry → ℕ
-total es = payloadsAt (length es) + length (payloads es)
+-- The total length of a list of these requests.
+abbrev pub total : List ListRequest → ℕ
+total es = payloadOffset (length es) + length (payloads es)
 
--- the bytes of a list ('move list' is a term of paper 01)
-unfoldable pub moveList : Bool → List Entry → List ℕ
+-- The bytes of a move list: header, table, payloads.
+unfoldable pub moveList : Bool → List ListRequest → List ℕ
 moveList ais es =
-    bytes 4 (total es) ++ (bytes 4 (length es) ++ (bytes 4 headerBytes ++ (bytes 4 (payloadsAt (length es)) ++ (bytes 4 (flag ais)
-    ++ (table (payloadsAt (length es)) es ++ payloads es)))))
+    bytes 4 (total es) ++ (bytes 4 (length es) ++ (bytes 4 headerBytes ++ (bytes 4 (payloadOffset (length es)) ++ (bytes 4 (oneIf ais)
+    ++ (writtenTable (payloadOffset (length es)) es ++ payloads es)))))
 
--- Writing: the list from the buffer's start; its length; bytes after it stay. 12 where the buffer is too short.
+-- Writing: the list is written from the buffer's start; count: its length. Bytes after it stay. 12 where the buffer is
+-- too short, also below 20 bytes.
 unfoldable pub writes : State → List ℕ → Outcome
 writes s b =
-    need leb (total (entries s)) (length b) else ENOMEM ⨾
-    accept (total (entries s)) s (moveList (s .ais) (entries s))
+    need leb (total (listRequests s)) (length b) else ENOMEM ⨾
+    accept (total (listRequests s)) s (moveList (s .ais) (listRequests s))
 
--- A played list: the header's numbers and the table's entries as they stand.
+-- A played list. The header's numbers as they stand: total length, request count, table offset, payload offset, flag.
 abbrev pub totalIn : List ℕ → ℕ
 totalIn b = field 0 4 b
 
 abbrev pub countIn : List ℕ → ℕ
 countIn b = field 4 4 b
 
-abbrev pub tableIn : List ℕ → ℕ
-tableIn b = field 8 4 b
+abbrev pub tableOffsetIn : List ℕ → ℕ
+tableOffsetIn b = field 8 4 b
 
-abbrev pub payloadsIn : List ℕ → ℕ
-payloadsIn b = field 12 4 b
+abbrev pub payloadOffsetIn : List ℕ → ℕ
+payloadOffsetIn b = field 12 4 b
 
-abbrev pub flagIn : List ℕ → ℕ
-flagIn b = field 16 4 b
+abbrev pub aisFlagIn : List ℕ → ℕ
+aisFlagIn b = field 16 4 b
 
--- a table entry: payload offset, group, payload length, zero word, attribute
-pub record Slot : Type 0 where
+-- A table entry as it stands: payload offset, group, payload length, zero word, attribute.
+pub record TableEntry : Type 0 where
   pub at : ℕ
   pub group : ℕ
   pub size : ℕ
   pub zeroWord : ℕ
   pub attr : ℕ
 
-abbrev pub slotIn : List ℕ → Slot
-slotIn b = record { at = field 0 4 b; group = field 4 4 b; size = field 8 4 b; zeroWord = field 12 4 b; attr = field 16 8 b }
+abbrev pub tableEntryIn : List ℕ → TableEntry
+tableEntryIn b = record { at = field 0 4 b; group = field 4 4 b; size = field 8 4 b; zeroWord = field 12 4 b; attr = field 16 8 b }
 
-unfoldable pub slotsIn : ℕ → List ℕ → List Slot
-slotsIn zero b = []
-slotsIn (suc n) b = slotIn b ∷ slotsIn n (drop slotBytes b)
+-- So many table entries.
+unfoldable pub tableEntriesIn : ℕ → List ℕ → List TableEntry
+tableEntriesIn zero b = []
+tableEntriesIn (suc n) b = tableEntryIn b ∷ tableEntriesIn n (drop tableEntryBytes b)
 
--- group 2, 4, 6, 7 or 11 (as a set)
+-- The groups that a list may hold: 2, 4, 6, 7 and 11, each as a set.
 abbrev pub movable : ℕ → Bool
 movable group = eqb group 2 || (eqb group 4 || (eqb group 6 || (eqb group 7 || eqb group 11)))
 
--- entry by entry: place without gap, zero word, group; last end
-unfoldable pub formed : ℕ → ℕ → List Slot → Bool
+-- The form of the table, entry by entry: the payload starts where the one before ended, zero word, group; and the last
+-- payload ends at the end. (A payload that ends past the total is refused by the last end; no offset can wrap, numbers
+-- have no bound.)
+unfoldable pub formed : ℕ → ℕ → List TableEntry → Bool
 formed end at [] = eqb at end
 formed end at (e ∷ es) = eqb (e .at) at && (isZero (e .zeroWord) && (movable (e .group) && formed end (at + e .size) es))
 
--- the requests that well-formed entries say
-unfoldable pub entriesIn : List ℕ → List Slot → List Entry
-entriesIn b [] = []
-entriesIn b (e ∷ es) = record { group = e .group; attr = e .attr; payload = part (e .at) (e .size) b } ∷ entriesIn b es
+-- The requests that well-formed table entries stand for.
+unfoldable pub requestsIn : List ℕ → List TableEntry → List ListRequest
+requestsIn b [] = []
+requestsIn b (e ∷ es) = record { group = e .group; attr = e .attr; payload = part (e .at) (e .size) b } ∷ requestsIn b es
 
--- The first refused request ends it, with its code and its place from 0.
+-- The first refused request ends the list, with its code and its place, counted from 0.
 unfoldable pub onward : Outcome → ℕ → (State → Outcome) → Outcome
 onward (refuse code) place rest = reset code place
 onward (accept count next written) place rest = rest next
--- does not occur: no request comes to a reset
+-- This case does not occur: no request comes to a `reset`.
 onward (reset code at) place rest = reset code place
 
--- The requests are applied one after another, the first of them at a place; the count is the number applied.
-unfoldable pub applies : Limits → ℕ → State → List Entry → Outcome
+-- The requests are applied one after another; the first of them has the place given. Count: the number applied.
+unfoldable pub applies : Limits → ℕ → State → List ListRequest → Outcome
 applies L place s [] = accept place s []
 applies L place s (e ∷ es) = onward (request L s (setRequest (e .group)) (e .attr) (e .payload)) place (λ t. applies L (suc place) t es)
 
--- The most requests of a played list. It is no function of the limits.
+-- The most requests of a played list: 64 REGISTER, 64 MODIFY, and one each of ENQUEUE, AISM_ALL and APF_ENABLE are
+-- 64 + 64 + 3. It is a number of its own and does not follow the limits.
 abbrev pub mostRequests : ℕ
 mostRequests = 131
 
--- Played ('played' is a term of paper 01), checked in order: 20 bytes there (14); total equals lent length (22); flag 0 or 1 (22); count (7);
--- both offsets, the payload offset not above the total (22); entry by entry and last end (22); capability (95). Then the controller is made
--- fresh and the requests are applied.
+-- Playing a list. Checked in order: 20 bytes there (14); total equals lent length (22); flag 0 or 1 (22); count (7);
+-- both offsets, the payload offset not above the total (22); entry by entry and last end (22); capability (95). Then
+-- the controller is made fresh and the requests are applied.
 unfoldable pub plays : Limits → State → List ℕ → Outcome
 plays L s b =
     need leb headerBytes (length b) else EFAULT ⨾
     need eqb (totalIn b) (length b) else EINVAL ⨾
-    need leb (flagIn b) 1 else EINVAL ⨾
+    need leb (aisFlagIn b) 1 else EINVAL ⨾
     need leb (countIn b) mostRequests else E2BIG ⨾
-    need eqb (tableIn b) headerBytes && (eqb (payloadsIn b) (payloadsAt (countIn b)) && leb (payloadsIn b) (length b)) else EINVAL ⨾
-    need formed (length b) (payloadsIn b) (slotsIn (countIn b) (drop headerBytes b)) else EINVAL ⨾
-    need eqb (flagIn b) (flag (s .ais)) else EOPNOTSUPP ⨾
-    applies L 0 (fresh L (s .ais)) (entriesIn b (slotsIn (countIn b) (drop headerBytes b)))
+    need eqb (tableOffsetIn b) headerBytes && (eqb (payloadOffsetIn b) (payloadOffset (countIn b)) && leb (payloadOffsetIn b) (length b)) else EINVAL ⨾
+    need formed (length b) (payloadOffsetIn b) (tableEntriesIn (countIn b) (drop headerBytes b)) else EINVAL ⨾
+    need eqb (aisFlagIn b) (oneIf (s .ais)) else EOPNOTSUPP ⨾
+    applies L 0 (fresh L (s .ais)) (requestsIn b (tableEntriesIn (countIn b) (drop headerBytes b)))

@@ -1,6 +1,6 @@
 -- A loop that counts i from 0 to n, as a walk needs it, and what follows the first part of a sequence. It says nothing of the crate.
 use Rattle.table.proofs.Walk.{ℕ, _<_, _≤_, _^_}
-use Prim.Native.Nat.{_-_}
+use Prim.Native.Nat.{zero, suc, _-_}
 use native.Mathlib.Omega.{arith}
 use mathlib.Core.WellFounded.{WellFounded, InvImage·wf}
 use lib.WfN.{Nat·lt-wfRel}
@@ -30,6 +30,11 @@ after (switch c a) = skip
 after (exit n) = skip
 after return = skip
 after (call f xs d) = skip
+
+-- what follows n parts
+abbrev pub afters : ℕ → Code → Code
+afters zero b = b
+afters (suc n) b = afters n (after b)
 
 -- the first arm of a test
 abbrev pub taken : Code → Code

@@ -28,10 +28,10 @@ Leaves {𝓤 = 𝓤} ν {X} {Z} last others y w =
     ⊛ some (λ (ls : X × Z). ‵ (fsep (last (ls .0)) (others (ls .1))) ⊛ raw (fact 𝓤 (ls .0 ≡ y)))))
 
 -- the last list of n elements at δ, and the last value
-abbrev last-list : (R : RattleType) → GName → ℕ → List (R .Denot) → Fml
+abbrev pub last-list : (R : RattleType) → GName → ℕ → List (R .Denot) → Fml
 last-list R δ n l = fsep (finally R δ l) (feq ℕ (length l) n)
 
-abbrev last-value : (R : RattleType) → GName → R .Denot → Fml
+abbrev pub last-value : (R : RattleType) → GName → R .Denot → Fml
 last-value R δ x = fres δ (R .coded .code x)
 
 -- one parameter, and two, that a callee cannot change leave nothing

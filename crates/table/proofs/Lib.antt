@@ -4,8 +4,15 @@ pub mod Free
 pub mod Slot
 pub mod Rows
 pub mod Gives
+pub mod Called
+pub mod Locals
+pub mod Payload
+pub mod Answered
 pub mod Count
+pub mod Modes
 pub mod Record
 pub mod Tables
+pub mod Maps
+pub mod Requests
 pub mod Images
 pub mod Calls

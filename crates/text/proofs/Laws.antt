@@ -13,7 +13,7 @@ use lib.Seq.{take-all, take-at, drop-at, take-paste, drop-paste, drop-drop, past
 use Rattle.rules.specs.Bytes.{choose, byte, part, field}
 use Rattle.rules.specs.State.{Record, Kind, kind, subclass, interruptionWord, single, listing}
 use Rattle.rules.specs.Requests.{recordsIn}
-use Rattle.rules.specs.Listing.{ascii, digit, digits, size, decimal, hex8, line, name, ofIo, recordLine, linesFrom}
+use Rattle.rules.specs.Listing.{ascii, digit, digits, digitCount, decimal, hex8, line, name, ofIo, recordLine, linesFrom}
 use Rattle.rules.proofs.Lists.{All, all-append}
 use Rattle.words.proofs.Laws.{paste-front}
 use Rattle.slots.specs.Slots.{slot, listed}
@@ -64,13 +64,13 @@ spell-turn b d at base n i v w h k f ew eb =
     )
 
 -- sizes
-pub size-one : (n v : ℕ) → v < 10 → size n v ≡ 1
-unfolding size choose
+pub size-one : (n v : ℕ) → v < 10 → digitCount n v ≡ 1
+unfolding digitCount choose
 size-one zero v h = refl
 size-one (suc n) v h = rw (lt-ltb v 10 h)
 
-size-enough : (n m v : ℕ) → v ≤ n → v ≤ m → size n v ≡ size m v
-unfolding size
+size-enough : (n m v : ℕ) → v ≤ n → v ≤ m → digitCount n v ≡ digitCount m v
+unfolding digitCount
 size-enough zero m v h k = sym (size-one m v (omega arith))
 size-enough (suc n) zero v h k = size-one (suc n) v (omega arith)
 size-enough (suc n) (suc m) v h k = rw (size-enough n m (v / 10) (omega arith) (omega arith))
@@ -80,16 +80,16 @@ unfolding choose
 chosen-most true a k h = omega arith
 chosen-most false a k h = omega arith
 
-pub size-most : (k n v : ℕ) → v < 10 ^ suc k → size n v ≤ suc k
-unfolding size
+pub size-most : (k n v : ℕ) → v < 10 ^ suc k → digitCount n v ≤ suc k
+unfolding digitCount
 size-most k zero v h = omega arith
 size-most zero (suc n) v h = omega (arith, size-one (suc n) v h)
 size-most (suc k) (suc n) v h =
-    chosen-most (ltb v 10) (size n (v / 10)) (suc k) (size-most k n (v / 10) (div-lt-iff-lt-mul (omega arith) .1 (rw (← pow-suc) h)))
+    chosen-most (ltb v 10) (digitCount n (v / 10)) (suc k) (size-most k n (v / 10) (div-lt-iff-lt-mul (omega arith) .1 (rw (← pow-suc) h)))
 
 -- a turn of decimal_size
-pub size-next : (v : ℕ) → 10 ≤ v → size v v ≡ suc (size (v / 10) (v / 10))
-unfolding size choose
+pub size-next : (v : ℕ) → 10 ≤ v → digitCount v v ≡ suc (digitCount (v / 10) (v / 10))
+unfolding digitCount choose
 size-next zero h = absurd (omega arith)
 size-next (suc n) h = rw (le-ltb (suc n) 10 h) (ap suc (size-enough n (suc n / 10) (suc n / 10) (omega arith) (omega arith)))
 

@@ -6,7 +6,7 @@ ghost use lib.ListN.{length};
 ghost use Rattle.rules.specs.Bytes.{part};
 ghost use Rattle.rules.specs.State.{listing};
 ghost use Rattle.rules.specs.Requests.{recordsIn};
-ghost use Rattle.rules.specs.Listing.{ascii, digit, digits, size, decimal, hex8, line, recordLine, linesFrom, shown, refusal};
+ghost use Rattle.rules.specs.Listing.{ascii, digit, digits, digitCount, decimal, hex8, line, recordLine, linesFrom, shown, refusal};
 ghost use Rattle.queues.specs.Queues.{Held};
 ghost use Rattle.records.specs.Memory.{pendingOf};
 ghost use Rattle.text.specs.Wrote.{Wrote};
@@ -60,7 +60,7 @@ fn spell(out: &mut [u8], at: usize, base: u64, n: usize, v: u64) -> usize
 
 // How many decimal digits a number has.
 fn decimal_size(v: u64) -> usize
-    ensures { λ r. ⌜ r ≡ size v v ⌝ }
+    ensures { λ r. ⌜ r ≡ digitCount v v ⌝ }
 {
     let mut n = 1;
     let mut w = v;
@@ -73,8 +73,8 @@ fn decimal_size(v: u64) -> usize
 
 // Writes a number in decimal, and what comes after it.
 fn write_decimal(out: &mut [u8], at: usize, v: u64, then: &[u8]) -> usize
-    requires { ⌜ at + size v v + length (now then) ≤ length (now out) ⌝ }
-    ensures { λ r. ⌜ Wrote (now (out .entry)) (now (out .exit)) at (decimal v ++ now (then .entry)) r × (r ≡ at + size v v + length (now (then .entry))) ⌝ }
+    requires { ⌜ at + digitCount v v + length (now then) ≤ length (now out) ⌝ }
+    ensures { λ r. ⌜ Wrote (now (out .entry)) (now (out .exit)) at (decimal v ++ now (then .entry)) r × (r ≡ at + digitCount v v + length (now (then .entry))) ⌝ }
 {
     let n = decimal_size(v);
     let i = spell(out, at, 10, n, v);
@@ -123,7 +123,7 @@ fn write_other(out: &mut [u8], at: usize, name: &[u8], t: u64) -> usize
 
 // The line of the record at index from of b, which is listed at a place.
 fn write_record(out: &mut [u8], at: usize, place: u64, b: &[u8], from: usize) -> usize
-    requires { ⌜ (size place place ≤ 3) × (from + 72 ≤ length (now b)) × (at + 27 ≤ length (now out)) ⌝ }
+    requires { ⌜ (digitCount place place ≤ 3) × (from + 72 ≤ length (now b)) × (at + 27 ≤ length (now out)) ⌝ }
     ensures { λ r. ⌜ Wrote (now (out .entry)) (now (out .exit)) at (recordLine place (part from 72 (now (b .entry)))) r × (r ≤ at + 27) ⌝ }
 {
     let i = write_decimal(out, at, place, b" ");

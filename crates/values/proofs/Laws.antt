@@ -1,25 +1,25 @@
 -- A reply from the outcome that it tells, and what each request comes to once its checks are known.
-use Prim.Native.Nat.{ℕ, zero, suc, _≤_}
+use Prim.Native.Nat.{ℕ, zero, suc, _≤_, _<_}
 use mathlib.Core.Path.{_≡_, refl, ap, sym, _∙_, subst}
-use mathlib.Core.Bool.{Bool, true, false}
+use mathlib.Core.Bool.{Bool, true, false, true≢false}
 use mathlib.Core.List.{List, [], _∷_}
 use native.Mathlib.Omega.{arith}
 use lib.ListN.{length, getD, set, drop}
 use lib.Seq.{set-getD}
 use lib.Dec.{eqb}
-use borrow.Author.Tests.{eq-eqb, ne-eqb, le-leb}
+use borrow.Author.Tests.{eq-eqb, ne-eqb, eqb-true, eqb-false, le-leb}
 use Rattle.rules.specs.Bytes.{choose, byte, field}
-use Rattle.rules.specs.Requests.{setRequest, noRequest, apfEnable, apfDisableWait, adapterRegister, adapterModify, aism, nonZero, flags, registers, adapterIn, modifies, setsMode, request}
-use Rattle.rules.proofs.Checks.{passes, fails, chosen}
+use Rattle.rules.specs.Requests.{setRequest, noRequest, adapterRegister, adapterModify, aism, nonZero, registers, adapterIn, modifies, withMask, setsMode, request}
+use Rattle.rules.proofs.Checks.{passes, chosen, passed}
 use Rattle.rules.specs.State as rules
 use Rattle.rules.specs.State.{Limits, Pending, State}
 use Rattle.rules.specs.Outcome.{Outcome, refuse, accept, holder_else_⨾_, result}
 use Rattle.adapters.specs.declared.Device.{Device}
 use Rattle.adapters.specs.declared.Place.{Place}
-use Rattle.adapters.specs.Values.{placeOf, deviceOf, Canonical, modeSet}
+use Rattle.adapters.specs.Values.{placeOf, deviceOf, Canonical, maskedAs, modeSet}
 use Rattle.answers.specs.declared.Answer.{Answer}
 use Rattle.values.specs.declared.Reply.{Reply}
-use Rattle.values.specs.States.{payloadId, aboutOf, stateWith, Replied, Change, keeps, masks, enters, Within, changeOf}
+use Rattle.values.specs.States.{payloadId, onPlace, aboutOf, decided, withPlace, modesAfter, stateWith, Replied, Change, keeps, masks, enters, Within, changeOf}
 
 -- the state that the values stand for is the state itself
 pub as-it-was : (s : State) (id : ℕ) (device : Device) (place : Place) → s .device ≡ deviceOf device → getD (s .adapters) id rules.free ≡ placeOf place
@@ -33,7 +33,7 @@ as-it-was s id device place d p =
     }
 
 -- a place that did not change
-within-same : (change : Change) (place : Place) → Within change place place
+pub within-same : (change : Change) (place : Place) → Within change place place
 within-same keeps place = refl
 within-same masks place = refl
 within-same enters place = tt
@@ -103,26 +103,71 @@ pub devised : (s : State) (id : ℕ) (d : rules.Device) (device : Device) (place
     → accept 0 (rules.withDevice d s) [] ≡ accept 0 (stateWith s id (placeOf place) (s .pending) (deviceOf device)) []
 devised s id d device place e p = nothing-done (rules.withDevice d s) id device place e p
 
-module _ (s : State) where
-  pub placed : (id id′ : ℕ) (x : rules.Adapter) (device : Device) (place : Place) → id ≡ id′ → rules.holds x ≡ placeOf place → s .device ≡ deviceOf device
-      → accept 0 (rules.withAdapter id x s) [] ≡ accept 0 (stateWith s id′ (placeOf place) (s .pending) (deviceOf device)) []
-  placed id id′ x device place e p d =
-      λ i. accept 0 (record { ais = s .ais; adapters = set (s .adapters) (e i) (p i); pending = s .pending; device = d i }) []
+-- ---- a code that is not 0, and 0
+pub not-accepted : {A : Type 0} {n : ℕ} → 0 < n → n ≡ 0 → A
+not-accepted h e = let z : ⊥ = omega (arith, h, e) in absurd z
 
--- ---- groups 4 and 5
+module _ (code : ℕ) (next : State) where
+  pub decided-refused : (code ≡ 0 → ⊥) → decided code next ≡ refuse code
+  unfolding decided
+  decided-refused n = passed _ _ _ (ne-eqb code 0 n)
+
+  pub decided-accepted : code ≡ 0 → decided code next ≡ accept 0 next []
+  unfolding decided
+  decided-accepted z = chosen _ _ _ (eq-eqb code 0 z)
+
+-- ---- the groups about a place
+pub on-place-7 : (g : ℕ) → onPlace g ≡ true → (g ≡ 6 → ⊥) → g ≡ 7
+unfolding onPlace
+on-place-7 g o n = eqb-true g 7 (rw (ne-eqb g 6 n) at o)
+
+pub not-on-place : (g : ℕ) → onPlace g ≡ false → (g ≡ 6 → ⊥) × (g ≡ 7 → ⊥)
+unfolding onPlace
+not-on-place g o = (λ e. true≢false (sym (ap onPlace e) ∙ o), λ e. true≢false (sym (ap onPlace e) ∙ o))
+
+on-place-cases : (g : ℕ) → onPlace g ≡ true → (f : ℕ → Type 0) → f 6 → f 7 → f g
+on-place-cases g o f six seven = go (eqb g 6) refl
+  where
+    go : (t : Bool) → eqb g 6 ≡ t → f g
+    go true e = subst f (sym (eqb-true g 6 e)) six
+    go false e = subst f (sym (on-place-7 g o (eqb-false g 6 e))) seven
+
+pub about-place : (g attr : ℕ) (b : List ℕ) → onPlace g ≡ true → aboutOf g attr b ≡ payloadId b
+unfolding aboutOf onPlace choose
+about-place g attr b o = on-place-cases g o (λ (x : ℕ). aboutOf x attr b ≡ payloadId b) refl refl
+
+pub keeps-place : (g : ℕ) → onPlace g ≡ false → changeOf g ≡ keeps
+unfolding changeOf choose
+keeps-place g o = rw (ne-eqb g 6 (not-on-place g o .0), ne-eqb g 7 (not-on-place g o .1))
+
+-- an accepted MODIFY, whether its type is 1 or not
+pub modified : (s : State) (id id′ : ℕ) (t on : Bool) (x : rules.Adapter) (p : rules.Place) → id′ ≡ id → p ≡ rules.holds x → getD (s .adapters) id rules.free ≡ p
+    → _≡_ {A = State} (choose t (rules.withAdapter id (withMask on x) s) s) (withPlace id′ (choose t (maskedAs p on) p) s)
+unfolding choose maskedAs
+modified s id id′ true on x p e h g = λ i. record { ais = s .ais; adapters = set (s .adapters) ((sym e) i) (maskedAs ((sym h) i) on); pending = s .pending; device = s .device }
+modified s id id′ false on x p e h g =
+    λ i. record { ais = s .ais; adapters = (sym (set-getD (s .adapters) id rules.free) ∙ (λ j. set (s .adapters) ((sym e) j) (g j))) i; pending = s .pending; device = s .device }
+
+-- ---- the groups about the device record
+module _ (group : ℕ) (b : List ℕ) (d : rules.Device) where
+  pub after-mode : group ≡ 9 → modesAfter group b d ≡ modeSet d (byte 0 b) (eqb (field 2 2 b) 1)
+  unfolding modesAfter
+  after-mode e = chosen _ _ _ (eq-eqb group 9 e)
+
+  pub after-masks : (group ≡ 9 → ⊥) → group ≡ 11 → modesAfter group b d ≡ record { simm = byte 0 b; nimm = byte 1 b; apf = d .apf }
+  unfolding modesAfter
+  after-masks n e = passed _ _ _ (ne-eqb group 9 n) ∙ chosen _ _ _ (eq-eqb group 11 e)
+
+  pub after-flag : (group ≡ 9 → ⊥) → (group ≡ 11 → ⊥) → modesAfter group b d ≡ record { simm = d .simm; nimm = d .nimm; apf = eqb group 4 }
+  unfolding modesAfter
+  after-flag n m = passed _ _ _ (ne-eqb group 9 n) ∙ passed _ _ _ (ne-eqb group 11 m)
+
+-- the place and the device record that an accepted request about a place leaves
+pub entered : (s : State) (id id′ : ℕ) (p : rules.Place) (device : Device) (place : Place) → id ≡ id′ → p ≡ placeOf place → s .device ≡ deviceOf device
+    → withPlace id p s ≡ stateWith s id′ (placeOf place) (s .pending) (deviceOf device)
+entered s id id′ p device place e h d = λ i. record { ais = s .ais; adapters = set (s .adapters) (e i) (h i); pending = s .pending; device = d i }
+
 module _ (L : Limits) (s : State) (attr : ℕ) (b : List ℕ) where
-  pub flag-refused : (on : Bool) → (attr ≡ 0 → ⊥) → request L s (choose on apfEnable apfDisableWait) attr b ≡ refuse 22
-  unfolding request choose
-  flag-refused true h = fails _ _ _ (ne-eqb attr 0 h)
-  flag-refused false h = fails _ _ _ (ne-eqb attr 0 h)
-
-  pub flag-accepted : (on : Bool) → attr ≡ 0
-      → request L s (choose on apfEnable apfDisableWait) attr b
-      ≡ accept 0 (rules.withDevice (record { simm = s .device .simm; nimm = s .device .nimm; apf = on }) s) []
-  unfolding request choose flags
-  flag-accepted true h = passes _ _ _ (eq-eqb attr 0 h)
-  flag-accepted false h = passes _ _ _ (eq-eqb attr 0 h)
-
   -- ---- groups 6 and 7: the attribute and the lent length have passed
   pub registering : attr ≡ 0 → 8 ≤ length b → request L s adapterRegister attr b ≡ registers L s (field 0 4 b) (adapterIn b)
   unfolding request
@@ -152,18 +197,18 @@ unfolding holder_else_⨾_
 unheld p code f h = rw h
 
 -- a mode of 0 or 1, as the rules set it and as the code does
-pub mode-is : (s : State) (d : Device) (isc mode : ℕ) (single : Bool) → s .device ≡ deviceOf d → mode ≤ 1 → single ≡ eqb mode 1
+pub mode-is : (d : rules.Device) (isc mode : ℕ) → mode ≤ 1
     → _≡_ {A = rules.Device}
     (record {
-      simm = choose (eqb mode 0) (rules.withoutBit isc (s .device .simm)) (rules.withBit isc (s .device .simm));
-      nimm = rules.withoutBit isc (s .device .nimm);
-      apf = s .device .apf;
+      simm = choose (eqb mode 0) (rules.withoutBit isc (d .simm)) (rules.withBit isc (d .simm));
+      nimm = rules.withoutBit isc (d .nimm);
+      apf = d .apf;
     })
-    (modeSet (deviceOf d) isc single)
+    (modeSet d isc (eqb mode 1))
 unfolding modeSet choose
-mode-is s d isc zero single e h k = rw (e, k)
-mode-is s d isc (suc zero) single e h k = rw (e, k)
-mode-is s d isc (suc (suc n)) single e h k = let z : ⊥ = omega arith in absurd z
+mode-is d isc zero h = refl
+mode-is d isc (suc zero) h = refl
+mode-is d isc (suc (suc n)) h = let z : ⊥ = omega arith in absurd z
 
 -- ---- which request a group number is
 pub no-set : (g : ℕ) → (g ≡ 2 → ⊥) → (g ≡ 3 → ⊥) → (g ≡ 4 → ⊥) → (g ≡ 5 → ⊥) → (g ≡ 6 → ⊥) → (g ≡ 7 → ⊥) → (g ≡ 8 → ⊥) → (g ≡ 9 → ⊥) → (g ≡ 10 → ⊥)
@@ -181,13 +226,6 @@ no-set (suc (suc (suc (suc (suc (suc (suc (suc (suc zero))))))))) h2 h3 h4 h5 h6
 no-set (suc (suc (suc (suc (suc (suc (suc (suc (suc (suc zero)))))))))) h2 h3 h4 h5 h6 h7 h8 h9 h10 h11 = absurd (h10 refl)
 no-set (suc (suc (suc (suc (suc (suc (suc (suc (suc (suc (suc zero))))))))))) h2 h3 h4 h5 h6 h7 h8 h9 h10 h11 = absurd (h11 refl)
 no-set (suc (suc (suc (suc (suc (suc (suc (suc (suc (suc (suc (suc n)))))))))))) h2 h3 h4 h5 h6 h7 h8 h9 h10 h11 = refl
-
--- a reply to the request of one group number is one to that of an equal number
-pub as-group : {places room : ℕ} {ais : Bool} {device : Device} {place : Place} {b : List ℕ} {r : Reply} (attr k : ℕ) {g : ℕ} → g ≡ k
-    → Replied places room ais device place (aboutOf k attr b) b (λ L s. request L s (setRequest k) attr b) (changeOf k) r
-    → Replied places room ais device place (aboutOf g attr b) b (λ L s. request L s (setRequest g) attr b) (changeOf g) r
-as-group {places} {room} {ais} {device} {place} {b} {r} attr k e h =
-    subst (λ (x : ℕ). Replied places room ais device place (aboutOf x attr b) b (λ L s. request L s (setRequest x) attr b) (changeOf x) r) (sym e) h
 
 -- ---- the first two bytes written
 pub two-written : (l : List ℕ) (x y : ℕ) → 2 ≤ length l → set (set l 0 x) 1 y ≡ x ∷ y ∷ drop 2 l

@@ -1,14 +1,16 @@
 // Inner crate: the requests that touch no pending record, on a device record and one adapter place by value.
 ghost use mathlib.Core.Path.{_≡_};
-ghost use mathlib.Core.Bool.{Bool};
+ghost use mathlib.Core.Bool.{true, false};
 ghost use mathlib.Core.List.{List};
-ghost use Prim.Native.Nat.{ℕ};
-ghost use Rattle.rules.specs.State.{Limits, State};
-ghost use Rattle.rules.specs.Bytes.{choose};
+ghost use Prim.Native.Nat.{ℕ, _≤_};
+ghost use lib.Dec.{eqb};
+ghost use lib.ListN.{length, getD};
+ghost use Rattle.rules.specs.State.{Limits, State, free, withDevice};
+ghost use Rattle.rules.specs.Bytes.{byte, field};
 ghost use Rattle.rules.specs.Requests.{apfEnable, apfDisableWait, adapterRegister, adapterModify, aism, setAismAll, getAismAll, setRequest, request};
 ghost use Rattle.answers.specs.Answers.{Answers};
-ghost use Rattle.adapters.specs.Values.{deviceOf};
-ghost use Rattle.values.specs.States.{payloadId, aboutOf, keeps, masks, enters, changeOf, Replied};
+ghost use Rattle.adapters.specs.Values.{placeOf, deviceOf, Canonical};
+ghost use Rattle.values.specs.States.{payloadId, onPlace, aboutOf, decided, placeAfter, withPlace, PlaceAsked, modesAfter, ModesAsked, changeOf, Within, Replied};
 use adapters::Device;
 use adapters::Place;
 use answers::Answer;
@@ -43,7 +45,7 @@ pub fn with_answer(answer: Answer, device: Device, place: Place) -> Reply
 }
 
 // The id in a payload, or an id that no table of 64 places has where the payload is too short for one.
-fn payload_id(payload: &[u8]) -> AdapterId
+pub fn payload_id(payload: &[u8]) -> AdapterId
     ensures { λ r. ⌜ r .0 ≡ payloadId (now (payload .entry)) ⌝ }
 {
     if payload.len() < 4 {
@@ -59,137 +61,223 @@ pub fn about(group: u32, attr: u64, payload: &[u8]) -> AdapterId
     if group == AIRQ_INJECT {
         return AdapterId(attr);
     }
-    if group == ADAPTER_REGISTER {
-        return payload_id(payload);
-    }
-    if group == ADAPTER_MODIFY {
+    if on_place(group) {
         return payload_id(payload);
     }
     AdapterId(4294967296)
 }
 
-// Groups 4 and 5: the page-fault flag.
-fn set_flag(device: Device, place: Place, attr: u64, on: bool) -> Reply
-    ensures { λ r. ⌜ ((id places room : ℕ) (ais : Bool) (b : List ℕ) → Replied places room ais device place id b (λ L s. request L s (choose on apfEnable apfDisableWait) attr b) keeps r) ⌝ }
+// Whether a set request is about an adapter's place: REGISTER, MODIFY.
+pub fn on_place(group: u32) -> bool
+    ensures { λ r. ⌜ r ≡ onPlace group ⌝ }
 {
-    let next = adapters::apf_set(device, on);
-    if attr != 0 {
-        return with_answer(answers::refuse(EINVAL), device, place); // the flag stays
+    if group == ADAPTER_REGISTER {
+        return true;
     }
-    with_answer(answers::accept(0), next, place)
+    group == ADAPTER_MODIFY
 }
 
-// Group 6: an adapter is registered at the place of its id.
-fn register(places: u64, device: Device, place: Place, attr: u64, payload: &[u8]) -> Reply
-    ensures { λ r. ⌜ ((room : ℕ) (ais : Bool) → Replied places room ais device place (payloadId (now (payload .entry))) (now (payload .entry)) (λ L s. request L s adapterRegister attr (now (payload .entry))) enters r) ⌝ }
+// Group 6: the code of a REGISTER, 0 if accepted.
+fn register_code(places: u64, place: Place, attr: u64, payload: &[u8]) -> u32
+    ensures code { λ r. ⌜ ((L : Limits) (s : State) → L .places ≡ places → getD (s .adapters) (payloadId (now (payload .entry))) free ≡ placeOf place → request L s adapterRegister attr (now (payload .entry)) ≡ decided r (withPlace (payloadId (now (payload .entry))) (placeAfter 6 (now (payload .entry)) (placeOf place)) s)) ⌝ }
+    ensures asked { λ r. ⌜ (r ≡ 0 → PlaceAsked 6 (now (payload .entry)) place) ⌝ }
 {
     if attr != 0 {
-        return with_answer(answers::refuse(EINVAL), device, place);
+        return EINVAL;
     }
     if payload.len() < 8 {
-        return with_answer(answers::refuse(EFAULT), device, place);
+        return EFAULT;
     }
     if places <= words::read_be(payload, 0, 4) {
-        return with_answer(answers::refuse(EINVAL), device, place);
+        return EINVAL;
     }
     if place.used {
-        return with_answer(answers::refuse(EINVAL), device, place);
+        return EINVAL;
     }
-    let isc = payload[4];
-    if 7 < isc {
-        return with_answer(answers::refuse(EINVAL), device, place);
+    if 7 < payload[4] {
+        return EINVAL;
     }
-    let next = adapters::registered(
-        Subclass(isc),
-        payload[5] != 0,
-        payload[6] != 0,
-        payload[7] % 2 == 1,
-    );
-    with_answer(answers::accept(0), device, next)
+    0
 }
 
-// Group 7: the adapter is masked or unmasked by type 1; types 2 and 3 do nothing.
-fn modify(places: u64, device: Device, place: Place, attr: u64, payload: &[u8]) -> Reply
-    ensures { λ r. ⌜ ((room : ℕ) (ais : Bool) → Replied places room ais device place (payloadId (now (payload .entry))) (now (payload .entry)) (λ L s. request L s adapterModify attr (now (payload .entry))) masks r) ⌝ }
+// Group 7: the code of a MODIFY, 0 if accepted.
+fn modify_code(places: u64, place: Place, attr: u64, payload: &[u8]) -> u32
+    ensures code { λ r. ⌜ ((L : Limits) (s : State) → L .places ≡ places → getD (s .adapters) (payloadId (now (payload .entry))) free ≡ placeOf place → request L s adapterModify attr (now (payload .entry)) ≡ decided r (withPlace (payloadId (now (payload .entry))) (placeAfter 7 (now (payload .entry)) (placeOf place)) s)) ⌝ }
+    ensures asked { λ r. ⌜ (r ≡ 0 → PlaceAsked 7 (now (payload .entry)) place) ⌝ }
 {
     if attr != 0 {
-        return with_answer(answers::refuse(EINVAL), device, place);
+        return EINVAL;
     }
     if payload.len() < 16 {
-        return with_answer(answers::refuse(EFAULT), device, place);
+        return EFAULT;
     }
     if places <= words::read_be(payload, 0, 4) {
-        return with_answer(answers::refuse(EINVAL), device, place);
+        return EINVAL;
     }
     if !place.used {
-        return with_answer(answers::refuse(EINVAL), device, place);
+        return EINVAL;
     }
     let kind = payload[4];
     if kind == 0 {
-        return with_answer(answers::refuse(EINVAL), device, place);
+        return EINVAL;
     }
     if 3 < kind {
-        return with_answer(answers::refuse(EINVAL), device, place);
+        return EINVAL;
     }
-    if kind != 1 {
-        return with_answer(answers::accept(0), device, place);
+    if kind == 1 {
+        if !place.maskable {
+            return EINVAL;
+        }
     }
-    if !place.maskable {
-        return with_answer(answers::refuse(EINVAL), device, place);
-    }
-    with_answer(
-        answers::accept(0),
-        device,
-        adapters::mask_set(place, payload[5] != 0),
-    )
+    0
 }
 
-// Group 9: the mode of one subclass.
-fn set_mode(ais: bool, device: Device, place: Place, attr: u64, payload: &[u8]) -> Reply
-    ensures { λ r. ⌜ ((id : ℕ) (places : ℕ) (room : ℕ) → Replied places room ais device place id (now (payload .entry)) (λ L s. request L s aism attr (now (payload .entry))) keeps r) ⌝ }
+// The code of a request about an adapter's place, 0 if accepted.
+pub fn place_code(places: u64, place: Place, group: u32, attr: u64, payload: &[u8]) -> u32
+    requires { ⌜ onPlace group ≡ true ⌝ }
+    ensures { λ r. ⌜ ((L : Limits) (s : State) → L .places ≡ places → getD (s .adapters) (payloadId (now (payload .entry))) free ≡ placeOf place → request L s (setRequest group) attr (now (payload .entry)) ≡ decided r (withPlace (payloadId (now (payload .entry))) (placeAfter group (now (payload .entry)) (placeOf place)) s)) × (r ≡ 0 → PlaceAsked group (now (payload .entry)) place) ⌝ }
+{
+    if group == ADAPTER_REGISTER {
+        return register_code(places, place, attr, payload);
+    }
+    modify_code(places, place, attr, payload)
+}
+
+// The place after an accepted request about it.
+pub fn place_after(place: Place, group: u32, payload: &[u8]) -> Place
+    requires { ⌜ PlaceAsked group (now payload) place ⌝ }
+    ensures { λ r. ⌜ (placeOf r ≡ placeAfter group (now (payload .entry)) (placeOf place)) × (Canonical place → Canonical r) × (onPlace group ≡ true → Within (changeOf group) place r) ⌝ }
+{
+    if group == ADAPTER_REGISTER {
+        return adapters::registered(
+            Subclass(payload[4]),
+            payload[5] != 0,
+            payload[6] != 0,
+            payload[7] % 2 == 1,
+        );
+    }
+    if payload[4] == 1 {
+        return adapters::mask_set(place, payload[5] != 0);
+    }
+    place
+}
+
+// Group 9: the code of an AISM, 0 if accepted.
+fn mode_code(ais: bool, attr: u64, payload: &[u8]) -> u32
+    ensures code { λ r. ⌜ ((L : Limits) (s : State) → s .ais ≡ ais → request L s aism attr (now (payload .entry)) ≡ decided r (withDevice (modesAfter 9 (now (payload .entry)) (s .device)) s)) ⌝ }
+    ensures asked { λ r. ⌜ (r ≡ 0 → ModesAsked 9 (now (payload .entry))) ⌝ }
 {
     if attr != 0 {
-        return with_answer(answers::refuse(EINVAL), device, place);
+        return EINVAL;
     }
     if !ais {
-        return with_answer(answers::refuse(EOPNOTSUPP), device, place);
+        return EOPNOTSUPP;
     }
     if payload.len() < 4 {
-        return with_answer(answers::refuse(EFAULT), device, place);
+        return EFAULT;
     }
-    let isc = payload[0];
-    if 7 < isc {
-        return with_answer(answers::refuse(EINVAL), device, place);
+    if 7 < payload[0] {
+        return EINVAL;
     }
-    let mode = words::read_be(payload, 2, 2);
-    if 1 < mode {
-        return with_answer(answers::refuse(EINVAL), device, place);
+    if 1 < words::read_be(payload, 2, 2) {
+        return EINVAL;
     }
-    with_answer(
-        answers::accept(0),
-        adapters::mode_set(device, Subclass(isc), mode == 1),
-        place,
-    )
+    0
 }
 
-// Group 11, set: both masks.
-fn set_masks(ais: bool, device: Device, place: Place, attr: u64, payload: &[u8]) -> Reply
-    ensures { λ r. ⌜ ((id : ℕ) (places : ℕ) (room : ℕ) → Replied places room ais device place id (now (payload .entry)) (λ L s. request L s setAismAll attr (now (payload .entry))) keeps r) ⌝ }
+// Group 11, set: the code, 0 if accepted.
+fn masks_code(ais: bool, attr: u64, payload: &[u8]) -> u32
+    ensures code { λ r. ⌜ ((L : Limits) (s : State) → s .ais ≡ ais → request L s setAismAll attr (now (payload .entry)) ≡ decided r (withDevice (modesAfter 11 (now (payload .entry)) (s .device)) s)) ⌝ }
+    ensures asked { λ r. ⌜ (r ≡ 0 → ModesAsked 11 (now (payload .entry))) ⌝ }
 {
     if attr != 0 {
-        return with_answer(answers::refuse(EINVAL), device, place);
+        return EINVAL;
     }
     if !ais {
-        return with_answer(answers::refuse(EOPNOTSUPP), device, place);
+        return EOPNOTSUPP;
     }
     if payload.len() < 2 {
-        return with_answer(answers::refuse(EFAULT), device, place);
+        return EFAULT;
     }
-    with_answer(
-        answers::accept(0),
-        adapters::masks_set(device, payload[0], payload[1]),
-        place,
-    )
+    0
+}
+
+// Groups 4 and 5: the code, 0 if accepted.
+fn flag_code(attr: u64) -> u32
+    ensures { λ r. ⌜ ((L : Limits) (s : State) (b : List ℕ) → (request L s apfEnable attr b ≡ decided r (withDevice (modesAfter 4 b (s .device)) s)) × (request L s apfDisableWait attr b ≡ decided r (withDevice (modesAfter 5 b (s .device)) s))) ⌝ }
+{
+    if attr != 0 {
+        return EINVAL;
+    }
+    0
+}
+
+// The code of a request about the device record, 0 if accepted. A group that is no request is refused here.
+pub fn modes_code(ais: bool, group: u32, attr: u64, payload: &[u8]) -> u32
+    requires { ⌜ (group ≡ 2 → ⊥) × (group ≡ 3 → ⊥) × (group ≡ 8 → ⊥) × (group ≡ 10 → ⊥) × (onPlace group ≡ false) ⌝ }
+    ensures { λ r. ⌜ ((L : Limits) (s : State) → s .ais ≡ ais → request L s (setRequest group) attr (now (payload .entry)) ≡ decided r (withDevice (modesAfter group (now (payload .entry)) (s .device)) s)) × (r ≡ 0 → ModesAsked group (now (payload .entry))) ⌝ }
+{
+    if group == APF_ENABLE {
+        return flag_code(attr);
+    }
+    if group == APF_DISABLE_WAIT {
+        return flag_code(attr);
+    }
+    if group == AISM {
+        return mode_code(ais, attr, payload);
+    }
+    if group == AISM_ALL {
+        return masks_code(ais, attr, payload);
+    }
+    EINVAL
+}
+
+// What an AISM asks for: a subclass, and whether its mode is SINGLE.
+pub struct Mode {
+    pub isc: Subclass,
+    pub single: bool,
+}
+
+pub fn mode_in(payload: &[u8]) -> Mode
+    requires { ⌜ 4 ≤ length (now payload) ⌝ }
+    ensures { λ r. ⌜ (r .isc .0 ≡ byte 0 (now (payload .entry))) × (r .single ≡ eqb (field 2 2 (now (payload .entry))) 1) ⌝ }
+{
+    Mode {
+        isc: Subclass(payload[0]),
+        single: words::read_be(payload, 2, 2) == 1,
+    }
+}
+
+// What an AISM_ALL asks for.
+pub struct Masks {
+    pub simm: u8,
+    pub nimm: u8,
+}
+
+pub fn masks_in(payload: &[u8]) -> Masks
+    requires { ⌜ 2 ≤ length (now payload) ⌝ }
+    ensures { λ r. ⌜ (r .simm ≡ byte 0 (now (payload .entry))) × (r .nimm ≡ byte 1 (now (payload .entry))) ⌝ }
+{
+    Masks {
+        simm: payload[0],
+        nimm: payload[1],
+    }
+}
+
+// The device record after an accepted request about it, by value.
+pub fn modes_after(device: Device, group: u32, payload: &[u8]) -> Device
+    requires { ⌜ ModesAsked group (now payload) ⌝ }
+    ensures { λ r. ⌜ deviceOf r ≡ modesAfter group (now (payload .entry)) (deviceOf device) ⌝ }
+{
+    if group == AISM {
+        let m = mode_in(payload);
+        return adapters::mode_set(device, m.isc, m.single);
+    }
+    if group == AISM_ALL {
+        let m = masks_in(payload);
+        return adapters::masks_set(device, m.simm, m.nimm);
+    }
+    adapters::apf_set(device, group == APF_ENABLE)
 }
 
 // Group 11, get: both masks.
@@ -211,7 +299,7 @@ pub fn get_masks(ais: bool, device: Device, attr: u64, out: &mut [u8]) -> Answer
     answers::accept(0)
 }
 
-// The set requests that touch no pending record.
+// The set requests that touch no pending record, by value.
 pub fn set_values(
     places: u64,
     ais: bool,
@@ -224,23 +312,24 @@ pub fn set_values(
     requires { ⌜ (group ≡ 2 → ⊥) × (group ≡ 3 → ⊥) × (group ≡ 8 → ⊥) × (group ≡ 10 → ⊥) ⌝ }
     ensures { λ r. ⌜ ((room : ℕ) → Replied places room ais device place (aboutOf group attr (now (payload .entry))) (now (payload .entry)) (λ L s. request L s (setRequest group) attr (now (payload .entry))) (changeOf group) r) ⌝ }
 {
-    if group == APF_ENABLE {
-        return set_flag(device, place, attr, true);
+    if on_place(group) {
+        let code = place_code(places, place, group, attr, payload);
+        if code != 0 {
+            return with_answer(answers::refuse(code), device, place);
+        }
+        return with_answer(
+            answers::accept(0),
+            device,
+            place_after(place, group, payload),
+        );
     }
-    if group == APF_DISABLE_WAIT {
-        return set_flag(device, place, attr, false);
+    let code = modes_code(ais, group, attr, payload);
+    if code != 0 {
+        return with_answer(answers::refuse(code), device, place); // the device record stays
     }
-    if group == ADAPTER_REGISTER {
-        return register(places, device, place, attr, payload);
-    }
-    if group == ADAPTER_MODIFY {
-        return modify(places, device, place, attr, payload);
-    }
-    if group == AISM {
-        return set_mode(ais, device, place, attr, payload);
-    }
-    if group == AISM_ALL {
-        return set_masks(ais, device, place, attr, payload);
-    }
-    with_answer(answers::refuse(EINVAL), device, place)
+    with_answer(
+        answers::accept(0),
+        modes_after(device, group, payload),
+        place,
+    )
 }

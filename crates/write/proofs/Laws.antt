@@ -13,7 +13,7 @@ use Rattle.rules.specs.Bytes.{choose, bytes, byte, part}
 use Rattle.rules.specs.State.{Limits, State, Pending, Record, single, listing}
 use Rattle.rules.specs.Outcome.{result}
 use Rattle.rules.specs.Requests.{nonZero}
-use Rattle.rules.specs.MoveList.{Entry, flag, byRisingId, registerEntry, modifyEntry, enqueueEntry, aismAllEntry, apfEntry, entries, payloads, table, total, moveList, writes}
+use Rattle.rules.specs.MoveList.{ListRequest, oneIf, byRisingId, registerRequest, modifyRequest, enqueueRequest, aismAllRequest, apfRequest, listRequests, payloads, writtenTable, total, moveList, writes}
 use Rattle.rules.proofs.Checks.{passes, fails}
 use Rattle.rules.proofs.Lists.{All, all-append}
 use Rattle.rules.proofs.Decode.{length-table}
@@ -41,12 +41,12 @@ pub put-next : (b o o′ : List ℕ) (at n k : ℕ) (x y : List ℕ) → length 
     → o′ ≡ put b at (x ++ y)
 put-next b o o′ at n k x y e h j p q = q ∙ rw (j, p) (put-put b at n x y e h)
 
-module _ (b o o′ : List ℕ) (at : ℕ) (es fs : List Entry) where
+module _ (b o o′ : List ℕ) (at : ℕ) (es fs : List ListRequest) where
   pub table-next : (start k m j t : ℕ) → length es ≡ k → length (payloads es) ≡ m → at + 24 * k ≤ length b → j ≡ at + 24 * k → t ≡ start + m
-      → o ≡ put b at (table start es) → o′ ≡ put o j (table t fs) → o′ ≡ put b at (table start (es ++ fs))
+      → o ≡ put b at (writtenTable start es) → o′ ≡ put o j (writtenTable t fs) → o′ ≡ put b at (writtenTable start (es ++ fs))
   table-next start k m j t ek em h ej et p q =
-      let n : length (table start es) ≡ 24 * k = rw (length-table start es, ek) in
-      put-next b o o′ at (24 * k) j (table start es) (table t fs) n h ej p q ∙ rw (table-append start es fs, em, et)
+      let n : length (writtenTable start es) ≡ 24 * k = rw (length-table start es, ek) in
+      put-next b o o′ at (24 * k) j (writtenTable start es) (writtenTable t fs) n h ej p q ∙ rw (table-append start es fs, em, et)
 
   pub payloads-next : (m j : ℕ) → length (payloads es) ≡ m → at + m ≤ length b → j ≡ at + m → o ≡ put b at (payloads es) → o′ ≡ put o j (payloads fs)
       → o′ ≡ put b at (payloads (es ++ fs))
@@ -54,58 +54,58 @@ module _ (b o o′ : List ℕ) (at : ℕ) (es fs : List Entry) where
 
 -- ---- ENQUEUE, AISM_ALL, APF_ENABLE
 module _ (rs : List Record) (n : ℕ) (w : Whole rs n) where
-  pub enqueue-table : (at : ℕ) → table at (enqueueEntry rs) ≡ choose (ltb 0 n) (five 8 at 2 (72 * n) 0 (72 * n)) []
-  unfolding enqueueEntry table choose
+  pub enqueue-table : (at : ℕ) → writtenTable at (enqueueRequest rs) ≡ choose (ltb 0 n) (five 8 at 2 (72 * n) 0 (72 * n)) []
+  unfolding enqueueRequest writtenTable choose
   enqueue-table at = go rs (w .count) (w .size)
     where
       go : (rs : List Record) → length rs ≡ n → length (flatten rs) ≡ 72 * n
-          → table at (enqueueEntry rs) ≡ choose (ltb 0 n) (five 8 at 2 (72 * n) 0 (72 * n)) []
+          → writtenTable at (enqueueRequest rs) ≡ choose (ltb 0 n) (five 8 at 2 (72 * n) 0 (72 * n)) []
       go [] c z = rw (← c)
       go (r ∷ rs) c z = rw (lt-ltb 0 n (omega arith), c, z, append-nil)
 
-  pub enqueue-count : length (enqueueEntry rs) ≡ flag (ltb 0 n)
-  unfolding enqueueEntry
+  pub enqueue-count : length (enqueueRequest rs) ≡ oneIf (ltb 0 n)
+  unfolding enqueueRequest
   enqueue-count = go rs (w .count)
     where
-      go : (rs : List Record) → length rs ≡ n → length (enqueueEntry rs) ≡ flag (ltb 0 n)
+      go : (rs : List Record) → length rs ≡ n → length (enqueueRequest rs) ≡ oneIf (ltb 0 n)
       go [] c = rw (← c)
       go (r ∷ rs) c = rw (lt-ltb 0 n (omega arith))
 
-  pub enqueue-payloads : payloads (enqueueEntry rs) ≡ flatten rs
-  unfolding enqueueEntry payloads flatten
+  pub enqueue-payloads : payloads (enqueueRequest rs) ≡ flatten rs
+  unfolding enqueueRequest payloads flatten
   enqueue-payloads = go rs
     where
-      go : (rs : List Record) → payloads (enqueueEntry rs) ≡ flatten rs
+      go : (rs : List Record) → payloads (enqueueRequest rs) ≡ flatten rs
       go [] = refl
       go (r ∷ rs) = append-nil (flatten (r ∷ rs))
 
-  pub enqueue-size : length (payloads (enqueueEntry rs)) ≡ 72 * n
+  pub enqueue-size : length (payloads (enqueueRequest rs)) ≡ 72 * n
   enqueue-size = rw enqueue-payloads (w .size)
 
-pub mask-table : (masks : Bool) (simm nimm at : ℕ) → table at (maskEntry masks simm nimm) ≡ choose masks (five 8 at 11 2 0 0) []
+pub mask-table : (masks : Bool) (simm nimm at : ℕ) → writtenTable at (maskEntry masks simm nimm) ≡ choose masks (five 8 at 11 2 0 0) []
 mask-table masks simm nimm at = maybe-table (record { group = 11; attr = 0; payload = simm ∷ nimm ∷ [] }) masks at
 
 pub mask-payloads : (masks : Bool) (simm nimm : ℕ) → payloads (maskEntry masks simm nimm) ≡ choose masks (simm ∷ nimm ∷ []) []
 mask-payloads masks simm nimm = maybe-payloads (record { group = 11; attr = 0; payload = simm ∷ nimm ∷ [] }) masks
 
-pub mask-count : (masks : Bool) (simm nimm : ℕ) → length (maskEntry masks simm nimm) ≡ flag masks
+pub mask-count : (masks : Bool) (simm nimm : ℕ) → length (maskEntry masks simm nimm) ≡ oneIf masks
 mask-count masks simm nimm = maybe-length (record { group = 11; attr = 0; payload = simm ∷ nimm ∷ [] }) masks
 
-pub mask-size : (masks : Bool) (simm nimm : ℕ) → length (payloads (maskEntry masks simm nimm)) ≡ 2 * flag masks
+pub mask-size : (masks : Bool) (simm nimm : ℕ) → length (payloads (maskEntry masks simm nimm)) ≡ 2 * oneIf masks
 mask-size masks simm nimm = maybe-size (record { group = 11; attr = 0; payload = simm ∷ nimm ∷ [] }) masks
 
-pub apf-table : (apf : Bool) (at : ℕ) → table at (apfEntry apf) ≡ choose apf (five 8 at 4 0 0 0) []
-unfolding apfEntry choose table
+pub apf-table : (apf : Bool) (at : ℕ) → writtenTable at (apfRequest apf) ≡ choose apf (five 8 at 4 0 0 0) []
+unfolding apfRequest choose writtenTable
 apf-table true at = rw append-nil
 apf-table false at = refl
 
-apf-count : (apf : Bool) → length (apfEntry apf) ≡ flag apf
-unfolding apfEntry
+apf-count : (apf : Bool) → length (apfRequest apf) ≡ oneIf apf
+unfolding apfRequest
 apf-count true = refl
 apf-count false = refl
 
-pub apf-payloads : (apf : Bool) → payloads (apfEntry apf) ≡ []
-unfolding apfEntry payloads
+pub apf-payloads : (apf : Bool) → payloads (apfRequest apf) ≡ []
+unfolding apfRequest payloads
 apf-payloads true = refl
 apf-payloads false = refl
 
@@ -132,7 +132,7 @@ module _ (image : List ℕ) (p : Parts) (k : Counted image p) where
         simp length-append
         (omega (arith, enqueue-count rs (p .records) w, mask-count (p .masks) simm nimm, apf-count (p .apf)))
 
-    others-size : length (payloads (otherEntries rs (p .masks) simm nimm (p .apf))) ≡ 72 * p .records + 2 * flag (p .masks)
+    others-size : length (payloads (otherEntries rs (p .masks) simm nimm (p .apf))) ≡ 72 * p .records + 2 * oneIf (p .masks)
     unfolding otherEntries
     others-size =
         simp (payloads-append, length-append)
@@ -182,63 +182,63 @@ two-bytes a b h k =
 -- ---- the whole list
 pub entries-are : (s : State) (ais : Bool) (image : List ℕ) (p : Pending) (d : Device) (masks : Bool) → s .ais ≡ ais → s .adapters ≡ placesOf image
     → s .pending ≡ p → s .device ≡ deviceOf d → masks ≡ (ais && (nonZero (d .simm) || nonZero (d .nimm)))
-    → entries s ≡ entriesFrom image (listing p) masks (d .simm) (d .nimm) (d .apf)
-unfolding entries adapterEntries otherEntries aismAllEntry
+    → listRequests s ≡ entriesFrom image (listing p) masks (d .simm) (d .nimm) (d .apf)
+unfolding listRequests adapterEntries otherEntries aismAllRequest
 entries-are s ais image p d masks e1 e2 e3 e4 em =
-    (λ i. byRisingId registerEntry 0 (e2 i)
-    ++ (byRisingId modifyEntry 0 (e2 i)
-    ++ (enqueueEntry (listing (e3 i)) ++ (aismAllEntry (e1 i) (e4 i .simm) (e4 i .nimm) ++ apfEntry (e4 i .apf)))))
+    (λ i. byRisingId registerRequest 0 (e2 i)
+    ++ (byRisingId modifyRequest 0 (e2 i)
+    ++ (enqueueRequest (listing (e3 i)) ++ (aismAllRequest (e1 i) (e4 i .simm) (e4 i .nimm) ++ apfRequest (e4 i .apf)))))
     ∙ rw em (sym (append-assoc (each false image) (each true image) _))
 
 at-start : (b x : List ℕ) → put b 0 x ≡ x ++ drop (length x) b
 unfolding put
 at-start b x = rw (zero-add (length x))
 
-module _ (ais : Bool) (es : List Entry) (o₀ o₁ o₂ o₃ : List ℕ) (n t : ℕ) (en : length es ≡ n) (et : t ≡ total es) (h : t ≤ length o₀) where
-  pub list-put : o₁ ≡ put o₀ 0 (five 4 t n 20 (20 + 24 * n) (flag ais)) → o₂ ≡ put o₁ 20 (table (20 + 24 * n) es) → o₃ ≡ put o₂ (20 + 24 * n) (payloads es)
+module _ (ais : Bool) (es : List ListRequest) (o₀ o₁ o₂ o₃ : List ℕ) (n t : ℕ) (en : length es ≡ n) (et : t ≡ total es) (h : t ≤ length o₀) where
+  pub list-put : o₁ ≡ put o₀ 0 (five 4 t n 20 (20 + 24 * n) (oneIf ais)) → o₂ ≡ put o₁ 20 (writtenTable (20 + 24 * n) es) → o₃ ≡ put o₂ (20 + 24 * n) (payloads es)
       → o₃ ≡ moveList ais es ++ drop (length (moveList ais es)) o₀
   unfolding moveList
   list-put p q r =
-      let f₁ = put-next o₀ o₁ o₂ 0 20 20 _ _ (length-five 4 t n 20 (20 + 24 * n) (flag ais)) (omega (arith, en)) refl p q in
-      let k : length (five 4 t n 20 (20 + 24 * n) (flag ais) ++ table (20 + 24 * n) es) ≡ 20 + 24 * n =
-      rw (length-append, length-five 4 t n 20 (20 + 24 * n) (flag ais), length-table (20 + 24 * n) es, en) in
+      let f₁ = put-next o₀ o₁ o₂ 0 20 20 _ _ (length-five 4 t n 20 (20 + 24 * n) (oneIf ais)) (omega (arith, en)) refl p q in
+      let k : length (five 4 t n 20 (20 + 24 * n) (oneIf ais) ++ writtenTable (20 + 24 * n) es) ≡ 20 + 24 * n =
+      rw (length-append, length-five 4 t n 20 (20 + 24 * n) (oneIf ais), length-table (20 + 24 * n) es, en) in
       let f₂ = put-next o₀ o₂ o₃ 0 (20 + 24 * n) (20 + 24 * n) _ _ k (omega (arith, en)) (omega arith) f₁ r in
-      let x : five 4 t n 20 (20 + 24 * n) (flag ais) ++ table (20 + 24 * n) es ++ payloads es ≡ moveList ais es = rw (et, ← en) (simp append-assoc) in
+      let x : five 4 t n 20 (20 + 24 * n) (oneIf ais) ++ writtenTable (20 + 24 * n) es ++ payloads es ≡ moveList ais es = rw (et, ← en) (simp append-assoc) in
       f₂ ∙ rw x (at-start o₀ (moveList ais es))
 
 -- the answer where the list does not fit, and where it does
-module _ (L : Limits) (s : State) (b : List ℕ) (a : Answer) (t : ℕ) (es : List Entry) (e : es ≡ entries s) (et : t ≡ total es) where
+module _ (L : Limits) (s : State) (b : List ℕ) (a : Answer) (t : ℕ) (es : List ListRequest) (e : es ≡ listRequests s) (et : t ≡ total es) where
   pub too-short : length b < t → a ≡ record { code = 12; count = 0 } → Answers L s b (writes s b) a s b
   unfolding writes result
-  too-short h f = ap (result L s b) (fails _ _ _ (lt-leb (total (entries s)) (length b) (rw (← e, ← et) h))) ∙ rw f
+  too-short h f = ap (result L s b) (fails _ _ _ (lt-leb (total (listRequests s)) (length b) (rw (← e, ← et) h))) ∙ rw f
 
   pub written : (out : List ℕ) (ais : Bool) → s .ais ≡ ais → t ≤ length b → a ≡ record { code = 0; count = t }
       → out ≡ moveList ais es ++ drop (length (moveList ais es)) b → Answers L s b (writes s b) a s out
   unfolding writes result
   written out ais ea h f g =
-      ap (result L s b) (passes _ _ _ (le-leb (total (entries s)) (length b) (rw (← e, ← et) h)))
+      ap (result L s b) (passes _ _ _ (le-leb (total (listRequests s)) (length b) (rw (← e, ← et) h)))
       ∙ rw (f, ← e, ea) (rw (← et, g))
 
 -- ---- what the calls put
 module _ (p : Parts) (rs : List Record) (simm nimm : ℕ) (w : Whole rs (p .records)) where
-  pub others-put : (at pay q m : ℕ) (o₀ o₁ o₂ o₃ : List ℕ) → q ≡ flag (ltb 0 (p .records)) → m ≡ flag (p .masks) → at + 24 * otherCount p ≤ length o₀
+  pub others-put : (at pay q m : ℕ) (o₀ o₁ o₂ o₃ : List ℕ) → q ≡ oneIf (ltb 0 (p .records)) → m ≡ oneIf (p .masks) → at + 24 * otherCount p ≤ length o₀
       → o₁ ≡ put o₀ at (choose (ltb 0 (p .records)) (five 8 pay 2 (72 * p .records) 0 (72 * p .records)) [])
       → o₂ ≡ put o₁ (at + 24 * q) (choose (p .masks) (five 8 (pay + 72 * p .records) 11 2 0 0) [])
       → o₃ ≡ put o₂ (at + 24 * q + 24 * m) (choose (p .apf) (five 8 (pay + 72 * p .records + 2 * m) 4 0 0 0) [])
-      → o₃ ≡ put o₀ at (table pay (otherEntries rs (p .masks) simm nimm (p .apf)))
+      → o₃ ≡ put o₀ at (writtenTable pay (otherEntries rs (p .masks) simm nimm (p .apf)))
   unfolding otherEntries
   others-put at pay q m o₀ o₁ o₂ o₃ eq em h f g k =
-      let E = enqueueEntry rs in
+      let E = enqueueRequest rs in
       let M = maskEntry (p .masks) simm nimm in
       let c = enqueue-count rs (p .records) w in
       let z = enqueue-size rs (p .records) w in
       let g₂ = table-next o₀ o₁ o₂ at E M pay _ _ (at + 24 * q) (pay + 72 * p .records) c z (omega arith) (omega arith) refl
       (rw (enqueue-table rs (p .records) w pay) f) (rw (mask-table (p .masks) simm nimm (pay + 72 * p .records)) g) in
-      let d : length (E ++ M) ≡ flag (ltb 0 (p .records)) + flag (p .masks) = rw (length-append, c, mask-count (p .masks) simm nimm) in
-      let y : length (payloads (E ++ M)) ≡ 72 * p .records + 2 * flag (p .masks) = rw (payloads-append E M, length-append, z, mask-size (p .masks) simm nimm) in
-      table-next o₀ o₂ o₃ at (E ++ M) (apfEntry (p .apf)) pay _ _ (at + 24 * q + 24 * m) (pay + 72 * p .records + 2 * m) d y (omega arith) (omega arith) (omega arith) g₂
+      let d : length (E ++ M) ≡ oneIf (ltb 0 (p .records)) + oneIf (p .masks) = rw (length-append, c, mask-count (p .masks) simm nimm) in
+      let y : length (payloads (E ++ M)) ≡ 72 * p .records + 2 * oneIf (p .masks) = rw (payloads-append E M, length-append, z, mask-size (p .masks) simm nimm) in
+      table-next o₀ o₂ o₃ at (E ++ M) (apfRequest (p .apf)) pay _ _ (at + 24 * q + 24 * m) (pay + 72 * p .records + 2 * m) d y (omega arith) (omega arith) (omega arith) g₂
       (rw (apf-table (p .apf) (pay + 72 * p .records + 2 * m)) k)
-      ∙ ap (λ (es : List Entry). put o₀ at (table pay es)) (append-assoc E M (apfEntry (p .apf)))
+      ∙ ap (λ (es : List ListRequest). put o₀ at (writtenTable pay es)) (append-assoc E M (apfRequest (p .apf)))
 
   pub payloads-put : (image : List ℕ) → Counted image p → (start : ℕ) (o₀ o₁ o₂ o₃ o₄ : List ℕ) → start + bytesOf p ≤ length o₀
       → o₁ ≡ put o₀ start (payloads (each false image)) → o₂ ≡ put o₁ (start + 8 * p .registers) (payloads (each true image))
@@ -248,7 +248,7 @@ module _ (p : Parts) (rs : List Record) (simm nimm : ℕ) (w : Whole rs (p .reco
   unfolding adapterEntries otherEntries
   payloads-put image k start o₀ o₁ o₂ o₃ o₄ h f g i j =
       let A = adapterEntries image in
-      let E = enqueueEntry rs in
+      let E = enqueueRequest rs in
       let M = maskEntry (p .masks) simm nimm in
       let s = adapters-size image p k in
       let g₂ = payloads-next o₀ o₁ o₂ start (each false image) (each true image) _ _ (registers-size image p k) (omega arith) refl f g in

@@ -7,34 +7,34 @@ use lib.ListN.{length}
 use lib.Dec.{ltb}
 use Rattle.rules.specs.Bytes.{choose}
 use Rattle.rules.specs.State.{Record, recordBytes}
-use Rattle.rules.specs.MoveList.{Entry, flag, enqueueEntry, apfEntry}
+use Rattle.rules.specs.MoveList.{ListRequest, oneIf, enqueueRequest, apfRequest}
 use Rattle.list_parts.specs.Parts.{each}
 use Rattle.write.specs.declared.Parts.{Parts}
 use Rattle.image.specs.Image.{imageSize}
 
 -- AISM_ALL, where it is written
-abbrev pub maskEntry : Bool → ℕ → ℕ → List Entry
+abbrev pub maskEntry : Bool → ℕ → ℕ → List ListRequest
 maskEntry masks simm nimm = choose masks (record { group = 11; attr = 0; payload = simm ∷ nimm ∷ [] } ∷ []) []
 
 -- REGISTER and MODIFY of an image's adapters; ENQUEUE of the records, AISM_ALL, APF_ENABLE; and all of them
-unfoldable pub adapterEntries : List ℕ → List Entry
+unfoldable pub adapterEntries : List ℕ → List ListRequest
 adapterEntries image = each false image ++ each true image
 
-unfoldable pub otherEntries : List Record → Bool → ℕ → ℕ → Bool → List Entry
-otherEntries rs masks simm nimm apf = enqueueEntry rs ++ (maskEntry masks simm nimm ++ apfEntry apf)
+unfoldable pub otherEntries : List Record → Bool → ℕ → ℕ → Bool → List ListRequest
+otherEntries rs masks simm nimm apf = enqueueRequest rs ++ (maskEntry masks simm nimm ++ apfRequest apf)
 
-abbrev pub entriesFrom : List ℕ → List Record → Bool → ℕ → ℕ → Bool → List Entry
+abbrev pub entriesFrom : List ℕ → List Record → Bool → ℕ → ℕ → Bool → List ListRequest
 entriesFrom image rs masks simm nimm apf = adapterEntries image ++ otherEntries rs masks simm nimm apf
 
 -- how many entries they are, and the bytes of their payloads
 abbrev pub otherCount : Parts → ℕ
-otherCount p = flag (ltb 0 (p .records)) + flag (p .masks) + flag (p .apf)
+otherCount p = oneIf (ltb 0 (p .records)) + oneIf (p .masks) + oneIf (p .apf)
 
 abbrev pub countOf : Parts → ℕ
 countOf p = p .registers + p .modifies + otherCount p
 
 abbrev pub bytesOf : Parts → ℕ
-bytesOf p = 8 * p .registers + 16 * p .modifies + recordBytes * p .records + 2 * flag (p .masks)
+bytesOf p = 8 * p .registers + 16 * p .modifies + recordBytes * p .records + 2 * oneIf (p .masks)
 
 -- what is counted
 pub record Counted (image : List ℕ) (p : Parts) : Type 0 where

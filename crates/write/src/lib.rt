@@ -7,7 +7,7 @@ ghost use lib.ListN.{length};
 ghost use Rattle.rules.specs.Bytes.{choose};
 ghost use Rattle.rules.specs.State.{Limits, State, Record, recordBytes, listing};
 ghost use Rattle.rules.specs.Requests.{nonZero};
-ghost use Rattle.rules.specs.MoveList.{flag, headerBytes, slotBytes, payloads, table, writes};
+ghost use Rattle.rules.specs.MoveList.{oneIf, headerBytes, tableEntryBytes, payloads, writtenTable, writes};
 ghost use Rattle.answers.specs.Answers.{Answers};
 ghost use Rattle.queues.specs.Queues.{Held};
 ghost use Rattle.records.specs.Memory.{pendingOf};
@@ -82,8 +82,8 @@ fn payload_bytes(p: Parts) -> usize
 
 // The table entries of the adapters, the first payload at start.
 fn put_adapters(out: &mut [u8], start: usize, image: [u8; PLACES], p: Parts)
-    requires { ⌜ Counted image p × (start ≤ 4096) × (headerBytes + slotBytes * (p .registers + p .modifies) ≤ length (now out)) ⌝ }
-    ensures { λ _. ⌜ now (out .exit) ≡ put (now (out .entry)) headerBytes (table start (adapterEntries image)) ⌝ }
+    requires { ⌜ Counted image p × (start ≤ 4096) × (headerBytes + tableEntryBytes * (p .registers + p .modifies) ≤ length (now out)) ⌝ }
+    ensures { λ _. ⌜ now (out .exit) ≡ put (now (out .entry)) headerBytes (writtenTable start (adapterEntries image)) ⌝ }
 {
     list_parts::put_slots(out, 20, start, image, false);
     let at = 20 + 24 * p.registers;
@@ -93,8 +93,8 @@ fn put_adapters(out: &mut [u8], start: usize, image: [u8; PLACES], p: Parts)
 
 // The table entries of ENQUEUE, AISM_ALL and APF_ENABLE, the first payload at pay.
 fn put_others(out: &mut [u8], at: usize, pay: usize, p: Parts)
-    requires { ⌜ (p .records ≤ 258) × (pay ≤ 8192) × (at + slotBytes * otherCount p ≤ length (now out)) ⌝ }
-    ensures { λ _. ⌜ ((rs : List Record) (simm nimm : ℕ) → Whole rs (p .records) → now (out .exit) ≡ put (now (out .entry)) at (table pay (otherEntries rs (p .masks) simm nimm (p .apf)))) ⌝ }
+    requires { ⌜ (p .records ≤ 258) × (pay ≤ 8192) × (at + tableEntryBytes * otherCount p ≤ length (now out)) ⌝ }
+    ensures { λ _. ⌜ ((rs : List Record) (simm nimm : ℕ) → Whole rs (p .records) → now (out .exit) ≡ put (now (out .entry)) at (writtenTable pay (otherEntries rs (p .masks) simm nimm (p .apf)))) ⌝ }
 {
     let queued = 0 < p.records;
     let bytes = 72 * p.records;
@@ -108,8 +108,8 @@ fn put_others(out: &mut [u8], at: usize, pay: usize, p: Parts)
 
 // The table, its first payload at start.
 fn put_table(out: &mut [u8], start: usize, image: [u8; PLACES], p: Parts)
-    requires { ⌜ Counted image p × (start ≤ 4096) × (headerBytes + slotBytes * countOf p ≤ length (now out)) ⌝ }
-    ensures { λ _. ⌜ ((rs : List Record) (simm nimm : ℕ) → Whole rs (p .records) → now (out .exit) ≡ put (now (out .entry)) headerBytes (table start (entriesFrom image rs (p .masks) simm nimm (p .apf)))) ⌝ }
+    requires { ⌜ Counted image p × (start ≤ 4096) × (headerBytes + tableEntryBytes * countOf p ≤ length (now out)) ⌝ }
+    ensures { λ _. ⌜ ((rs : List Record) (simm nimm : ℕ) → Whole rs (p .records) → now (out .exit) ≡ put (now (out .entry)) headerBytes (writtenTable start (entriesFrom image rs (p .masks) simm nimm (p .apf)))) ⌝ }
 {
     let at = 20 + 24 * (p.registers + p.modifies);
     let pay = start + 8 * p.registers + 16 * p.modifies;
@@ -135,7 +135,7 @@ fn put_listing(
 
 // Both masks, if they are written.
 fn put_masks(out: &mut [u8], on: bool, at: usize, simm: u8, nimm: u8)
-    requires { ⌜ at + 2 * flag on ≤ length (now out) ⌝ }
+    requires { ⌜ at + 2 * oneIf on ≤ length (now out) ⌝ }
     ensures { λ _. ⌜ now (out .exit) ≡ put (now (out .entry)) at (choose on (simm ∷ nimm ∷ []) []) ⌝ }
 {
     if on {

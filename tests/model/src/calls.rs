@@ -404,7 +404,7 @@ impl Generator<'_> {
             record.extend(mcic.to_be_bytes());
         } else {
             record.extend(self.rng.pick(&[0u16, 1, 0xfe09]).to_be_bytes());
-            record.extend(self.rng.pick(&[0u16, 1, 0x11]).to_be_bytes());
+            record.extend(self.rng.pick(&[0u16, 1, 0x11, 0x111]).to_be_bytes());
             record.extend((self.rng.pick(&[0, u64::MAX, 7]) as u32).to_be_bytes());
             let word = self.rng.next() as u32;
             let isc = self.rng.pick(&[0, 3, 7, word >> 27 & 7]);
@@ -536,7 +536,7 @@ impl Generator<'_> {
         let mut payload = self.records().concat();
         let length = payload.len();
         let attr = match self.rng.below(16) {
-            0 => self.rng.pick(&[0, 1, 71, 73, 143, 145]),
+            0 => self.rng.pick(&[0, 1, 64, 71, 73, 80, 143, 145]),
             1 => length as u64 + self.rng.pick(&[1 << 32, 1 << 63, 1, 71, 72]),
             2 => self.rng.pick(&[18_504, 18_575, 18_576, 18_577, 18_648, 72 << 32, u64::MAX - 15]),
             _ => length as u64,

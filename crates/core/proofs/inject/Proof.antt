@@ -12,14 +12,14 @@ use Rattle.queues.specs.Queues.{sum}
 use Rattle.records.specs.Memory.{pendingOf}
 use Rattle.records.proofs.Laws.{queued-sum}
 use Rattle.adapters.specs.declared.Injection.{Injection}
-use Rattle.adapters.specs.Values.{injectionOf, placeOf, deviceOf}
+use Rattle.adapters.specs.Values.{injectionOf, injectedDevice, placeOf, deviceOf}
 use Rattle.words.specs.declared.Subclass.{Subclass}
 use Rattle.answers.specs.declared.Answer.{Answer}
 use Rattle.core.specs.Cases.{answerFor}
 use Rattle.values.specs.declared.Reply.{Reply}
 use Rattle.values.specs.States.{stateWith}
 use Rattle.answers.proofs.Laws.{refused-as, accepted}
-use Rattle.core.proofs.Laws.{as-it-was, replies, none-there, dropped-there, full-there, appended-there, out-of-range, nobody-there, is-dropped, is-full, is-appended, injected-is, code-of}
+use Rattle.core.proofs.Laws.{as-it-was, replies, none-there, dropped-there, full-there, appended-there, out-of-range, nobody-there, is-dropped, is-full, is-appended, injected-is, code-of, not-noted, noted}
 use borrow.Author.Needs.{needs}
 use Rattle.core.proofs.inject.Statement.{statement}
 use Rattle.core.proofs.inject.Tie as tie
@@ -43,7 +43,10 @@ returns c =
         (f .pre .1, ap (λ (x : Reply). x .place) (c .with-answer .ensures)),
         (
           λ n. (ap (λ (x : Reply). x .device) (c .with-answer .ensures), refl, refl, refl),
-          λ h. let z : ⊥ = omega (arith, h, c .before .before .if1 .taken) in absurd z,
+          (
+            not-noted (injectedDevice (a .ais) (a .device) (a .place)) (c .with-answer .ensures) (c .before .refuse .ensures),
+            λ h. let z : ⊥ = omega (arith, h, c .before .before .if1 .taken) in absurd z,
+          ),
         ),
       ),
     )
@@ -141,7 +144,10 @@ returns-2 c =
         (f .pre .1, ap (λ (x : Reply). x .place) (c .with-answer2 .ensures)),
         (
           λ n. (ap (λ (x : Reply). x .device) (c .with-answer2 .ensures), refl, refl, refl),
-          λ h. ap (λ (x : Reply). x .answer) (c .with-answer2 .ensures) ∙ c .before .refuse2 .ensures ∙ case-told j (c .before .before .enum-told .given .1),
+          (
+            not-noted (injectedDevice (a .ais) (a .device) (a .place)) (c .with-answer2 .ensures) (c .before .refuse2 .ensures),
+            λ h. ap (λ (x : Reply). x .answer) (c .with-answer2 .ensures) ∙ c .before .refuse2 .ensures ∙ case-told j (c .before .before .enum-told .given .1),
+          ),
         ),
       ),
     )
@@ -162,7 +168,10 @@ returns-3 c =
         (f .pre .1, ap (λ (x : Reply). x .place) (c .with-answer3 .ensures)),
         (
           λ n. (ap (λ (x : Reply). x .device) (c .with-answer3 .ensures), refl, refl, refl),
-          λ h. ap (λ (x : Reply). x .answer) (c .with-answer3 .ensures) ∙ c .before .accept .ensures ∙ case-told j (c .before .before .enum-told2 .given .1),
+          (
+            not-noted (injectedDevice (a .ais) (a .device) (a .place)) (c .with-answer3 .ensures) (c .before .accept .ensures),
+            λ h. ap (λ (x : Reply). x .answer) (c .with-answer3 .ensures) ∙ c .before .accept .ensures ∙ case-told j (c .before .before .enum-told2 .given .1),
+          ),
         ),
       ),
     )
@@ -183,7 +192,10 @@ returns-4 c =
         (f .pre .1, ap (λ (x : Reply). x .place) (c .with-answer4 .ensures)),
         (
           λ n. (ap (λ (x : Reply). x .device) (c .with-answer4 .ensures), refl, refl, refl),
-          λ h. ap (λ (x : Reply). x .answer) (c .with-answer4 .ensures) ∙ c .before .refuse3 .ensures ∙ case-told j (c .before .before .enum-told3 .given .1),
+          (
+            not-noted (injectedDevice (a .ais) (a .device) (a .place)) (c .with-answer4 .ensures) (c .before .refuse3 .ensures),
+            λ h. ap (λ (x : Reply). x .answer) (c .with-answer4 .ensures) ∙ c .before .refuse3 .ensures ∙ case-told j (c .before .before .enum-told3 .given .1),
+          ),
         ),
       ),
     )
@@ -211,7 +223,10 @@ returns-5 c =
         (c .before .before .append-interrupt .ensures .1, ap (λ (x : Reply). x .place) (c .with-answer5 .ensures)),
         (
           λ n. absurd (code-of (c .with-answer5 .ensures) n (ap (λ (x : Answer). x .code) (c .before .accept2 .ensures))),
-          λ h. ap (λ (x : Reply). x .answer) (c .with-answer5 .ensures) ∙ c .before .accept2 .ensures ∙ case-told j (k .what .given .1),
+          (
+            noted (a .device) (injectedDevice (a .ais) (a .device) (a .place)) (c .with-answer5 .ensures) (c .before .accept2 .ensures) (j .before .after-injection .ensures),
+            λ h. ap (λ (x : Reply). x .answer) (c .with-answer5 .ensures) ∙ c .before .accept2 .ensures ∙ case-told j (k .what .given .1),
+          ),
         ),
       ),
     )

@@ -1,6 +1,7 @@
 -- `flic_make`: what it shares with `flic_play_list` is in Fresh.antt. In between `start` is called, and the capability is stored.
-use Rattle.flic.proofs.Walk.{_≡_, refl, ap, subst, ℕ, Bool, [], _∷_, List, length, URA, fullShare, named, w64, tyBool, Val, vint, vbool, vptr, SProp, ent, emp, via, id⊢, Fml, ftrue, fsep, fat, Memory, Routine, Heap, Env, Calls, Loops, WpFn, Tables, Atoms, Fun, Given, Sq, runs, atRet, ‵, ⋆, _$_, _∵_, !, qed, move, keep, drop, rewrite, fjoin, suffices, frame, done, look, store, init, stop, hop, fld, from, load, of-opd, and-then, no-more, assigns, land, enter, alloc1, alloc0, params1, pass1, pass0, whole, sub, look-in, FmC, fmOf, WpFn-mono, owns, Is, bool-vals, bool-tells, bool-makes, uint-makes, RefT, ptr-vals, mut-tells, Room, slice-vals, mut-slice-tells, plain, only, owned, nothing, onEntry, Meets, tripleOf, Contract, Triple, entered, cited, says, Stays, stay-ref, stay-slice, walkOf, goes-ref, goes-slice, Walks, ends-at, walked, walk-meets, yes, givenOf, tables, tablesOf, usize, bool, stay-dropped, goes-dropped, fst∗}
+use Rattle.flic.proofs.Walk.{_≡_, refl, ap, subst, ℕ, Bool, [], _∷_, List, length, URA, fullShare, named, tyBool, Val, vbool, vptr, SProp, ent, emp, via, id⊢, Fml, ftrue, fsep, fat, Memory, Routine, Heap, Env, Calls, Loops, WpFn, Tables, Atoms, Fun, Given, Sq, runs, atRet, ‵, ⋆, _$_, _∵_, !, qed, move, keep, drop, rewrite, fjoin, suffices, frame, done, look, store, init, stop, hop, fld, from, load, of-opd, and-then, no-more, assigns, land, enter, alloc1, alloc0, params1, pass1, pass0, whole, sub, look-in, FmC, fmOf, WpFn-mono, owns, Is, bool-vals, bool-tells, bool-makes, RefT, ptr-vals, mut-tells, Room, slice-vals, mut-slice-tells, plain, only, owned, nothing, onEntry, Meets, tripleOf, Contract, Triple, entered, cited, says, Stays, stay-ref, stay-slice, walkOf, goes-ref, goes-slice, Walks, ends-at, walked, walk-meets, yes, givenOf, tables, tablesOf, bool, stay-dropped, goes-dropped, fst∗}
 use denote.Struct.Laws as LL
+use Rattle.rules.specs.State.{paperLimits}
 use Rattle.answers.specs.declared.Answer.{Answer}
 use Rattle.answers.proofs.Answer as An
 use Rattle.answers.proofs.Answer.Laws as An′
@@ -9,7 +10,7 @@ use Rattle.adapters.specs.declared.Place.{Place}
 use Rattle.adapters.proofs.Device as D
 use Rattle.adapters.proofs.Device.Laws as D′
 use Rattle.adapters.proofs.Place as P
-use Rattle.table.proofs.Record.{ReadDevice, StoreDevice}
+use Rattle.table.proofs.Record.{StoreDevice}
 use Rattle.table.proofs.Calls.{Restore}
 use Rattle.controller.specs.declared.Controller.{Controller}
 use Rattle.controller.specs.declared.Started.{Started}
@@ -18,16 +19,17 @@ use Rattle.controller.specs.Inner.{controller, Began}
 use Rattle.controller.proofs.Controller as C
 use Rattle.controller.proofs.Started as St
 use Rattle.controller.proofs.Started.Laws as St′
-use Rattle.flic.proofs.Promises.{make-promises}
-use Rattle.flic.proofs.Locals.{Content, blank, holds, locals}
+use Rattle.flic.proofs.Promises.{make-promises, wrong-makes}
+use Rattle.table.proofs.Locals.{Content, blank, holds, locals}
 use Rattle.flic.proofs.Opened.{Has}
-use Rattle.flic.proofs.Called.{asks-nothing}
+use Rattle.table.proofs.Called.{asks-nothing}
 use Rattle.flic.proofs.All.{Refs, refs, at-ctl, at-dev, at-tab, table, Owned, Tokens, Open, Closed, takes-all, gives-all}
 use Rattle.flic.proofs.Four.{mutably, Loan, left-by, lent-lfts, lent-shares, lent-args, lent-vals, calls-four}
 use Rattle.flic.proofs.Fresh as Fresh
 use Rattle.flic.proofs.Fresh.{Known, starts, finishes}
-use Rattle.table.proofs.read_device.Symbol as read-device-def
-use Rattle.table.proofs.read_device.Met as read-device-thm
+use Rattle.answers.proofs.refuse.Symbol as refuse-def
+use Rattle.answers.proofs.refuse.Met as refuse-thm
+use Rattle.table.proofs.Answered.{refused, Refuse}
 use Rattle.table.proofs.store_device.Symbol as store-device-def
 use Rattle.table.proofs.store_device.Met as store-device-thm
 use Rattle.table.proofs.restore.Symbol as restore-def
@@ -66,52 +68,51 @@ module _ {M : Type 1} (𝓤 : URA M) (H : Heap 𝓤) (A : Atoms 𝓤) (W : Given
       qed W (Closed a zs m c′ []) ∵ suffices ! _ (ends-at 𝓤 H A f.ended stayed (f.clauses 𝓤 H A mem′ run) W bound (An′.lowered z) z (c′, (m, (zs, (tt, tt)))) (tt, (tt, (e, (tt, tt))))) $ says ! made $
       nothing ! $ nothing ! $ fjoin ! $ nothing ! $ move ! (2 ∷ 3 ∷ 4 ∷ 5 ∷ 6 ∷ 7 ∷ 8 ∷ 9 ∷ 10 ∷ []) $ gives-all ! a zs m c′ e room $ frame ! $ frame ! $ owned ! An.the-row (Is An.the-row) (LL.makes An.the-type An′.the-plain 𝓤 H A) z _ g $ done !
 
-  -- ---- the call of `start`: after the arrays it takes four values
+  -- ---- the call of `start`: after the arrays it takes the capability
   abbrev O : Fml
-  O = fsep (usize .own (length (a .t)) (vint w64 (length (a .t)) ∷ [])) (fsep (bool .own (a .c .ais) (vbool (a .c .ais) ∷ [])) (fsep (D.the-row .own (a .d) (D′.lowered (a .d) ∷ [])) (fsep (bool .own ais (vbool ais ∷ [])) ftrue)))
+  O = fsep (bool .own ais (vbool ais ∷ [])) ftrue
 
-  abbrev Y : Type 0
-  Y = Unit {0} × (Unit {0} × (Unit {0} × (Unit {0} × Unit {0})))
-
-  abbrev Leaves : Y → Fml
-  Leaves y = fsep ftrue (fsep ftrue (fsep ftrue (fsep ftrue ftrue)))
+  abbrev Leaves : Unit {0} × Unit {0} → Fml
+  Leaves y = fsep ftrue ftrue
 
   abbrev to-start : Loan → Start 𝓤 H A mem′ run .Ghost
-  to-start n = ((lent-lfts n tt, lent-shares tt, tt, lent-args n (a .c) (a .bc) (a .oc) (length (a .t), (a .c .ais, (a .d, (ais, tt)))), lent-vals (a .bc) (a .oc) (vint w64 (length (a .t)) ∷ [], (vbool (a .c .ais) ∷ [], (D′.lowered (a .d) ∷ [], (vbool ais ∷ [], tt))))), tt)
+  to-start n = ((lent-lfts n tt, lent-shares tt, tt, lent-args n (a .c) (a .bc) (a .oc) (ais, tt), lent-vals (a .bc) (a .oc) (vbool ais ∷ [], tt)), tt)
 
-  module _ (C′ : Calls 𝓤 H) (Λ : Loops 𝓤 H) (fm : FmC 𝓤 H (W .laws) C′) (known : Known 𝓤 H A mem′ run C′) (known-start : Triple 𝓤 (C′ start-def.name) (Start 𝓤 H A mem′ run)) (l₀ l₁ l₂ l₃ l₄ l₅ l₆ l₇ l₈ l₉ l₁₀ l₁₁ l₁₂ l₁₃ l₁₄ l₁₅ l₁₆ l₁₇ : ℕ) where
+  module _ (C′ : Calls 𝓤 H) (Λ : Loops 𝓤 H) (fm : FmC 𝓤 H (W .laws) C′) (known : Known 𝓤 H A mem′ run C′) (known-start : Triple 𝓤 (C′ start-def.name) (Start 𝓤 H A mem′ run)) (l₀ l₁ l₂ l₃ l₄ l₅ l₆ l₇ l₈ l₉ l₁₀ l₁₁ l₁₂ l₁₃ l₁₄ l₁₅ : ℕ) where
     abbrev E : Env 𝓤 H
-    E = Fresh.E 𝓤 H tyBool l₀ l₁ l₂ l₃ l₄ l₅ l₆ l₇ l₈ l₉ l₁₀ l₁₁ l₁₂ l₁₃ l₁₄ l₁₅ l₁₆ l₁₇
+    E = Fresh.E 𝓤 H tyBool l₀ l₁ l₂ l₃ l₄ l₅ l₆ l₇ l₈ l₉ l₁₀ l₁₁ l₁₂ l₁₃ l₁₄ l₁₅
 
     abbrev held : Content → ℕ → List Content
-    held v₆ n = Fresh.held a (vbool ais) blank v₆ n
+    held v₅ n = Fresh.held a (vbool ais) blank v₅ (holds (vbool (Fresh.wrong a))) n
 
-    -- the capability is stored
-    stores-it : (z : Started) (c₁ : Controller) → Has c₁ → Is D.the-row (a .d) (D′.lowered (a .d) ∷ []) → Is St.the-row z (St′.lowered z ∷ []) → Began (length (a .t)) ais (a .c) (controller (c₁ .slots) (c₁ .order) (c₁ .counts) (c₁ .singles) (z .ais)) (a .d) z
-        → Sq W (Open H a (a .t) (a .d) c₁ (locals E (held (holds (St′.lowered z)) 9) [])) (runs C′ Λ E mir.t-10 (atRet E Post))
-    stores-it z c₁ g gd gz began =
-        assigns ! (of-opd ! (load ! (from ! (fld ! refl (stop !))) (look-in ! 29 (sub ! 1 refl (whole !))))) (from ! (hop ! (look ! 19 refl) (fld ! refl (stop !)))) (store ! 12 refl (tt, tt)) $
-        finishes 𝓤 H A W mem′ run a room tyBool (vbool ais) Post C′ Λ fm known [] l₀ l₁ l₂ l₃ l₄ l₅ l₆ l₇ l₈ l₉ l₁₀ l₁₁ l₁₂ l₁₃ l₁₄ l₁₅ l₁₆ l₁₇ z (controller (c₁ .slots) (c₁ .order) (c₁ .counts) (c₁ .singles) (z .ais)) gd g gz (λ e is. exits _ (z .device) _ (z .answer) (make-promises ais (a .c) _ (a .d) (a .t) z refl began) e is)
+    module _ (right : length (a .t) ≡ paperLimits .places) where
+      -- the capability is stored
+      stores-it : (z : Started) (c₁ : Controller) → Has c₁ → Is D.the-row (a .d) (D′.lowered (a .d) ∷ []) → Is St.the-row z (St′.lowered z ∷ []) → Began ais (controller (c₁ .slots) (c₁ .order) (c₁ .counts) (c₁ .singles) (z .ais)) z
+          → Sq W (Open H a (a .t) (a .d) c₁ (locals E (held (holds (St′.lowered z)) 5) [])) (runs C′ Λ E mir.t-9 (atRet E Post))
+      stores-it z c₁ g gd gz began =
+          assigns ! (of-opd ! (load ! (from ! (fld ! refl (stop !))) (look-in ! 27 (sub ! 1 refl (whole !))))) (from ! (hop ! (look ! 19 refl) (fld ! refl (stop !)))) (store ! 12 refl (tt, tt)) $
+          finishes 𝓤 H A W mem′ run a room tyBool (vbool ais) Post C′ Λ fm known [] l₀ l₁ l₂ l₃ l₄ l₅ l₆ l₇ l₈ l₉ l₁₀ l₁₁ l₁₂ l₁₃ l₁₄ l₁₅ z (controller (c₁ .slots) (c₁ .order) (c₁ .counts) (c₁ .singles) (z .ais)) (Fresh.wrong a) gd g gz (λ e is. exits _ (z .device) _ (z .answer) (make-promises ais (a .c) _ (a .d) (a .t) z refl right began) e is)
 
-    calls-it : Has (a .c) → Is D.the-row (a .d) (D′.lowered (a .d) ∷ []) → Sq W (Open H a (a .t) (a .d) (a .c) (locals E (held blank 8) [])) (runs C′ Λ E mir.t-9 (atRet E Post))
-    calls-it gc gd =
-        nothing ! $ owned ! bool (Is bool) (bool-makes 𝓤 H A W) ais _ refl $ fjoin ! $ owned ! D.the-row (Is D.the-row) (LL.makes D.the-type D′.the-plain 𝓤 H A) (a .d) _ gd $ fjoin ! $ owned ! bool (Is bool) (bool-makes 𝓤 H A W) (a .c .ais) _ refl $ fjoin ! $ owned ! usize (Is usize) (uint-makes 𝓤 H A W w64) (length (a .t)) _ (refl, room .0) $ fjoin ! $ nothing ! $
-        -- [true; O; the table; the device record; what closes each; the arrays from 10; …]
-        move ! (10 ∷ 11 ∷ 12 ∷ 13 ∷ 0 ∷ 1 ∷ []) $
-        calls-four ! fm (Start 𝓤 H A mem′ run) known-start mutably to-start (a .c) gc (a .bc) (a .oc) St.the-row (‵ ftrue) O Leaves (λ z w. Began (length (a .t)) ais (a .c) (controller (w .0) (w .1 .0) (w .1 .1 .0) (w .1 .1 .1 .0) (z .ais)) (a .d) z) (λ n. asks-nothing 𝓤 _) (λ n v. id⊢ 𝓤 _) (λ n i.
-        (and-then ! (load ! (from ! (stop !)) (look ! 34 refl)) (and-then ! (load ! (from ! (stop !)) (look ! 36 refl)) (and-then ! (load ! (from ! (stop !)) (look ! 38 refl)) (and-then ! (load ! (from ! (stop !)) (look ! 40 refl)) (and-then ! (load ! (from ! (stop !)) (look ! 42 refl)) (and-then ! (load ! (from ! (stop !)) (look ! 44 refl)) (and-then ! (load ! (from ! (stop !)) (look ! 28 refl)) (and-then ! (load ! (from ! (stop !)) (look ! 26 refl)) (no-more !)))))))))) (λ z v w φ g′ is.
-        land ! (from ! (stop !)) (init ! 31 refl (LL.lawful St.the-type St′.the-laws 𝓤 H A W .typed z _ is .0)) $ rewrite ! 31 (λ (u : Val). ‵ (fat fullShare St′.mir l₆ 0 u)) (ap only (St′.lowers .val-is z (v ∷ []) is)) refl $
-        -- [the arrays; true; the rest's last values; the table; …]
-        move ! (5 ∷ []) $ drop ! $ move ! (4 ∷ []) $ drop ! $ move ! (4 ∷ 5 ∷ 6 ∷ 7 ∷ 8 ∷ 9 ∷ 10 ∷ 11 ∷ 0 ∷ 1 ∷ 2 ∷ 3 ∷ []) $
-        stores-it z (left-by mutably (a .c) w) g′ gd (subst (Is St.the-row z) (St′.lowers .val-is z (v ∷ []) is) is) φ)
+      calls-it : Has (a .c) → Is D.the-row (a .d) (D′.lowered (a .d) ∷ []) → Sq W (Open H a (a .t) (a .d) (a .c) (locals E (held blank 5) [])) (runs C′ Λ E mir.t-8 (atRet E Post))
+      calls-it gc gd =
+          nothing ! $ owned ! bool (Is bool) (bool-makes 𝓤 H A W) ais _ refl $ fjoin ! $ nothing ! $
+          -- [true; O; the table; the device record; what closes each; the arrays from 10; …]
+          move ! (10 ∷ 11 ∷ 12 ∷ 13 ∷ 0 ∷ 1 ∷ []) $
+          calls-four ! fm (Start 𝓤 H A mem′ run) known-start mutably to-start (a .c) gc (a .bc) (a .oc) St.the-row (‵ ftrue) O Leaves (λ z w. Began ais (controller (w .0) (w .1 .0) (w .1 .1 .0) (w .1 .1 .1 .0) (z .ais)) z) (λ n. asks-nothing 𝓤 _) (λ n v. id⊢ 𝓤 _) (λ n i.
+          (and-then ! (load ! (from ! (stop !)) (look ! 34 refl)) (and-then ! (load ! (from ! (stop !)) (look ! 36 refl)) (and-then ! (load ! (from ! (stop !)) (look ! 38 refl)) (and-then ! (load ! (from ! (stop !)) (look ! 40 refl)) (and-then ! (load ! (from ! (stop !)) (look ! 26 refl)) (no-more !))))))) (λ z v w φ g′ is.
+          land ! (from ! (stop !)) (init ! 29 refl (LL.lawful St.the-type St′.the-laws 𝓤 H A W .typed z _ is .0)) $ rewrite ! 29 (λ (u : Val). ‵ (fat fullShare St′.mir l₅ 0 u)) (ap only (St′.lowers .val-is z (v ∷ []) is)) refl $
+          -- [the arrays; true; the rest's last values; the table; …]
+          move ! (5 ∷ []) $ drop ! $ move ! (4 ∷ []) $ drop ! $ move ! (4 ∷ 5 ∷ 6 ∷ 7 ∷ 8 ∷ 9 ∷ 10 ∷ 11 ∷ 0 ∷ 1 ∷ 2 ∷ 3 ∷ []) $
+          stores-it z (left-by mutably (a .c) w) g′ gd (subst (Is St.the-row z) (St′.lowers .val-is z (v ∷ []) is) is) φ)
 
   walk : (C′ : Calls 𝓤 H) (Λ : Loops 𝓤 H) (fm : FmC 𝓤 H (W .laws) C′) → Known 𝓤 H A mem′ run C′ → Triple 𝓤 (C′ start-def.name) (Start 𝓤 H A mem′ run) → ent 𝓤 (onEntry 𝓤 H A f.signature (bound .0 .0) (bound .0 .1) x at) (WpFn 𝓤 H C′ Λ code.function (vptr (a .bc) (a .oc) ∷ vptr (a .bd) (a .od) ∷ table a ∷ vbool ais ∷ []) Post)
   walk C′ Λ fm known known-start =
       qed W (Tokens a (‵ ftrue) ∷ ‵ (Owned a (a .c) (a .d) (a .t) (owns (bool ∷ []) (x .1 .1 .1) (at .1 .1 .1))) ∷ []) ∵
       takes-all ! a $ keep ! (0 ∷ 1 ∷ 2 ∷ 3 ∷ 4 ∷ 5 ∷ []) $ enter ! C′ Λ code.function (vptr (a .bc) (a .oc) ∷ vptr (a .bd) (a .od) ∷ table a ∷ vbool ais ∷ []) _ $
-      alloc1 ! (λ l₀. alloc1 ! (λ l₁. alloc1 ! (λ l₂. alloc1 ! (λ l₃. alloc1 ! (λ l₄. alloc1 ! (λ l₅. alloc1 ! (λ l₆. alloc1 ! (λ l₇. alloc1 ! (λ l₈. alloc1 ! (λ l₉. alloc1 ! (λ l₁₀. alloc1 ! (λ l₁₁. alloc1 ! (λ l₁₂. alloc1 ! (λ l₁₃. alloc1 ! (λ l₁₄. alloc1 ! (λ l₁₅. alloc1 ! (λ l₁₆. alloc1 ! (λ l₁₇. alloc0 ! $ params1 ! $
-      pass1 ! (init ! 32 refl (tt, tt)) $ pass1 ! (init ! 30 refl (tt, tt)) $ pass1 ! (init ! 28 refl (tt, (tt, (record { fits = room .0 }, tt)))) $ pass1 ! (init ! 26 refl (tt, tt)) $ pass0 ! $
-      keep ! (36 ∷ 37 ∷ 38 ∷ 39 ∷ 40 ∷ 41 ∷ 34 ∷ 35 ∷ 32 ∷ 33 ∷ 30 ∷ 31 ∷ 28 ∷ 29 ∷ 26 ∷ 27 ∷ 24 ∷ 25 ∷ 22 ∷ 23 ∷ 20 ∷ 21 ∷ 18 ∷ 19 ∷ 16 ∷ 17 ∷ 14 ∷ 15 ∷ 12 ∷ 13 ∷ 10 ∷ 11 ∷ 8 ∷ 9 ∷ 6 ∷ 7 ∷ 4 ∷ 5 ∷ 2 ∷ 3 ∷ 0 ∷ 1 ∷ []) $ starts 𝓤 H A W mem′ run a room tyBool (vbool ais) Post C′ Λ fm known [] l₀ l₁ l₂ l₃ l₄ l₅ l₆ l₇ l₈ l₉ l₁₀ l₁₁ l₁₂ l₁₃ l₁₄ l₁₅ l₁₆ l₁₇ mir.t-9 (calls-it C′ Λ fm known known-start l₀ l₁ l₂ l₃ l₄ l₅ l₆ l₇ l₈ l₉ l₁₀ l₁₁ l₁₂ l₁₃ l₁₄ l₁₅ l₁₆ l₁₇)))))))))))))))))))
+      alloc1 ! (λ l₀. alloc1 ! (λ l₁. alloc1 ! (λ l₂. alloc1 ! (λ l₃. alloc1 ! (λ l₄. alloc1 ! (λ l₅. alloc1 ! (λ l₆. alloc1 ! (λ l₇. alloc1 ! (λ l₈. alloc1 ! (λ l₉. alloc1 ! (λ l₁₀. alloc1 ! (λ l₁₁. alloc1 ! (λ l₁₂. alloc1 ! (λ l₁₃. alloc1 ! (λ l₁₄. alloc1 ! (λ l₁₅. alloc0 ! $ params1 ! $
+      pass1 ! (init ! 28 refl (tt, tt)) $ pass1 ! (init ! 26 refl (tt, tt)) $ pass1 ! (init ! 24 refl (tt, (tt, (record { fits = room .0 }, tt)))) $ pass1 ! (init ! 22 refl (tt, tt)) $ pass0 ! $
+      keep ! (32 ∷ 33 ∷ 34 ∷ 35 ∷ 36 ∷ 37 ∷ 30 ∷ 31 ∷ 28 ∷ 29 ∷ 26 ∷ 27 ∷ 24 ∷ 25 ∷ 22 ∷ 23 ∷ 20 ∷ 21 ∷ 18 ∷ 19 ∷ 16 ∷ 17 ∷ 14 ∷ 15 ∷ 12 ∷ 13 ∷ 10 ∷ 11 ∷ 8 ∷ 9 ∷ 6 ∷ 7 ∷ 4 ∷ 5 ∷ 2 ∷ 3 ∷ 0 ∷ 1 ∷ []) $
+      starts 𝓤 H A W mem′ run a room tyBool (vbool ais) Post C′ Λ fm known [] l₀ l₁ l₂ l₃ l₄ l₅ l₆ l₇ l₈ l₉ l₁₀ l₁₁ l₁₂ l₁₃ l₁₄ l₁₅ (λ w g. exits (a .c) (a .d) (a .t) (refused 14) (wrong-makes (a .c) (a .d) (a .t) [] w ais) refl g) mir.t-8 (calls-it C′ Λ fm known known-start l₀ l₁ l₂ l₃ l₄ l₅ l₆ l₇ l₈ l₉ l₁₀ l₁₁ l₁₂ l₁₃ l₁₄ l₁₅)))))))))))))))))
 
 module _ {M : Type 1} (𝓤 : URA M) (H : Heap 𝓤) (A : Atoms 𝓤) (W : Given 𝓤 H A) (mem′ : Memory → SProp 𝓤) (run : Routine → Fun 𝓤) where
   walks : (C′ : Calls 𝓤 H) (Λ : Loops 𝓤 H) → FmC 𝓤 H (W .laws) C′ → Known 𝓤 H A mem′ run C′ → Triple 𝓤 (C′ start-def.name) (Start 𝓤 H A mem′ run) → Walks 𝓤 H A f.ended stayed (WpFn 𝓤 H C′ Λ code.function) (f.clauses 𝓤 H A mem′ run)
@@ -130,7 +131,7 @@ flic-make-spec 𝓤 H 𝓜 𝓖 𝓡 =
     entered 𝓤 H (tripleOf 𝓤 H (𝓖 .A) f.signature (f.spec 𝓤 H (𝓖 .A) (𝓜 .mem) (𝓡 .run)))
     (tables 𝓤 H 𝓜 𝓡 code.env .C) (tables 𝓤 H 𝓜 𝓡 code.env .Λ) #key code.function (code.unfolded 𝓤 H 𝓜 𝓡)
     (meets 𝓤 H (𝓖 .A) (givenOf 𝓤 H 𝓜 𝓖) (𝓜 .mem) (𝓡 .run) (tablesOf 𝓤 H 𝓜 (tables 𝓤 H 𝓜 𝓡 code.env)) (record {
-      read-device = cited 𝓤 H (ReadDevice 𝓤 H (𝓖 .A) (𝓜 .mem) (𝓡 .run)) 𝓜 𝓡 code.env read-device-def.name read-device-def.routine code.calls-table·read-device (read-device-thm.met 𝓤 H 𝓜 𝓖 𝓡);
+      refuse = cited 𝓤 H (Refuse 𝓤 H (𝓖 .A) (𝓜 .mem) (𝓡 .run)) 𝓜 𝓡 code.env refuse-def.name refuse-def.routine code.calls-answers·refuse (refuse-thm.met 𝓤 H 𝓜 𝓖 𝓡);
       store-device = cited 𝓤 H (StoreDevice 𝓤 H (𝓖 .A) (𝓜 .mem) (𝓡 .run)) 𝓜 𝓡 code.env store-device-def.name store-device-def.routine code.calls-table·store-device (store-device-thm.met 𝓤 H 𝓜 𝓖 𝓡);
       restore = cited 𝓤 H (Restore 𝓤 H (𝓖 .A) (𝓜 .mem) (𝓡 .run)) 𝓜 𝓡 code.env restore-def.name restore-def.routine code.calls-table·restore (restore-thm.met 𝓤 H 𝓜 𝓖 𝓡);
     }) (cited 𝓤 H (Start 𝓤 H (𝓖 .A) (𝓜 .mem) (𝓡 .run)) 𝓜 𝓡 code.env start-def.name start-def.routine code.calls-controller·start (start-thm.met 𝓤 H 𝓜 𝓖 𝓡)))

@@ -1,5 +1,8 @@
 -- `flic_play_list`: what it shares with `flic_make` is in Fresh.antt. In between `replay` is called, with the list.
-use Rattle.flic.proofs.Walk.{_≡_, refl, ap, subst, ℕ, [], _∷_, List, length, URA, fullShare, named, w8, w64, tyInt, tyRef, imm, Val, vint, vbool, vptr, SProp, ent, id⊢, GName, Lft, Share, Fml, ftrue, fsep, flft, fat, Memory, Routine, Heap, Env, Calls, Loops, WpFn, Tables, Atoms, Fun, Given, Item, Sq, runs, atRet, ‵, ⋆, _⊛_, _$_, _∵_, !, qed, move, keep, drop, split, join, rewrite, fsplit, fjoin, suffices, frame, done, look, init, stop, from, load, and-then, no-more, land, enter, alloc1, alloc0, params1, pass1, pass0, FmC, fmOf, WpFn-mono, owns, Is, bool-makes, uint-makes, u8, RefT, ptr-vals, mut-tells, sliceVal, sliceTy, ShrSlice, Room, slice-vals, mut-slice-tells, shr-slice-tells, plain, only, owned, nothing, onEntry, Meets, tripleOf, Contract, Triple, entered, cited, says, Stays, stay-ref, stay-slice, walkOf, goes-ref, goes-slice, Walks, ends-at, walked, walk-meets, yes, givenOf, tables, tablesOf, usize, bool, needs, stay-dropped, goes-dropped}
+use Rattle.flic.proofs.Walk.{_≡_, refl, ap, subst, ℕ, Bool, true, by, lit, bin, store, hop, fld, of-opd, assigns, first, skips, branches, exec, returns-within, whole, sub, look-in, anyQ, afterSeq, Wp, atReturn, [], _∷_, List, length, URA, fullShare, named, w8, tyInt, tyRef, imm, Val, vbool, vptr, SProp, ent, id⊢, GName, Lft, Share, Fml, ftrue, fsep, flft, fat, Memory, Routine, Heap, Env, Calls, Loops, WpFn, Tables, Atoms, Fun, Given, Item, Sq, runs, atRet, ‵, ⋆, _⊛_, _$_, _∵_, !, qed, move, keep, drop, split, join, rewrite, fsplit, fjoin, suffices, frame, done, look, init, stop, from, load, and-then, no-more, land, enter, alloc1, alloc0, params1, pass1, pass0, FmC, fmOf, WpFn-mono, owns, Is, bool-makes, u8, RefT, ptr-vals, mut-tells, sliceVal, sliceTy, ShrSlice, Room, slice-vals, mut-slice-tells, shr-slice-tells, plain, only, owned, nothing, onEntry, Meets, tripleOf, Contract, Triple, entered, cited, says, Stays, stay-ref, stay-slice, walkOf, goes-ref, goes-slice, Walks, ends-at, walked, walk-meets, yes, givenOf, tables, tablesOf, bool, needs, stay-dropped, goes-dropped}
+use types.Kit as Kit
+use lib.Dec.{eqb}
+use borrow.Author.Tests.{eqb-true, eqb-false}
 use denote.Struct.Laws as LL
 use denote.Signature.{shrSliceOf}
 use Rattle.rules.specs.State.{paperLimits}
@@ -11,23 +14,26 @@ use Rattle.adapters.specs.declared.Place.{Place}
 use Rattle.adapters.proofs.Device as D
 use Rattle.adapters.proofs.Device.Laws as D′
 use Rattle.adapters.proofs.Place as P
-use Rattle.table.proofs.Record.{ReadDevice, StoreDevice}
+use Rattle.table.proofs.Record.{StoreDevice}
 use Rattle.table.proofs.Calls.{Restore}
 use Rattle.controller.specs.declared.Controller.{Controller}
+use Rattle.controller.specs.declared.Started.{Started}
 use Rattle.flic.specs.Surface.{Valid, Played}
 use Rattle.controller.specs.Inner.{Replayed}
 use Rattle.controller.proofs.Controller as C
 use Rattle.controller.proofs.Started as St
 use Rattle.controller.proofs.Started.Laws as St′
-use Rattle.flic.proofs.Promises.{play-promises}
-use Rattle.flic.proofs.Locals.{Content, blank, holds, locals, swaps}
+use Rattle.flic.proofs.Promises.{same-promises, play-promises, wrong-plays}
+use Rattle.table.proofs.Locals.{Content, blank, holds, locals, frees-all, swaps, holds-true, holds-false}
 use Rattle.flic.proofs.Opened.{Has}
-use Rattle.flic.proofs.All.{Refs, refs, at-ctl, at-dev, at-tab, table, Owned, Tokens, Open, Closed, takes-all, gives-all}
+use Rattle.flic.proofs.All.{Refs, refs, at-ctl, at-dev, at-tab, table, Owned, Tokens, Open, Closed, closes-all, takes-all, gives-all}
 use Rattle.flic.proofs.Four.{mutably, at-array, Loan, Toks, Lent, left-by, lent-lfts, lent-shares, lent-args, lent-vals, calls-four}
 use Rattle.flic.proofs.Fresh as Fresh
 use Rattle.flic.proofs.Fresh.{Known, starts, finishes}
-use Rattle.table.proofs.read_device.Symbol as read-device-def
-use Rattle.table.proofs.read_device.Met as read-device-thm
+use Rattle.answers.proofs.refuse.Symbol as refuse-def
+use Rattle.answers.proofs.refuse.Met as refuse-thm
+use Rattle.table.proofs.Count.{taken}
+use Rattle.table.proofs.Answered.{refused, Refuse}
 use Rattle.table.proofs.store_device.Symbol as store-device-def
 use Rattle.table.proofs.store_device.Met as store-device-thm
 use Rattle.table.proofs.restore.Symbol as restore-def
@@ -73,43 +79,69 @@ module _ {M : Type 1} (𝓤 : URA M) (H : Heap 𝓤) (A : Atoms 𝓤) (W : Given
       qed W (‵ (flft κp qp) ∷ Closed a zs m c′ []) ∵ suffices ! _ (ends-at 𝓤 H A f.ended stayed (f.clauses 𝓤 H A mem′ run) W bound (An′.lowered z) z (c′, (m, (zs, (tt, tt)))) (tt, (tt, (e, (tt, tt))))) $ says ! played $
       nothing ! $ nothing ! $ fjoin ! $ nothing ! $ move ! (2 ∷ 0 ∷ []) $ join ! $ move ! (2 ∷ 3 ∷ 4 ∷ 5 ∷ 6 ∷ 7 ∷ 8 ∷ 9 ∷ 10 ∷ []) $ gives-all ! a zs m c′ e room $ frame ! $ frame ! $ owned ! An.the-row (Is An.the-row) (LL.makes An.the-type An′.the-plain 𝓤 H A) z _ g $ done !
 
-  -- ---- the call of `replay`: after the arrays it takes three values and the list
+  -- a wrong table: the list is still held
+  wrong-exits : (length (a .t) ≡ paperLimits .places → ⊥) → Is An.the-row (refused 14) (An′.lowered (refused 14) ∷ []) → ent 𝓤 (⋆ 𝓤 H A (‵ (flft κp qp) ∷ ‵ OwnP ∷ Closed a (a .t) (a .d) (a .c) [])) (Post (An′.lowered (refused 14)))
+  wrong-exits w g = qed W (‵ (flft κp qp) ∷ ‵ OwnP ∷ Closed a (a .t) (a .d) (a .c) []) ∵ move ! (1 ∷ []) $ drop ! $ by ! (exits (a .c) (a .d) (a .t) (refused 14) (wrong-plays (a .c) (a .d) (a .t) ps w) refl g)
+
+  -- ---- the call of `replay`: after the arrays it takes the capability and the list
   abbrev T : Item 𝓤
   T = ‵ (flft κp qp) ⊛ ‵ ftrue
 
   abbrev O : Fml
-  O = fsep (usize .own (length (a .t)) (vint w64 (length (a .t)) ∷ [])) (fsep (bool .own (a .c .ais) (vbool (a .c .ais) ∷ [])) (fsep (D.the-row .own (a .d) (D′.lowered (a .d) ∷ [])) (fsep OwnP ftrue)))
+  O = fsep (bool .own (a .c .ais) (vbool (a .c .ais) ∷ [])) (fsep OwnP ftrue)
 
-  abbrev Y : Type 0
-  Y = Unit {0} × (Unit {0} × (Unit {0} × (Unit {0} × Unit {0})))
-
-  abbrev Leaves : Y → Fml
-  Leaves y = fsep ftrue (fsep ftrue (fsep ftrue (fsep ftrue ftrue)))
+  abbrev Leaves : Unit {0} × (Unit {0} × Unit {0}) → Fml
+  Leaves y = fsep ftrue (fsep ftrue ftrue)
 
   abbrev to-replay : Loan → Replay 𝓤 H A mem′ run .Ghost
-  to-replay n = ((lent-lfts n (κp, tt), lent-shares (qp, tt), tt, lent-args n (a .c) (a .bc) (a .oc) (length (a .t), (a .c .ais, (a .d, (at-array bp op γp ps, tt)))), lent-vals (a .bc) (a .oc) (vint w64 (length (a .t)) ∷ [], (vbool (a .c .ais) ∷ [], (D′.lowered (a .d) ∷ [], (sp ∷ [], tt))))), tt)
+  to-replay n = ((lent-lfts n (κp, tt), lent-shares (qp, tt), tt, lent-args n (a .c) (a .bc) (a .oc) (a .c .ais, (at-array bp op γp ps, tt)), lent-vals (a .bc) (a .oc) (vbool (a .c .ais) ∷ [], (sp ∷ [], tt))), tt)
 
-  goes : (n : Loan) → ent 𝓤 (⋆ 𝓤 H A (Toks n T ∷ ‵ (Lent mutably n (a .c) (a .bc) (a .oc) O) ∷ [])) (Replay 𝓤 H A mem′ run .pre (to-replay n))
-  goes n = qed W (Toks n T ∷ ‵ (Lent mutably n (a .c) (a .bc) (a .oc) O) ∷ []) ∵ says ! (λ e. valid e .ready) $ done !
-
-  module _ (C′ : Calls 𝓤 H) (Λ : Loops 𝓤 H) (fm : FmC 𝓤 H (W .laws) C′) (known : Known 𝓤 H A mem′ run C′) (known-replay : Triple 𝓤 (C′ replay-def.name) (Replay 𝓤 H A mem′ run)) (l₀ l₁ l₂ l₃ l₄ l₅ l₆ l₇ l₈ l₉ l₁₀ l₁₁ l₁₂ l₁₃ l₁₄ l₁₅ l₁₆ l₁₇ : ℕ) where
+  module _ (C′ : Calls 𝓤 H) (Λ : Loops 𝓤 H) (fm : FmC 𝓤 H (W .laws) C′) (known : Known 𝓤 H A mem′ run C′) (known-replay : Triple 𝓤 (C′ replay-def.name) (Replay 𝓤 H A mem′ run)) (l₀ l₁ l₂ l₃ l₄ l₅ l₆ l₇ l₈ l₉ l₁₀ l₁₁ l₁₂ l₁₃ l₁₄ l₁₅ : ℕ) where
     abbrev E : Env 𝓤 H
-    E = Fresh.E 𝓤 H (sliceTy (tyRef (named 3) imm (tyInt w8))) l₀ l₁ l₂ l₃ l₄ l₅ l₆ l₇ l₈ l₉ l₁₀ l₁₁ l₁₂ l₁₃ l₁₄ l₁₅ l₁₆ l₁₇
+    E = Fresh.E 𝓤 H (sliceTy (tyRef (named 3) imm (tyInt w8))) l₀ l₁ l₂ l₃ l₄ l₅ l₆ l₇ l₈ l₉ l₁₀ l₁₁ l₁₂ l₁₃ l₁₄ l₁₅
 
-    abbrev held : Content → ℕ → List Content
-    held v₆ n = Fresh.held a sp blank v₆ n
+    abbrev held : Content → Content → Bool → ℕ → List Content
+    held v₀ v₅ flag n = Fresh.held a sp v₀ v₅ (holds (vbool flag)) n
 
-    calls-it : Has (a .c) → Is D.the-row (a .d) (D′.lowered (a .d) ∷ []) → Sq W (Open H a (a .t) (a .d) (a .c) (locals E (held blank 8) (‵ (flft κp qp) ∷ ‵ OwnP ∷ []))) (runs C′ Λ E mir.t-9 (atRet E Post))
-    calls-it gc gd =
-        nothing ! $ move ! (55 ∷ 0 ∷ []) $ fjoin ! $ owned ! D.the-row (Is D.the-row) (LL.makes D.the-type D′.the-plain 𝓤 H A) (a .d) _ gd $ fjoin ! $ owned ! bool (Is bool) (bool-makes 𝓤 H A W) (a .c .ais) _ refl $ fjoin ! $ owned ! usize (Is usize) (uint-makes 𝓤 H A W w64) (length (a .t)) _ (refl, room .0) $ fjoin ! $ nothing ! $ move ! (55 ∷ 0 ∷ []) $ join ! $
-        -- [T; O; the table; the device record; what closes each; the arrays from 10; …]
-        move ! (10 ∷ 11 ∷ 12 ∷ 13 ∷ 0 ∷ 1 ∷ []) $
-        calls-four ! fm (Replay 𝓤 H A mem′ run) known-replay mutably to-replay (a .c) gc (a .bc) (a .oc) St.the-row T O Leaves (λ z w. Replayed (length (a .t)) (a .c) (left-by mutably (a .c) w) (a .d) ps z) goes (λ n v. id⊢ 𝓤 _) (λ n i.
-        (and-then ! (load ! (from ! (stop !)) (look ! 34 refl)) (and-then ! (load ! (from ! (stop !)) (look ! 36 refl)) (and-then ! (load ! (from ! (stop !)) (look ! 38 refl)) (and-then ! (load ! (from ! (stop !)) (look ! 40 refl)) (and-then ! (load ! (from ! (stop !)) (look ! 42 refl)) (and-then ! (load ! (from ! (stop !)) (look ! 44 refl)) (and-then ! (load ! (from ! (stop !)) (look ! 28 refl)) (and-then ! (load ! (from ! (stop !)) (look ! 26 refl)) (no-more !)))))))))) (λ z v w φ g′ is.
-        land ! (from ! (stop !)) (init ! 31 refl (LL.lawful St.the-type St′.the-laws 𝓤 H A W .typed z _ is .0)) $ rewrite ! 31 (λ (u : Val). ‵ (fat fullShare St′.mir l₆ 0 u)) (ap only (St′.lowers .val-is z (v ∷ []) is)) refl $
-        -- [the arrays; T; the rest's last values; the table; …]
-        move ! (5 ∷ []) $ drop ! $ move ! (4 ∷ []) $ split ! $ move ! (1 ∷ []) $ drop ! $ move ! (0 ∷ 5 ∷ 6 ∷ 7 ∷ 8 ∷ 9 ∷ 10 ∷ 11 ∷ 12 ∷ 1 ∷ 2 ∷ 3 ∷ 4 ∷ []) $ swaps ! (‵ (flft κp qp) ∷ []) (Open H a (a .t) (a .d) (left-by mutably (a .c) w) (locals E (held (holds (St′.lowered z)) 9) [])) $
-        finishes 𝓤 H A W mem′ run a room (sliceTy (tyRef (named 3) imm (tyInt w8))) sp Post C′ Λ fm known (‵ (flft κp qp) ∷ []) l₀ l₁ l₂ l₃ l₄ l₅ l₆ l₇ l₈ l₉ l₁₀ l₁₁ l₁₂ l₁₃ l₁₄ l₁₅ l₁₆ l₁₇ z (left-by mutably (a .c) w) gd g′ (subst (Is St.the-row z) (St′.lowers .val-is z (v ∷ []) is) is) (λ e is′. exits _ (z .device) _ (z .answer) (play-promises (a .c) (left-by mutably (a .c) w) (a .d) (a .t) ps z refl φ valid) e is′))
+    abbrev X : List (Item 𝓤)
+    X = ‵ (flft κp qp) ∷ []
+
+    abbrev Then : Kit.Post 𝓤 H
+    Then = anyQ (afterSeq 𝓤 H (Wp 𝓤 H C′ Λ E mir.t-12 (atReturn 𝓤 H E Post)) (atReturn 𝓤 H E Post))
+
+    module _ (right : length (a .t) ≡ paperLimits .places) (gd : Is D.the-row (a .d) (D′.lowered (a .d) ∷ [])) where
+      -- once the list is played, or refused by its form
+      module _ (r : Started) (c′ : Controller) (gc′ : Has c′) (gr : Is St.the-row r (St′.lowered r ∷ [])) (same : c′ .ais ≡ a .c .ais) (φ : Replayed (a .c) c′ ps r) where
+        -- nothing has changed
+        keeps-it : eqb (r .restored) 0 ≡ true → Sq W (Open H a (a .t) (a .d) c′ (locals E (held blank (holds (St′.lowered r)) (eqb (r .restored) 0) 5) X)) (runs C′ Λ E (taken mir.s-11) Then)
+        keeps-it z =
+            assigns ! (of-opd ! (load ! (from ! (fld ! refl (stop !))) (look-in ! 27 (sub ! 0 refl (whole !))))) (from ! (stop !)) (init ! 17 refl (LL.lawful An.the-type An′.the-laws 𝓤 H A W .typed (r .answer) _ (LL.owed St.the-type St′.the-laws r _ gr .0) .0)) $
+            closes-all ! tt a (a .t) (a .d) c′ refl gd gc′ $ returns-within ! Post refl (look ! 9 refl) $
+            swaps ! (Closed a (a .t) (a .d) c′ []) (locals E (held (holds (An′.lowered (r .answer))) (holds (St′.lowered r)) (eqb (r .restored) 0) 5) X) $ frees-all ! E (held (holds (An′.lowered (r .answer))) (holds (St′.lowered r)) (eqb (r .restored) 0) 5) $
+            by ! (exits c′ (a .d) (a .t) (r .answer) (same-promises (a .c) c′ (a .d) (a .t) ps r same right (valid right) φ (eqb-true (r .restored) 0 z)) refl (LL.owed St.the-type St′.the-laws r _ gr .0))
+
+        tests-it : Sq W (Open H a (a .t) (a .d) c′ (locals E (held blank (holds (St′.lowered r)) (a .c .ais) 5) X)) (runs C′ Λ E mir.t-10 (atRet E Post))
+        tests-it =
+            assigns ! (bin ! (load ! (from ! (fld ! refl (stop !))) (look-in ! 27 (sub ! 3 refl (whole !)))) (lit ! tt) tt) (from ! (stop !)) (store ! 31 refl (tt, tt)) $
+            first ! $ branches ! (load ! (from ! (stop !)) (look ! 31 refl)) (λ t. keeps-it (holds-true (eqb (r .restored) 0) t))
+            (λ t. skips ! $ exec ! C′ Λ E mir.t-12 (atRet E Post) $
+            finishes 𝓤 H A W mem′ run a room (sliceTy (tyRef (named 3) imm (tyInt w8))) sp Post C′ Λ fm known X l₀ l₁ l₂ l₃ l₄ l₅ l₆ l₇ l₈ l₉ l₁₀ l₁₁ l₁₂ l₁₃ l₁₄ l₁₅ r c′ (eqb (r .restored) 0) gd gc′ gr (λ e is. exits c′ (r .device) _ (r .answer) (play-promises (a .c) c′ (a .d) (a .t) ps r same right (valid right) φ (eqb-false (r .restored) 0 (holds-false (eqb (r .restored) 0) t))) e is))
+
+      goes : (n : Loan) → ent 𝓤 (⋆ 𝓤 H A (Toks n T ∷ ‵ (Lent mutably n (a .c) (a .bc) (a .oc) O) ∷ [])) (Replay 𝓤 H A mem′ run .pre (to-replay n))
+      goes n = qed W (Toks n T ∷ ‵ (Lent mutably n (a .c) (a .bc) (a .oc) O) ∷ []) ∵ says ! (valid right .ready) $ done !
+
+      calls-it : Has (a .c) → Sq W (Open H a (a .t) (a .d) (a .c) (locals E (held blank blank (Fresh.wrong a) 5) (‵ (flft κp qp) ∷ ‵ OwnP ∷ []))) (runs C′ Λ E mir.t-8 (atRet E Post))
+      calls-it gc =
+          assigns ! (of-opd ! (load ! (from ! (hop ! (look ! 19 refl) (fld ! refl (stop !)))) (look ! 12 refl))) (from ! (stop !)) (store ! 31 refl (tt, tt)) $
+          nothing ! $ move ! (51 ∷ 0 ∷ []) $ fjoin ! $ owned ! bool (Is bool) (bool-makes 𝓤 H A W) (a .c .ais) _ refl $ fjoin ! $ nothing ! $ move ! (51 ∷ 0 ∷ []) $ join ! $
+          -- [T; O; the table; the device record; what closes each; the arrays from 10; …]
+          move ! (10 ∷ 11 ∷ 12 ∷ 13 ∷ 0 ∷ 1 ∷ []) $
+          calls-four ! fm (Replay 𝓤 H A mem′ run) known-replay mutably to-replay (a .c) gc (a .bc) (a .oc) St.the-row T O Leaves (λ z w. Replayed (a .c) (left-by mutably (a .c) w) ps z) goes (λ n v. id⊢ 𝓤 _) (λ n i.
+          (and-then ! (load ! (from ! (stop !)) (look ! 34 refl)) (and-then ! (load ! (from ! (stop !)) (look ! 36 refl)) (and-then ! (load ! (from ! (stop !)) (look ! 38 refl)) (and-then ! (load ! (from ! (stop !)) (look ! 40 refl)) (and-then ! (load ! (from ! (stop !)) (look ! 32 refl)) (and-then ! (load ! (from ! (stop !)) (look ! 26 refl)) (no-more !)))))))) (λ z v w φ g′ is.
+          land ! (from ! (stop !)) (init ! 29 refl (LL.lawful St.the-type St′.the-laws 𝓤 H A W .typed z _ is .0)) $ rewrite ! 29 (λ (u : Val). ‵ (fat fullShare St′.mir l₅ 0 u)) (ap only (St′.lowers .val-is z (v ∷ []) is)) refl $
+          -- [the arrays; T; the rest's last values; the table; …]
+          move ! (5 ∷ []) $ drop ! $ move ! (4 ∷ []) $ split ! $ move ! (1 ∷ []) $ drop ! $ move ! (0 ∷ 5 ∷ 6 ∷ 7 ∷ 8 ∷ 9 ∷ 10 ∷ 11 ∷ 12 ∷ 1 ∷ 2 ∷ 3 ∷ 4 ∷ []) $ swaps ! (‵ (flft κp qp) ∷ []) (Open H a (a .t) (a .d) (left-by mutably (a .c) w) (locals E (held blank (holds (St′.lowered z)) (a .c .ais) 5) [])) $
+          tests-it z (left-by mutably (a .c) w) g′ (subst (Is St.the-row z) (St′.lowers .val-is z (v ∷ []) is) is) refl φ)
 
   walk : (C′ : Calls 𝓤 H) (Λ : Loops 𝓤 H) (fm : FmC 𝓤 H (W .laws) C′) → Known 𝓤 H A mem′ run C′ → Triple 𝓤 (C′ replay-def.name) (Replay 𝓤 H A mem′ run) → ent 𝓤 (onEntry 𝓤 H A f.signature (bound .0 .0) (bound .0 .1) x at) (WpFn 𝓤 H C′ Λ code.function (vptr (a .bc) (a .oc) ∷ vptr (a .bd) (a .od) ∷ table a ∷ sp ∷ []) Post)
   walk C′ Λ fm known known-replay =
@@ -117,9 +149,11 @@ module _ {M : Type 1} (𝓤 : URA M) (H : Heap 𝓤) (A : Atoms 𝓤) (W : Given
       takes-all ! a $ move ! (7 ∷ []) $ fsplit ! $ move ! (8 ∷ []) $ split ! $
       -- [the list's token; true; the list; true; the references]
       keep ! (4 ∷ 5 ∷ 6 ∷ 7 ∷ 8 ∷ 9 ∷ 0 ∷ 2 ∷ []) $ enter ! C′ Λ code.function (vptr (a .bc) (a .oc) ∷ vptr (a .bd) (a .od) ∷ table a ∷ sp ∷ []) _ $
-      alloc1 ! (λ l₀. alloc1 ! (λ l₁. alloc1 ! (λ l₂. alloc1 ! (λ l₃. alloc1 ! (λ l₄. alloc1 ! (λ l₅. alloc1 ! (λ l₆. alloc1 ! (λ l₇. alloc1 ! (λ l₈. alloc1 ! (λ l₉. alloc1 ! (λ l₁₀. alloc1 ! (λ l₁₁. alloc1 ! (λ l₁₂. alloc1 ! (λ l₁₃. alloc1 ! (λ l₁₄. alloc1 ! (λ l₁₅. alloc1 ! (λ l₁₆. alloc1 ! (λ l₁₇. alloc0 ! $ params1 ! $
-      pass1 ! (init ! 32 refl (tt, tt)) $ pass1 ! (init ! 30 refl (tt, tt)) $ pass1 ! (init ! 28 refl (tt, (tt, (record { fits = room .0 }, tt)))) $ pass1 ! (init ! 26 refl (tt, (tt, (record { fits = room-p .0 }, tt)))) $ pass0 ! $
-      keep ! (36 ∷ 37 ∷ 38 ∷ 39 ∷ 40 ∷ 41 ∷ 34 ∷ 35 ∷ 32 ∷ 33 ∷ 30 ∷ 31 ∷ 28 ∷ 29 ∷ 26 ∷ 27 ∷ 24 ∷ 25 ∷ 22 ∷ 23 ∷ 20 ∷ 21 ∷ 18 ∷ 19 ∷ 16 ∷ 17 ∷ 14 ∷ 15 ∷ 12 ∷ 13 ∷ 10 ∷ 11 ∷ 8 ∷ 9 ∷ 6 ∷ 7 ∷ 4 ∷ 5 ∷ 2 ∷ 3 ∷ 0 ∷ 1 ∷ 42 ∷ 43 ∷ []) $ starts 𝓤 H A W mem′ run a room (sliceTy (tyRef (named 3) imm (tyInt w8))) sp Post C′ Λ fm known (‵ (flft κp qp) ∷ ‵ OwnP ∷ []) l₀ l₁ l₂ l₃ l₄ l₅ l₆ l₇ l₈ l₉ l₁₀ l₁₁ l₁₂ l₁₃ l₁₄ l₁₅ l₁₆ l₁₇ mir.t-9 (calls-it C′ Λ fm known known-replay l₀ l₁ l₂ l₃ l₄ l₅ l₆ l₇ l₈ l₉ l₁₀ l₁₁ l₁₂ l₁₃ l₁₄ l₁₅ l₁₆ l₁₇)))))))))))))))))))
+      alloc1 ! (λ l₀. alloc1 ! (λ l₁. alloc1 ! (λ l₂. alloc1 ! (λ l₃. alloc1 ! (λ l₄. alloc1 ! (λ l₅. alloc1 ! (λ l₆. alloc1 ! (λ l₇. alloc1 ! (λ l₈. alloc1 ! (λ l₉. alloc1 ! (λ l₁₀. alloc1 ! (λ l₁₁. alloc1 ! (λ l₁₂. alloc1 ! (λ l₁₃. alloc1 ! (λ l₁₄. alloc1 ! (λ l₁₅. alloc0 ! $ params1 ! $
+      pass1 ! (init ! 28 refl (tt, tt)) $ pass1 ! (init ! 26 refl (tt, tt)) $ pass1 ! (init ! 24 refl (tt, (tt, (record { fits = room .0 }, tt)))) $ pass1 ! (init ! 22 refl (tt, (tt, (record { fits = room-p .0 }, tt)))) $ pass0 ! $
+      keep ! (32 ∷ 33 ∷ 34 ∷ 35 ∷ 36 ∷ 37 ∷ 30 ∷ 31 ∷ 28 ∷ 29 ∷ 26 ∷ 27 ∷ 24 ∷ 25 ∷ 22 ∷ 23 ∷ 20 ∷ 21 ∷ 18 ∷ 19 ∷ 16 ∷ 17 ∷ 14 ∷ 15 ∷ 12 ∷ 13 ∷ 10 ∷ 11 ∷ 8 ∷ 9 ∷ 6 ∷ 7 ∷ 4 ∷ 5 ∷ 2 ∷ 3 ∷ 0 ∷ 1 ∷ 38 ∷ 39 ∷ []) $
+      starts 𝓤 H A W mem′ run a room (sliceTy (tyRef (named 3) imm (tyInt w8))) sp Post C′ Λ fm known (‵ (flft κp qp) ∷ ‵ OwnP ∷ []) l₀ l₁ l₂ l₃ l₄ l₅ l₆ l₇ l₈ l₉ l₁₀ l₁₁ l₁₂ l₁₃ l₁₄ l₁₅
+      wrong-exits mir.t-8 (λ right gc gd. calls-it C′ Λ fm known known-replay l₀ l₁ l₂ l₃ l₄ l₅ l₆ l₇ l₈ l₉ l₁₀ l₁₁ l₁₂ l₁₃ l₁₄ l₁₅ right gd gc)))))))))))))))))
 
 module _ {M : Type 1} (𝓤 : URA M) (H : Heap 𝓤) (A : Atoms 𝓤) (W : Given 𝓤 H A) (mem′ : Memory → SProp 𝓤) (run : Routine → Fun 𝓤) where
   walks : (C′ : Calls 𝓤 H) (Λ : Loops 𝓤 H) → FmC 𝓤 H (W .laws) C′ → Known 𝓤 H A mem′ run C′ → Triple 𝓤 (C′ replay-def.name) (Replay 𝓤 H A mem′ run) → Walks 𝓤 H A f.ended stayed (WpFn 𝓤 H C′ Λ code.function) (f.clauses 𝓤 H A mem′ run)
@@ -139,7 +173,7 @@ flic-play-list-spec 𝓤 H 𝓜 𝓖 𝓡 =
     entered 𝓤 H (tripleOf 𝓤 H (𝓖 .A) f.signature (f.spec 𝓤 H (𝓖 .A) (𝓜 .mem) (𝓡 .run)))
     (tables 𝓤 H 𝓜 𝓡 code.env .C) (tables 𝓤 H 𝓜 𝓡 code.env .Λ) #key code.function (code.unfolded 𝓤 H 𝓜 𝓡)
     (meets 𝓤 H (𝓖 .A) (givenOf 𝓤 H 𝓜 𝓖) (𝓜 .mem) (𝓡 .run) (tablesOf 𝓤 H 𝓜 (tables 𝓤 H 𝓜 𝓡 code.env)) (record {
-      read-device = cited 𝓤 H (ReadDevice 𝓤 H (𝓖 .A) (𝓜 .mem) (𝓡 .run)) 𝓜 𝓡 code.env read-device-def.name read-device-def.routine code.calls-table·read-device (read-device-thm.met 𝓤 H 𝓜 𝓖 𝓡);
+      refuse = cited 𝓤 H (Refuse 𝓤 H (𝓖 .A) (𝓜 .mem) (𝓡 .run)) 𝓜 𝓡 code.env refuse-def.name refuse-def.routine code.calls-answers·refuse (refuse-thm.met 𝓤 H 𝓜 𝓖 𝓡);
       store-device = cited 𝓤 H (StoreDevice 𝓤 H (𝓖 .A) (𝓜 .mem) (𝓡 .run)) 𝓜 𝓡 code.env store-device-def.name store-device-def.routine code.calls-table·store-device (store-device-thm.met 𝓤 H 𝓜 𝓖 𝓡);
       restore = cited 𝓤 H (Restore 𝓤 H (𝓖 .A) (𝓜 .mem) (𝓡 .run)) 𝓜 𝓡 code.env restore-def.name restore-def.routine code.calls-table·restore (restore-thm.met 𝓤 H 𝓜 𝓖 𝓡);
     }) (cited 𝓤 H (Replay 𝓤 H (𝓖 .A) (𝓜 .mem) (𝓡 .run)) 𝓜 𝓡 code.env replay-def.name replay-def.routine code.calls-controller·replay (replay-thm.met 𝓤 H 𝓜 𝓖 𝓡)))

@@ -1,79 +1,79 @@
--- `flic_set`: the table, the device record and the controller are opened at entry and closed at the exit. In between the walk holds their memory.
-use Rattle.flic.proofs.Walk.{_≡_, refl, sym, ap, subst, ℕ, _<_, _^_, Bool, true, false, [], _∷_, List, length, getD, set, length-set, URA, fullShare, named, erased, w8, w64, tyInt, tyBool, tyUnit, tyRef, imm, mut, Val, vunit, vint, vbool, vptr, SProp, ent, id⊢, GName, Lft, Share, Fml, ftrue, fsep, flft, fat, Memory, Routine, Heap, Env, Calls, Loops, WpFn, Tables, Atoms, Fun, givenOf, tables, tablesOf, Given, Item, Sq, runs, atRet, ‵, ⋆, _⊛_, _$_, _∵_, !, qed, by, move, keep, drop, split, join, rewrite, fsplit, fjoin, suffices, frame, done, look, store, init, stop, hop, fld, from, load, addr, of-opd, and-then, no-more, assigns, land, returns, enter, alloc1, alloc0, params1, pass1, pass0, agg, whole, sub, look-in, FmC, fmOf, WpFn-mono, owns, Is, pointee, bool-makes, uint-vals, uint-tells, uint-makes, u8, u64, RefT, ptr-vals, mut-tells, sliceVal, sliceTy, ShrSlice, Room, slice-vals, mut-slice-tells, shr-slice-tells, plain, only, owned, nothing, onEntry, Meets, tripleOf, Contract, Triple, entered, cited, says, Stays, stay-ref, stay-slice, walkOf, goes-ref, goes-slice, Walks, ends-at, walked, walk-meets, yes, _+_, _∙_, _++_, w32, tyArray, u32, usize, bool, needs, stay-dropped, goes-dropped, Wp, afterSeq, atReturn, anyQ, first, skips, branches, exec, returns-within}
+-- `flic_set`: the table's length is looked at first. Then the table, the device record and the controller are opened, the class of the group decides which function is called, and all is
+-- closed at the exit. In between the walk holds their memory.
+use Rattle.flic.proofs.Walk.{_≡_, refl, sym, ap, subst, ℕ, _<_, _^_, Bool, true, false, [], _∷_, List, length, getD, URA, fullShare, named, erased, w8, w64, tyInt, tyBool, tyUnit, tyRef, imm, mut, Val, vunit, vint, vbool, vptr, SProp, ent, id⊢, GName, Lft, Share, Fml, ftrue, fsep, flft, fat, Memory, Routine, Heap, Env, Calls, Loops, WpFn, Tables, Atoms, Fun, givenOf, tables, tablesOf, Given, Item, Sq, runs, atRet, ‵, ⋆, _⊛_, _$_, _∵_, !, qed, by, move, keep, drop, split, join, rewrite, fsplit, fjoin, suffices, frame, done, look, store, init, stop, hop, fld, from, load, lit, addr, of-opd, bin, and-then, no-more, assigns, land, enter, alloc1, alloc0, params1, pass1, pass0, agg, whole, sub, look-in, FmC, fmOf, WpFn-mono, owns, Is, pointee, bool-makes, uint-vals, uint-tells, uint-makes, u8, u64, RefT, ptr-vals, mut-tells, sliceVal, sliceTy, ShrSlice, Room, slice-vals, mut-slice-tells, shr-slice-tells, plain, only, owned, nothing, onEntry, Meets, tripleOf, Contract, Triple, entered, cited, says, Stays, stay-ref, stay-slice, walkOf, goes-ref, goes-slice, Walks, ends-at, walked, walk-meets, yes, _+_, _∙_, w32, tyArray, u32, bool, needs, stay-dropped, goes-dropped, Wp, afterSeq, atReturn, anyQ, first, skips, branches, exec, returns-within}
 use types.Kit as Kit
-use lib.Dec.{T as Holds}
+use types.Kit.{post}
+use prog.Wp.{returns as returnsᴼ}
+use native.Mathlib.Omega.{arith}
+use lib.Dec.{eqb}
 use mathlib.Core.Bool.{not}
+use borrow.Author.Tests.{eqb-true, eqb-false}
 use package.mir.Syntax.{return}
 use denote.Struct.Laws as LL
 use denote.Signature.{shrSliceOf}
 use Rattle.rules.specs.State.{paperLimits}
 use Rattle.rules.specs.Machine.{setAttr}
+use Rattle.rules.proofs.Checks.{chosen, passed}
+use Rattle.rules.proofs.Lists.{all-get}
 use Rattle.words.specs.declared.AdapterId.{AdapterId}
 use Rattle.words.proofs.AdapterId as I
 use Rattle.words.proofs.AdapterId.Laws as I′
 use Rattle.answers.specs.declared.Answer.{Answer}
 use Rattle.answers.proofs.Answer as An
 use Rattle.answers.proofs.Answer.Laws as An′
+use Rattle.answers.proofs.refuse.Symbol as refuse-def
+use Rattle.answers.proofs.refuse.Met as refuse-thm
 use Rattle.adapters.specs.declared.Device.{Device}
 use Rattle.adapters.specs.declared.Place.{Place}
-use Rattle.adapters.specs.Values.{unused, withMasked}
+use Rattle.adapters.specs.Values.{unused, Canonical, injectedDevice}
 use Rattle.adapters.proofs.Device as D
 use Rattle.adapters.proofs.Device.Laws as D′
 use Rattle.adapters.proofs.Place as P
 use Rattle.adapters.proofs.Place.Laws as P′
-use Rattle.values.specs.States.{aboutOf}
-use Rattle.table.proofs.Count.{after, taken}
-use Rattle.table.proofs.Places.{FitsId, typed-id, makes-id}
-use Rattle.table.proofs.Record.{ReadDevice, StoreDevice, reads-device, stores-device}
-use Rattle.table.proofs.Calls.{LookUp, Register, Mask, looks-up, registers, masks}
-use Rattle.controller.specs.declared.Controller.{Controller}
-use Rattle.controller.specs.declared.Decision.{Decision}
-use Rattle.flic.specs.Surface.{Valid, Requested}
-use Rattle.controller.specs.Inner.{controller, Recorded, Decided}
-use Rattle.controller.proofs.Controller as C
-use Rattle.controller.proofs.Decision as De
-use Rattle.controller.proofs.Decision.Laws as De′
-use Rattle.flic.proofs.Promises.{enteredIn, tableAfter, may-decide, record-promises, set-promises}
-use Rattle.flic.proofs.Locals.{Content, blank, holds, since, locals, frees-all, swaps}
-use Rattle.flic.proofs.Opened.{Has}
-use Rattle.flic.proofs.All.{Refs, refs, at-ctl, at-dev, at-tab, table, Owned, Tokens, Passed, Open, Closed, takes-all, opens-all, closes-all, gives-all}
-use Rattle.flic.proofs.Four.{mutably, at-array, Loan, Toks, Lent, left-by, lent-lfts, lent-shares, lent-args, lent-vals, calls-four}
-use Rattle.flic.proofs.Calls.{Group, About, asks-group, asks-about}
-use Rattle.core.specs.Cases.{onRecords}
-use Rattle.core.proofs.on_records.Symbol as group-def
-use Rattle.core.proofs.on_records.Met as group-thm
-use Rattle.controller.proofs.answer_records as answer-records
-use Rattle.controller.proofs.answer_records.Symbol as answer-records-def
-use Rattle.controller.proofs.answer_records.Met as answer-records-thm
-use Rattle.values.proofs.about.Symbol as about-def
-use Rattle.values.proofs.about.Met as about-thm
+use Rattle.values.specs.States.{onPlace}
+use Rattle.values.proofs.on_place.Symbol as on-place-def
+use Rattle.values.proofs.on_place.Met as on-place-thm
+use Rattle.table.proofs.Count.{after, afters, taken}
+use Rattle.table.proofs.Places.{FitsId, fit-id, typed-id, makes-id}
+use Rattle.table.proofs.Locals.{Content, blank, holds, since, locals, frees-front, swaps, holds-true, holds-false, not-not}
+use Rattle.table.proofs.Answered.{FitsAnswer, refused, Refuse, refuses}
+use Rattle.table.proofs.Requests.{canonical-unused}
+use Rattle.table.proofs.Record.{ReadDevice, NoteInjection, reads-device, notes-injection}
+use Rattle.table.proofs.Calls.{LookUp, looks-up}
 use Rattle.table.proofs.look_up.Symbol as look-up-def
 use Rattle.table.proofs.look_up.Met as look-up-thm
 use Rattle.table.proofs.read_device.Symbol as read-device-def
 use Rattle.table.proofs.read_device.Met as read-device-thm
-use Rattle.controller.proofs.decide as decide
-use Rattle.controller.proofs.decide.Symbol as decide-def
-use Rattle.controller.proofs.decide.Met as decide-thm
-use Rattle.table.proofs.store_device.Symbol as store-device-def
-use Rattle.table.proofs.store_device.Met as store-device-thm
-use Rattle.table.proofs.register.Symbol as register-def
-use Rattle.table.proofs.register.Met as register-thm
-use Rattle.table.proofs.mask.Symbol as mask-def
-use Rattle.table.proofs.mask.Met as mask-thm
+use Rattle.table.proofs.note_injection.Symbol as note-injection-def
+use Rattle.table.proofs.note_injection.Met as note-injection-thm
+use Rattle.table.proofs.set_place.Symbol as set-place-def
+use Rattle.table.proofs.set_place.Met as set-place-thm
+use Rattle.table.proofs.set_modes.Symbol as set-modes-def
+use Rattle.table.proofs.set_modes.Met as set-modes-thm
+use Rattle.core.specs.Cases.{onRecords}
+use Rattle.core.proofs.Laws.{not-records}
+use Rattle.core.proofs.on_records.Symbol as group-def
+use Rattle.core.proofs.on_records.Met as group-thm
+use Rattle.controller.specs.declared.Controller.{Controller}
+use Rattle.controller.specs.Inner.{controller, notedIn, Recorded, Injected}
+use Rattle.controller.proofs.Controller as C
+use Rattle.controller.proofs.answer_records as answer-records
+use Rattle.controller.proofs.answer_records.Symbol as answer-records-def
+use Rattle.controller.proofs.answer_records.Met as answer-records-thm
+use Rattle.controller.proofs.answer_inject as answer-inject
+use Rattle.controller.proofs.answer_inject.Symbol as answer-inject-def
+use Rattle.controller.proofs.answer_inject.Met as answer-inject-thm
+use Rattle.flic.specs.Surface.{Valid, Requested}
+use Rattle.flic.proofs.Promises.{wrong-promises, record-promises, inject-promises, place-promises, modes-promises}
+use Rattle.flic.proofs.Opened.{Has}
+use Rattle.flic.proofs.All.{Refs, refs, at-ctl, at-dev, at-tab, table, Owned, Tokens, Passed, Open, Closed, takes-all, opens-all, closes-all, gives-all}
+use Rattle.flic.proofs.Four.{mutably, at-array, Loan, Toks, Lent, left-by, lent-lfts, lent-shares, lent-args, lent-vals, calls-four}
+use Rattle.flic.proofs.Calls.{Group, OnPlace, SetPlace, SetModes, asks-group, asks-place, sets-place, sets-modes}
 use Rattle.flic.proofs.flic_set.Key.{name as #key}
 use Rattle.flic.proofs.flic_set as f
 use Rattle.flic.proofs.flic_set.Statement as stated
 use Rattle.flic.proofs.flic_set.Code as code
 use Rattle.flic.proofs.flic_set.Code.Mir as mir
-
--- the outcome of a test
-holds-true : (b : Bool) → Holds b → b ≡ true
-holds-true true t = refl
-holds-true false t = absurd t
-
-holds-false : (b : Bool) → Holds (not b) → b ≡ false
-holds-false true t = absurd t
-holds-false false t = refl
 
 abbrev as-of : Controller → Bool → Controller
 as-of c ais = controller (c .slots) (c .order) (c .counts) (c .singles) ais
@@ -85,20 +85,21 @@ module _ {M : Type 1} (𝓤 : URA M) (H : Heap 𝓤) (A : Atoms 𝓤) (mem′ : 
   abbrev AnswerRecords : Contract 𝓤
   AnswerRecords = tripleOf 𝓤 H A answer-records.signature (answer-records.spec 𝓤 H A mem′ run)
 
-  abbrev Decide : Contract 𝓤
-  Decide = tripleOf 𝓤 H A decide.signature (decide.spec 𝓤 H A mem′ run)
+  abbrev AnswerInject : Contract 𝓤
+  AnswerInject = tripleOf 𝓤 H A answer-inject.signature (answer-inject.spec 𝓤 H A mem′ run)
 
-  -- what is known of the nine callees
+  -- what is known of the ten callees
   pub record Known (C′ : Calls 𝓤 H) : Type 1 where
+    pub refuse : Triple 𝓤 (C′ refuse-def.name) (Refuse 𝓤 H A mem′ run)
     pub looks : Triple 𝓤 (C′ group-def.name) (Group 𝓤 H A mem′ run)
     pub records : Triple 𝓤 (C′ answer-records-def.name) AnswerRecords
-    pub about : Triple 𝓤 (C′ about-def.name) (About 𝓤 H A mem′ run)
     pub look-up : Triple 𝓤 (C′ look-up-def.name) (LookUp 𝓤 H A mem′ run)
     pub read-device : Triple 𝓤 (C′ read-device-def.name) (ReadDevice 𝓤 H A mem′ run)
-    pub decide : Triple 𝓤 (C′ decide-def.name) Decide
-    pub store-device : Triple 𝓤 (C′ store-device-def.name) (StoreDevice 𝓤 H A mem′ run)
-    pub register : Triple 𝓤 (C′ register-def.name) (Register 𝓤 H A mem′ run)
-    pub mask : Triple 𝓤 (C′ mask-def.name) (Mask 𝓤 H A mem′ run)
+    pub inject : Triple 𝓤 (C′ answer-inject-def.name) AnswerInject
+    pub note : Triple 𝓤 (C′ note-injection-def.name) (NoteInjection 𝓤 H A mem′ run)
+    pub on-place : Triple 𝓤 (C′ on-place-def.name) (OnPlace 𝓤 H A mem′ run)
+    pub set-place : Triple 𝓤 (C′ set-place-def.name) (SetPlace 𝓤 H A mem′ run)
+    pub set-modes : Triple 𝓤 (C′ set-modes-def.name) (SetModes 𝓤 H A mem′ run)
 
 module _ {M : Type 1} (𝓤 : URA M) (H : Heap 𝓤) (A : Atoms 𝓤) (W : Given 𝓤 H A) (mem′ : Memory → SProp 𝓤) (run : Routine → Fun 𝓤)
     (a : Refs) (κp : Lft) (qp : Share) (bp op : ℕ) (γp : GName) (group attr : ℕ) (ps : List ℕ)
@@ -130,7 +131,9 @@ module _ {M : Type 1} (𝓤 : URA M) (H : Heap 𝓤) (A : Atoms 𝓤) (W : Given
 
   module _ (C′ : Calls 𝓤 H) (Λ : Loops 𝓤 H) (fm : FmC 𝓤 H (W .laws) C′) (known : Known 𝓤 H A mem′ run C′) (l₀ l₁ l₂ l₃ l₄ l₅ l₆ l₇ l₈ l₉ l₁₀ l₁₁ l₁₂ l₁₃ l₁₄ l₁₅ l₁₆ l₁₇ l₁₈ l₁₉ l₂₀ l₂₁ l₂₂ l₂₃ l₂₄ l₂₅ l₂₆ l₂₇ l₂₈ l₂₉ l₃₀ l₃₁ : ℕ) where
     abbrev E : Env 𝓤 H
-    E = (An′.mir, l₀) ∷ (tyRef (named 0) mut (pointee (C.the-row .written)), l₁) ∷ (tyRef (named 1) mut (pointee (D.the-row .written)), l₂) ∷ (sliceTy (tyRef (named 2) mut (pointee (P.the-row .written))), l₃) ∷ (tyInt w32, l₄) ∷ (tyInt w64, l₅) ∷ (sliceTy (tyRef (named 3) imm (tyInt w8)), l₆) ∷ (I′.mir, l₇) ∷ (P′.mir, l₈) ∷ (D′.mir, l₉) ∷ (De′.mir, l₁₀) ∷ (tyBool, l₁₁) ∷ (tyRef erased mut (tyArray (tyInt w8) 18432), l₁₂) ∷ (tyRef erased mut (tyArray (tyInt w8) 256), l₁₃) ∷ (tyRef erased mut (tyArray (tyInt w64) 9), l₁₄) ∷ (tyRef erased mut (tyArray (tyInt w8) 146), l₁₅) ∷ (tyInt w64, l₁₆) ∷ (tyRef erased imm (pointee (P.the-row .written)), l₁₇) ∷ (sliceTy (tyRef erased imm (pointee (P.the-row .written))), l₁₈) ∷ (tyRef erased imm (pointee (D.the-row .written)), l₁₉) ∷ (tyRef erased mut (tyArray (tyInt w8) 18432), l₂₀) ∷ (tyRef erased mut (tyArray (tyInt w8) 256), l₂₁) ∷ (tyRef erased mut (tyArray (tyInt w64) 9), l₂₂) ∷ (tyRef erased mut (tyArray (tyInt w8) 146), l₂₃) ∷ (tyInt w64, l₂₄) ∷ (tyBool, l₂₅) ∷ (tyUnit, l₂₆) ∷ (tyRef erased mut (pointee (D.the-row .written)), l₂₇) ∷ (tyRef erased mut (pointee (P.the-row .written)), l₂₈) ∷ (sliceTy (tyRef erased mut (pointee (P.the-row .written))), l₂₉) ∷ (tyRef erased mut (pointee (P.the-row .written)), l₃₀) ∷ (sliceTy (tyRef erased mut (pointee (P.the-row .written))), l₃₁) ∷ []
+    E = (An′.mir, l₀) ∷ (tyRef (named 0) mut (pointee (C.the-row .written)), l₁) ∷ (tyRef (named 1) mut (pointee (D.the-row .written)), l₂) ∷ (sliceTy (tyRef (named 2) mut (pointee (P.the-row .written))), l₃) ∷ (tyInt w32, l₄) ∷ (tyInt w64, l₅) ∷ (sliceTy (tyRef (named 3) imm (tyInt w8)), l₆) ∷ (I′.mir, l₇) ∷ (P′.mir, l₈) ∷ (D′.mir, l₉) ∷ (An′.mir, l₁₀) ∷ (tyInt w64, l₁₁) ∷ (tyBool, l₁₂) ∷ (tyBool, l₁₃)
+        ∷ (tyRef erased mut (tyArray (tyInt w8) 18432), l₁₄) ∷ (tyRef erased mut (tyArray (tyInt w8) 256), l₁₅) ∷ (tyRef erased mut (tyArray (tyInt w64) 9), l₁₆) ∷ (tyRef erased mut (tyArray (tyInt w8) 146), l₁₇) ∷ (tyRef erased imm (pointee (P.the-row .written)), l₁₈) ∷ (sliceTy (tyRef erased imm (pointee (P.the-row .written))), l₁₉) ∷ (tyRef erased imm (pointee (D.the-row .written)), l₂₀)
+        ∷ (tyRef erased mut (tyArray (tyInt w8) 18432), l₂₁) ∷ (tyRef erased mut (tyArray (tyInt w8) 256), l₂₂) ∷ (tyRef erased mut (tyArray (tyInt w64) 9), l₂₃) ∷ (tyRef erased mut (tyArray (tyInt w8) 146), l₂₄) ∷ (tyBool, l₂₅) ∷ (tyUnit, l₂₆) ∷ (tyRef erased mut (pointee (D.the-row .written)), l₂₇) ∷ (tyBool, l₂₈) ∷ (tyRef erased mut (pointee (P.the-row .written)), l₂₉) ∷ (sliceTy (tyRef erased mut (pointee (P.the-row .written))), l₃₀) ∷ (tyRef erased mut (pointee (D.the-row .written)), l₃₁) ∷ []
 
     abbrev c : Controller
     c = a .c
@@ -141,183 +144,242 @@ module _ {M : Type 1} (𝓤 : URA M) (H : Heap 𝓤) (A : Atoms 𝓤) (W : Given
     abbrev ys : List Place
     ys = a .t
 
-    abbrev params : List Content
-    params = holds (vptr (a .bc) (a .oc)) ∷ holds (vptr (a .bd) (a .od)) ∷ holds (table a) ∷ holds (vint w32 group) ∷ holds (vint w64 attr) ∷ holds sp ∷ []
+    abbrev wrong : Bool
+    wrong = not (eqb (length ys) 64)
 
-    abbrev T : Item 𝓤
-    T = ‵ (flft κp qp) ⊛ ‵ ftrue
+    -- what the locals after the result hold: what the injection's locals hold, the two flags, how far each class's operands are taken, and the last locals of three classes
+    abbrev held : (c₇ c₈ c₉ c₁₀ : Content) (flag : Bool) (c₁₃ : Content) (records inject : ℕ) (c₂₅ c₂₆ c₂₇ c₂₈ : Content) (place : ℕ) (c₃₁ : Content) → List Content
+    held c₇ c₈ c₉ c₁₀ flag c₁₃ records inject c₂₅ c₂₆ c₂₇ c₂₈ place c₃₁ =
+        holds (vptr (a .bc) (a .oc)) ∷ holds (vptr (a .bd) (a .od)) ∷ holds (table a) ∷ holds (vint w32 group) ∷ holds (vint w64 attr) ∷ holds sp ∷ c₇ ∷ c₈ ∷ c₉ ∷ c₁₀ ∷ holds (vint w64 (length ys)) ∷ holds (vbool flag) ∷ c₁₃
+        ∷ since 1 records (vptr (a .bc) (a .oc + 0)) ∷ since 2 records (vptr (a .bc) (a .oc + 18432)) ∷ since 3 records (vptr (a .bc) (a .oc + 18688)) ∷ since 4 records (vptr (a .bc) (a .oc + 18760))
+        ∷ since 1 inject (vptr (a .bt) (a .ot)) ∷ since 2 inject (table a) ∷ since 3 inject (vptr (a .bd) (a .od)) ∷ since 4 inject (vptr (a .bc) (a .oc + 0)) ∷ since 5 inject (vptr (a .bc) (a .oc + 18432)) ∷ since 6 inject (vptr (a .bc) (a .oc + 18688)) ∷ since 7 inject (vptr (a .bc) (a .oc + 18760))
+        ∷ c₂₅ ∷ c₂₆ ∷ c₂₇ ∷ c₂₈ ∷ since 1 place (vptr (a .bt) (a .ot)) ∷ since 2 place (table a) ∷ c₃₁ ∷ []
 
+    -- before any class is chosen; once it is known whether the request is about records, an injection, about a place
+    abbrev grouped : Bool → Content → List Content
+    grouped flag c₂₈ = held blank blank blank blank flag (holds (vbool (onRecords group))) 0 0 blank blank blank c₂₈ 0 blank
+
+    -- all is opened, with the payload and its token
+    abbrev At : List Place → Device → Controller → List Content → List (Item 𝓤)
+    At t m c′ vs = Open H a t m c′ (‵ (flft κp qp) ∷ ‵ OwnP ∷ locals E vs [])
+
+    -- the answer is the result: all is closed, and the function returns, in the midst of q
+    ends : (q : Kit.Post 𝓤 H) → post 𝓤 H q returnsᴼ ≡ atReturn 𝓤 H E Post returnsᴼ → (c′ : Controller) (m : Device) (zs : List Place) (z : Answer) → length zs ≡ length ys → Has c′ → Is D.the-row m (D′.lowered m ∷ []) → FitsAnswer z
+        → Requested (setAttr group attr) c c′ d m ys zs ps ps z → (rest : List Content) → Sq W (At zs m c′ (holds (An′.lowered z) ∷ rest)) (runs C′ Λ E return q)
+    ends q h c′ m zs z len gc′ gm gz requested rest =
+        closes-all ! tt a zs m c′ len gm gc′ $ move ! (10 ∷ []) $ drop ! $ returns-within ! Post h (look ! 10 refl) $
+        swaps ! (Closed a zs m c′ (‵ (flft κp qp) ∷ [])) (locals E (holds (An′.lowered z) ∷ rest) []) $ frees-front ! E (holds (An′.lowered z) ∷ rest) $ by ! (exits c′ m zs z len requested gz)
+
+    -- what follows the tests
     abbrev Then : Kit.Post 𝓤 H
-    Then = anyQ (afterSeq 𝓤 H (Wp 𝓤 H C′ Λ E mir.t-3 (atReturn 𝓤 H E Post)) (atReturn 𝓤 H E Post))
+    Then = anyQ (afterSeq 𝓤 H (Wp 𝓤 H C′ Λ E mir.t-4 (atReturn 𝓤 H E Post)) (atReturn 𝓤 H E Post))
 
-    -- ---- a request about pending records alone: after the arrays `answer_records` takes three values and the payload
-    module _ (yes : onRecords group ≡ true) (gc : Has c) (gd : Is D.the-row d (D′.lowered d ∷ [])) where
-      abbrev kept : Content → ℕ → List Content
-      kept v₀ n = v₀ ∷ (params ++ (blank ∷ blank ∷ blank ∷ blank ∷ holds (vbool (onRecords group)) ∷ since 1 n (vptr (a .bc) (a .oc + 0)) ∷ since 2 n (vptr (a .bc) (a .oc + 18432)) ∷ since 3 n (vptr (a .bc) (a .oc + 18688)) ∷ since 4 n (vptr (a .bc) (a .oc + 18760)) ∷ since 5 n (vint w64 (length ys)) ∷ []))
+    abbrev Then-records : Kit.Post 𝓤 H
+    Then-records = anyQ (afterSeq 𝓤 H (Wp 𝓤 H C′ Λ E mir.t-6 (atReturn 𝓤 H E Post)) (atReturn 𝓤 H E Post))
 
-      abbrev O₁ : Fml
-      O₁ = fsep (usize .own (length ys) (vint w64 (length ys) ∷ [])) (fsep (u32 .own group (vint w32 group ∷ [])) (fsep (u64 .own attr (vint w64 attr ∷ [])) (fsep OwnP ftrue)))
+    abbrev Then-inject : Kit.Post 𝓤 H
+    Then-inject = anyQ (afterSeq 𝓤 H (Wp 𝓤 H C′ Λ E mir.t-8 (atReturn 𝓤 H E Post)) (atReturn 𝓤 H E Post))
 
-      abbrev Leaves₁ : Unit {0} × (Unit {0} × (Unit {0} × (Unit {0} × Unit {0}))) → Fml
-      Leaves₁ y = fsep ftrue (fsep ftrue (fsep ftrue (fsep ftrue ftrue)))
+    abbrev Then-place : Kit.Post 𝓤 H
+    Then-place = anyQ (afterSeq 𝓤 H (Wp 𝓤 H C′ Λ E mir.t-10 (atReturn 𝓤 H E Post)) (atReturn 𝓤 H E Post))
 
-      abbrev to-records : Loan → AnswerRecords 𝓤 H A mem′ run .Ghost
-      to-records n = ((lent-lfts n (κp, tt), lent-shares (qp, tt), tt, lent-args n c (a .bc) (a .oc) (length ys, (group, (attr, (at-array bp op γp ps, tt)))), lent-vals (a .bc) (a .oc) (vint w64 (length ys) ∷ [], (vint w32 group ∷ [], (vint w64 attr ∷ [], (sp ∷ [], tt))))), tt)
+    -- ---- a wrong table
+    abbrev started : Content → List Content
+    started v₀ = v₀ ∷ held blank blank blank blank wrong blank 0 0 blank blank blank blank 0 blank
 
-      goes₁ : (n : Loan) → ent 𝓤 (⋆ 𝓤 H A (Toks n T ∷ ‵ (Lent mutably n c (a .bc) (a .oc) O₁) ∷ [])) (AnswerRecords 𝓤 H A mem′ run .pre (to-records n))
-      goes₁ n = qed W (Toks n T ∷ ‵ (Lent mutably n c (a .bc) (a .oc) O₁) ∷ []) ∵ says ! ((λ e. valid e .ready), yes) $ done !
+    refuses-it : eqb (length ys) 64 ≡ false → Sq W (Passed a (‵ (flft κp qp) ∷ ‵ OwnP ∷ locals E (started blank) [])) (runs C′ Λ E (taken mir.s-3) Then)
+    refuses-it e =
+        refuses ! mem′ run fm (known .refuse) 14 (omega arith) (λ i. (and-then ! (lit ! tt) (no-more !))) (λ g.
+        land ! (from ! (stop !)) (init ! 8 refl (LL.lawful An.the-type An′.the-laws 𝓤 H A W .typed (refused 14) _ g .0)) $
+        opens-all ! tt a (λ gc gd. ends Then refl c d ys (refused 14) refl gc gd g (wrong-promises c d ys ps (eqb-false (length ys) 64 e) (setAttr group attr) tt) (held blank blank blank blank wrong blank 0 0 blank blank blank blank 0 blank)))
 
-      -- the answer is the result, and all is closed
-      ends₁ : (z : Answer) (c′ : Controller) → Has c′ → Is An.the-row z (An′.lowered z ∷ []) → c′ .ais ≡ c .ais → Recorded (length ys) group attr c c′ ps z
-          → Sq W (Open H a ys d c′ (‵ (flft κp qp) ∷ locals E (kept (holds (An′.lowered z)) 5) [])) (runs C′ Λ E return Then)
-      ends₁ z c′ gc′ gz same φ =
-          closes-all ! tt a ys d c′ refl gd gc′ $ returns-within ! Post refl (look ! 10 refl) $ swaps ! (Closed a ys d c′ (‵ (flft κp qp) ∷ [])) (locals E (kept (holds (An′.lowered z)) 5) []) $
-          frees-all ! E (kept (holds (An′.lowered z)) 5) $ by ! (exits c′ d ys z refl (record-promises group attr c c′ d ys ps z same φ valid) gz)
+    module _ (right : length ys ≡ paperLimits .places) (gc : Has c) (gd : Is D.the-row d (D′.lowered d ∷ [])) where
+      -- ---- a request about pending records alone: after the arrays `answer_records` takes two values and the payload
+      module _ (yes : onRecords group ≡ true) where
+        abbrev recorded : Content → ℕ → List Content
+        recorded v₀ n = v₀ ∷ held blank blank blank blank wrong (holds (vbool (onRecords group))) n 0 blank blank blank blank 0 blank
 
-      records-it : Sq W (Open H a ys d c (‵ (flft κp qp) ∷ ‵ OwnP ∷ locals E (kept blank 5) [])) (runs C′ Λ E (after (after (after (after (after (taken mir.s-2)))))) Then)
-      records-it =
-          nothing ! $ move ! (19 ∷ 0 ∷ []) $ fjoin ! $ owned ! u64 (Is u64) (uint-makes 𝓤 H A W w64) attr _ (refl, attr-fits) $ fjoin ! $ owned ! u32 (Is u32) (uint-makes 𝓤 H A W w32) group _ (refl, group-fits) $ fjoin ! $
-          owned ! usize (Is usize) (uint-makes 𝓤 H A W w64) (length ys) _ (refl, room .0) $ fjoin ! $ nothing ! $ move ! (19 ∷ 0 ∷ []) $ join ! $ move ! (10 ∷ 11 ∷ 12 ∷ 13 ∷ 0 ∷ 1 ∷ []) $
-          calls-four ! fm (AnswerRecords 𝓤 H A mem′ run) (known .records) mutably to-records c gc (a .bc) (a .oc) An.the-row T O₁ Leaves₁ (λ z w. (ais : Bool) → Recorded (length ys) group attr (as-of c ais) (as-of (left-by mutably c w) ais) ps z) goes₁ (λ n v. id⊢ 𝓤 _) (λ n i.
-          (and-then ! (load ! (from ! (stop !)) (look ! 42 refl)) (and-then ! (load ! (from ! (stop !)) (look ! 44 refl)) (and-then ! (load ! (from ! (stop !)) (look ! 46 refl)) (and-then ! (load ! (from ! (stop !)) (look ! 48 refl)) (and-then ! (load ! (from ! (stop !)) (look ! 50 refl)) (and-then ! (load ! (from ! (stop !)) (look ! 26 refl)) (and-then ! (load ! (from ! (stop !)) (look ! 28 refl)) (and-then ! (load ! (from ! (stop !)) (look ! 30 refl)) (no-more !)))))))))) (λ z v w φ g′ is.
+        abbrev T : Item 𝓤
+        T = ‵ (flft κp qp) ⊛ ‵ ftrue
+
+        abbrev O₁ : Fml
+        O₁ = fsep (u32 .own group (vint w32 group ∷ [])) (fsep (u64 .own attr (vint w64 attr ∷ [])) (fsep OwnP ftrue))
+
+        abbrev Leaves₁ : Unit {0} × (Unit {0} × (Unit {0} × Unit {0})) → Fml
+        Leaves₁ y = fsep ftrue (fsep ftrue (fsep ftrue ftrue))
+
+        abbrev to-records : Loan → AnswerRecords 𝓤 H A mem′ run .Ghost
+        to-records n = ((lent-lfts n (κp, tt), lent-shares (qp, tt), tt, lent-args n c (a .bc) (a .oc) (group, (attr, (at-array bp op γp ps, tt))), lent-vals (a .bc) (a .oc) (vint w32 group ∷ [], (vint w64 attr ∷ [], (sp ∷ [], tt)))), tt)
+
+        goes₁ : (n : Loan) → ent 𝓤 (⋆ 𝓤 H A (Toks n T ∷ ‵ (Lent mutably n c (a .bc) (a .oc) O₁) ∷ [])) (AnswerRecords 𝓤 H A mem′ run .pre (to-records n))
+        goes₁ n = qed W (Toks n T ∷ ‵ (Lent mutably n c (a .bc) (a .oc) O₁) ∷ []) ∵ says ! (valid right .ready, yes) $ done !
+
+        -- the payload is not held any more
+        ends₁ : (z : Answer) (c′ : Controller) → Has c′ → FitsAnswer z → c′ .ais ≡ c .ais → Recorded group attr c c′ ps z
+            → Sq W (Open H a ys d c′ (‵ (flft κp qp) ∷ locals E (recorded (holds (An′.lowered z)) 4) [])) (runs C′ Λ E return Then-records)
+        ends₁ z c′ gc′ gz same φ =
+            closes-all ! tt a ys d c′ refl gd gc′ $ returns-within ! Post refl (look ! 10 refl) $ swaps ! (Closed a ys d c′ (‵ (flft κp qp) ∷ [])) (locals E (recorded (holds (An′.lowered z)) 4) []) $
+            frees-front ! E (recorded (holds (An′.lowered z)) 4) $ by ! (exits c′ d ys z refl (record-promises group attr c c′ d ys ps z right (valid right) same φ) gz)
+
+        records-it : Sq W (At ys d c (recorded blank 4)) (runs C′ Λ E (afters 4 (taken mir.s-5)) Then-records)
+        records-it =
+            nothing ! $ move ! (19 ∷ 0 ∷ []) $ fjoin ! $ owned ! u64 (Is u64) (uint-makes 𝓤 H A W w64) attr _ (refl, attr-fits) $ fjoin ! $ owned ! u32 (Is u32) (uint-makes 𝓤 H A W w32) group _ (refl, group-fits) $ fjoin ! $
+            nothing ! $ move ! (19 ∷ 0 ∷ []) $ join ! $ move ! (10 ∷ 11 ∷ 12 ∷ 13 ∷ 0 ∷ 1 ∷ []) $
+            calls-four ! fm (AnswerRecords 𝓤 H A mem′ run) (known .records) mutably to-records c gc (a .bc) (a .oc) An.the-row T O₁ Leaves₁ (λ z w. (ais : Bool) → Recorded group attr (as-of c ais) (as-of (left-by mutably c w) ais) ps z) goes₁ (λ n v. id⊢ 𝓤 _) (λ n i.
+            (and-then ! (load ! (from ! (stop !)) (look ! 46 refl)) (and-then ! (load ! (from ! (stop !)) (look ! 48 refl)) (and-then ! (load ! (from ! (stop !)) (look ! 50 refl)) (and-then ! (load ! (from ! (stop !)) (look ! 52 refl)) (and-then ! (load ! (from ! (stop !)) (look ! 26 refl)) (and-then ! (load ! (from ! (stop !)) (look ! 28 refl)) (and-then ! (load ! (from ! (stop !)) (look ! 30 refl)) (no-more !))))))))) (λ z v w φ g′ is.
+            land ! (from ! (stop !)) (init ! 19 refl (LL.lawful An.the-type An′.the-laws 𝓤 H A W .typed z _ is .0)) $ rewrite ! 19 (λ (u : Val). ‵ (fat fullShare An′.mir l₀ 0 u)) (ap only (An′.lowers .val-is z (v ∷ []) is)) refl $
+            move ! (5 ∷ []) $ drop ! $ move ! (4 ∷ []) $ split ! $ move ! (1 ∷ []) $ drop ! $ move ! (5 ∷ 6 ∷ 7 ∷ 8 ∷ 9 ∷ 10 ∷ 11 ∷ 12 ∷ 1 ∷ 2 ∷ 3 ∷ 4 ∷ 13 ∷ 14 ∷ 15 ∷ 16 ∷ 17 ∷ 0 ∷ []) $
+            ends₁ z (left-by mutably c w) g′ (subst (Is An.the-row z) (An′.lowers .val-is z (v ∷ []) is) is) refl (φ (c .ais)))
+
+        takes-records : Sq W (At ys d c (recorded blank 0)) (runs C′ Λ E (taken mir.s-5) Then-records)
+        takes-records =
+            assigns ! (addr ! (from ! (hop ! (look ! 21 refl) (fld ! refl (stop !))))) (from ! (stop !)) (init ! 47 refl (tt, tt)) $
+            assigns ! (addr ! (from ! (hop ! (look ! 21 refl) (fld ! refl (stop !))))) (from ! (stop !)) (init ! 49 refl (tt, tt)) $
+            assigns ! (addr ! (from ! (hop ! (look ! 21 refl) (fld ! refl (stop !))))) (from ! (stop !)) (init ! 51 refl (tt, tt)) $
+            assigns ! (addr ! (from ! (hop ! (look ! 21 refl) (fld ! refl (stop !))))) (from ! (stop !)) (init ! 53 refl (tt, tt)) $ records-it
+
+      -- ---- an injection: after the arrays `answer_inject` takes four values
+      module _ (is-inject : eqb group 10 ≡ true) where
+        abbrev id : AdapterId
+        id = record { 0 = attr }
+
+        fits-id : FitsId id
+        fits-id = fit-id id attr-fits
+
+        abbrev place : Place
+        place = getD ys attr unused
+
+        canonical : Canonical place
+        canonical = all-get Canonical ys attr unused (valid right .places) canonical-unused
+
+        -- what the locals hold: the place's, the device record's and the answer's, so many operands, and the last three
+        abbrev injected : Content → (c₈ c₉ c₁₀ : Content) → ℕ → (c₂₅ c₂₆ c₂₇ : Content) → List Content
+        injected v₀ c₈ c₉ c₁₀ n c₂₅ c₂₆ c₂₇ = v₀ ∷ held (holds (I′.lowered id)) c₈ c₉ c₁₀ (eqb group 10) (holds (vbool (onRecords group))) 0 n c₂₅ c₂₆ c₂₇ blank 0 blank
+
+        abbrev O₂ : Fml
+        O₂ = fsep (bool .own (c .ais) (vbool (c .ais) ∷ [])) (fsep (D.the-row .own d (D′.lowered d ∷ [])) (fsep (P.the-row .own place (P′.lowered place ∷ [])) (fsep (I.the-row .own id (I′.lowered id ∷ [])) ftrue)))
+
+        abbrev Leaves₂ : Unit {0} × (Unit {0} × (Unit {0} × (Unit {0} × Unit {0}))) → Fml
+        Leaves₂ y = fsep ftrue (fsep ftrue (fsep ftrue (fsep ftrue ftrue)))
+
+        abbrev to-inject : Loan → AnswerInject 𝓤 H A mem′ run .Ghost
+        to-inject n = ((lent-lfts n tt, lent-shares tt, tt, lent-args n c (a .bc) (a .oc) (c .ais, (d, (place, (id, tt)))), lent-vals (a .bc) (a .oc) (vbool (c .ais) ∷ [], (D′.lowered d ∷ [], (P′.lowered place ∷ [], (I′.lowered id ∷ [], tt))))), tt)
+
+        goes₂ : (n : Loan) → ent 𝓤 (⋆ 𝓤 H A (Toks n (‵ ftrue) ∷ ‵ (Lent mutably n c (a .bc) (a .oc) O₂) ∷ [])) (AnswerInject 𝓤 H A mem′ run .pre (to-inject n))
+        goes₂ n = qed W (Toks n (‵ ftrue) ∷ ‵ (Lent mutably n c (a .bc) (a .oc) O₂) ∷ []) ∵ says ! (valid right .ready, canonical) $ done !
+
+        module _ (gp : Is P.the-row place (P′.lowered place ∷ [])) (r : Answer) (gr : FitsAnswer r) (c′ : Controller) (gc′ : Has c′) (same : c′ .ais ≡ c .ais) (φ : Injected attr c c′ d place r) where
+          promised : (m : Device) → notedIn (c .ais) d place r ≡ m → Requested (setAttr group attr) c c′ d m ys ys ps ps r
+          promised m e = subst (λ (x : Device). Requested (setAttr group attr) c c′ d x ys ys ps ps r) e
+              (subst (λ (g : ℕ). Requested (setAttr g attr) c c′ d (notedIn (c .ais) d place r) ys ys ps ps r) (sym (eqb-true group 10 is-inject)) (inject-promises attr c c′ d ys ps r right (valid right) same φ))
+
+          abbrev answered : Content → Bool → (c₂₆ c₂₇ : Content) → List Content
+          answered v₀ flag c₂₆ c₂₇ = injected v₀ (holds (P′.lowered place)) (holds (D′.lowered d)) (holds (An′.lowered r)) 7 (holds (vbool flag)) c₂₆ c₂₇
+
+          -- what follows the second test
+          abbrev Then-noted : Kit.Post 𝓤 H
+          Then-noted = anyQ (afterSeq 𝓤 H (Wp 𝓤 H C′ Λ E (afters 14 (taken mir.s-7)) (post 𝓤 H Then-inject)) (post 𝓤 H Then-inject))
+
+          abbrev noted : Device
+          noted = injectedDevice (c′ .ais) d place
+
+          noted-is : eqb (r .count) 1 ≡ true → notedIn (c .ais) d place r ≡ noted
+          noted-is e = chosen (eqb (r .count) 1) (injectedDevice (c .ais) d place) d e ∙ ap (λ (x : Bool). injectedDevice x d place) (sym same)
+
+          -- one record was appended: `note_injection` is called
+          notes-it : eqb (r .count) 1 ≡ true → Sq W (At ys d c′ (answered blank (not (eqb (r .count) 1)) blank blank)) (runs C′ Λ E (afters 14 (taken mir.s-7)) Then-inject)
+          notes-it e =
+              assigns ! (addr ! (from ! (hop ! (look ! 23 refl) (stop !)))) (from ! (stop !)) (init ! 73 refl (tt, tt)) $
+              assigns ! (of-opd ! (load ! (from ! (hop ! (look ! 21 refl) (fld ! refl (stop !)))) (look ! 12 refl))) (from ! (stop !)) (store ! 69 refl (tt, tt)) $
+              move ! (1 ∷ []) $ notes-injection ! mem′ run fm (known .note) d (c′ .ais) place (a .bd) (a .od) gd gp (canonical .iscSmall) (λ _ _. (and-then ! (load ! (from ! (stop !)) (look ! 74 refl)) (and-then ! (load ! (from ! (stop !)) (look ! 70 refl)) (and-then ! (load ! (from ! (stop !)) (look ! 36 refl)) (no-more !))))) (λ gn.
+              land ! (from ! (stop !)) (init ! 71 refl (tt, tt)) $ move ! (1 ∷ []) $ assigns ! (of-opd ! (load ! (from ! (stop !)) (look ! 39 refl))) (from ! (stop !)) (init ! 19 refl (LL.lawful An.the-type An′.the-laws 𝓤 H A W .typed r _ gr .0)) $
+              ends Then-inject refl c′ noted ys r refl gc′ gn gr (promised noted (noted-is e)) (held (holds (I′.lowered id)) (holds (P′.lowered place)) (holds (D′.lowered d)) (holds (An′.lowered r)) (eqb group 10) (holds (vbool (onRecords group))) 0 7 (holds (vbool (c′ .ais))) (holds vunit) (holds (vptr (a .bd) (a .od))) blank 0 blank))
+
+          tests-it : Sq W (At ys d c′ (answered blank (c .ais) blank blank)) (runs C′ Λ E (afters 12 (taken mir.s-7)) Then-inject)
+          tests-it =
+              assigns ! (bin ! (load ! (from ! (fld ! refl (stop !))) (look-in ! 39 (sub ! 1 refl (whole !)))) (lit ! tt) tt) (from ! (stop !)) (store ! 69 refl (tt, tt)) $
+              first ! $ branches ! (load ! (from ! (stop !)) (look ! 69 refl))
+              (λ t. assigns ! (of-opd ! (load ! (from ! (stop !)) (look ! 39 refl))) (from ! (stop !)) (init ! 19 refl (LL.lawful An.the-type An′.the-laws 𝓤 H A W .typed r _ gr .0)) $
+              ends Then-noted refl c′ d ys r refl gc′ gd gr (promised d (passed (eqb (r .count) 1) (injectedDevice (c .ais) d place) d (holds-false (eqb (r .count) 1) t))) (held (holds (I′.lowered id)) (holds (P′.lowered place)) (holds (D′.lowered d)) (holds (An′.lowered r)) (eqb group 10) (holds (vbool (onRecords group))) 0 7 (holds (vbool (not (eqb (r .count) 1)))) blank blank blank 0 blank))
+              (λ t. skips ! $ exec ! C′ Λ E (afters 14 (taken mir.s-7)) Then-inject $ notes-it (not-not (eqb (r .count) 1) t))
+
+        -- `answer_inject` is called
+        injects-it : Is P.the-row place (P′.lowered place ∷ []) → Sq W (At ys d c (injected blank (holds (P′.lowered place)) (holds (D′.lowered d)) blank 7 (holds (vbool (c .ais))) blank blank)) (runs C′ Λ E (afters 11 (taken mir.s-7)) Then-inject)
+        injects-it gp =
+            nothing ! $ owned ! I.the-row (Is I.the-row) (makes-id 𝓤 H A W) id _ fits-id $ fjoin ! $ owned ! P.the-row (Is P.the-row) (LL.makes P.the-type P′.the-plain 𝓤 H A) place _ gp $ fjoin ! $ owned ! D.the-row (Is D.the-row) (LL.makes D.the-type D′.the-plain 𝓤 H A) d _ gd $ fjoin ! $
+            owned ! bool (Is bool) (bool-makes 𝓤 H A W) (c .ais) _ refl $ fjoin ! $ nothing ! $ move ! (10 ∷ 11 ∷ 12 ∷ 13 ∷ 0 ∷ 1 ∷ []) $
+            calls-four ! fm (AnswerInject 𝓤 H A mem′ run) (known .inject) mutably to-inject c gc (a .bc) (a .oc) An.the-row (‵ ftrue) O₂ Leaves₂ (λ z w. Injected attr c (left-by mutably c w) d place z) goes₂ (λ n v. id⊢ 𝓤 _) (λ n i.
+            (and-then ! (load ! (from ! (stop !)) (look ! 62 refl)) (and-then ! (load ! (from ! (stop !)) (look ! 64 refl)) (and-then ! (load ! (from ! (stop !)) (look ! 66 refl)) (and-then ! (load ! (from ! (stop !)) (look ! 68 refl)) (and-then ! (load ! (from ! (stop !)) (look ! 70 refl)) (and-then ! (load ! (from ! (stop !)) (look ! 38 refl)) (and-then ! (load ! (from ! (stop !)) (look ! 36 refl)) (and-then ! (load ! (from ! (stop !)) (look ! 34 refl)) (no-more !)))))))))) (λ z v w φ g′ is.
+            land ! (from ! (stop !)) (init ! 41 refl (LL.lawful An.the-type An′.the-laws 𝓤 H A W .typed z _ is .0)) $ rewrite ! 41 (λ (u : Val). ‵ (fat fullShare An′.mir l₁₀ 0 u)) (ap only (An′.lowers .val-is z (v ∷ []) is)) refl $
+            move ! (5 ∷ []) $ drop ! $ move ! (4 ∷ []) $ drop ! $ move ! (4 ∷ 5 ∷ 6 ∷ 7 ∷ 8 ∷ 9 ∷ 10 ∷ 11 ∷ 0 ∷ 1 ∷ 2 ∷ 3 ∷ []) $
+            tests-it gp z (subst (Is An.the-row z) (An′.lowers .val-is z (v ∷ []) is) is) (left-by mutably c w) g′ refl φ)
+
+        -- its operands
+        operands : Is P.the-row place (P′.lowered place ∷ []) → Sq W (At ys d c (injected blank (holds (P′.lowered place)) (holds (D′.lowered d)) blank 3 blank blank blank)) (runs C′ Λ E (afters 6 (taken mir.s-7)) Then-inject)
+        operands gp =
+            assigns ! (addr ! (from ! (hop ! (look ! 21 refl) (fld ! refl (stop !))))) (from ! (stop !)) (init ! 61 refl (tt, tt)) $
+            assigns ! (addr ! (from ! (hop ! (look ! 21 refl) (fld ! refl (stop !))))) (from ! (stop !)) (init ! 63 refl (tt, tt)) $
+            assigns ! (addr ! (from ! (hop ! (look ! 21 refl) (fld ! refl (stop !))))) (from ! (stop !)) (init ! 65 refl (tt, tt)) $
+            assigns ! (addr ! (from ! (hop ! (look ! 21 refl) (fld ! refl (stop !))))) (from ! (stop !)) (init ! 67 refl (tt, tt)) $
+            assigns ! (of-opd ! (load ! (from ! (hop ! (look ! 21 refl) (fld ! refl (stop !)))) (look ! 12 refl))) (from ! (stop !)) (init ! 69 refl (tt, tt)) $ injects-it gp
+
+        takes-inject : Sq W (At ys d c (blank ∷ grouped (eqb group 10) blank)) (runs C′ Λ E (taken mir.s-7) Then-inject)
+        takes-inject =
+            assigns ! (agg ! (and-then ! (load ! (from ! (stop !)) (look ! 29 refl)) (no-more !))) (from ! (stop !)) (init ! 33 refl (typed-id 𝓤 H A W id fits-id)) $
+            assigns ! (addr ! (from ! (fld ! refl (hop ! (look-in ! 25 (sub ! 0 refl (whole !))) (stop !))))) (from ! (stop !)) (init ! 55 refl (tt, tt)) $
+            assigns ! (agg ! (and-then ! (load ! (from ! (stop !)) (look ! 55 refl)) (and-then ! (load ! (from ! (fld ! refl (stop !))) (look-in ! 25 (sub ! 1 refl (whole !)))) (no-more !)))) (from ! (stop !)) (init ! 57 refl (tt, (tt, (record { fits = room .0 }, tt)))) $
+            looks-up ! mem′ run fm (known .look-up) ys id (a .bt) (a .ot) room fits-id (λ _ _. (and-then ! (load ! (from ! (stop !)) (look ! 58 refl)) (and-then ! (load ! (from ! (stop !)) (look ! 34 refl)) (no-more !))))
+            (λ gp. land ! (from ! (stop !)) (init ! 35 refl (LL.lawful P.the-type P′.the-laws 𝓤 H A W .typed place _ gp .0)) $
+            assigns ! (addr ! (from ! (hop ! (look ! 23 refl) (stop !)))) (from ! (stop !)) (init ! 59 refl (tt, tt)) $
+            move ! (1 ∷ []) $ reads-device ! mem′ run fm (known .read-device) d (a .bd) (a .od) gd (λ _ _. (and-then ! (load ! (from ! (stop !)) (look ! 60 refl)) (no-more !)))
+            (land ! (from ! (stop !)) (init ! 37 refl (LL.lawful D.the-type D′.the-laws 𝓤 H A W .typed d _ gd .0)) $ move ! (1 ∷ []) $ operands gp))
+
+      -- ---- a request about an adapter's place
+      takes-place : onPlace group ≡ true → Sq W (At ys d c (blank ∷ grouped (eqb group 10) (holds (vbool (onPlace group))))) (runs C′ Λ E (taken mir.s-9) Then-place)
+      takes-place on =
+          assigns ! (addr ! (from ! (fld ! refl (hop ! (look-in ! 25 (sub ! 0 refl (whole !))) (stop !))))) (from ! (stop !)) (init ! 77 refl (tt, tt)) $
+          assigns ! (agg ! (and-then ! (load ! (from ! (stop !)) (look ! 77 refl)) (and-then ! (load ! (from ! (fld ! refl (stop !))) (look-in ! 25 (sub ! 1 refl (whole !)))) (no-more !)))) (from ! (stop !)) (init ! 79 refl (tt, (tt, (record { fits = room .0 }, tt)))) $
+          move ! (0 ∷ 17 ∷ 18 ∷ []) $ sets-place ! mem′ run fm (known .set-place) κp qp bp op γp ps ys (a .bt) (a .ot) room group attr group-fits attr-fits on (λ _ _ _. (and-then ! (load ! (from ! (stop !)) (look ! 79 refl)) (and-then ! (load ! (from ! (stop !)) (look ! 27 refl)) (and-then ! (load ! (from ! (stop !)) (look ! 29 refl)) (and-then ! (load ! (from ! (stop !)) (look ! 31 refl)) (no-more !)))))) (λ z v zs φ is.
           land ! (from ! (stop !)) (init ! 19 refl (LL.lawful An.the-type An′.the-laws 𝓤 H A W .typed z _ is .0)) $ rewrite ! 19 (λ (u : Val). ‵ (fat fullShare An′.mir l₀ 0 u)) (ap only (An′.lowers .val-is z (v ∷ []) is)) refl $
-          move ! (5 ∷ []) $ drop ! $ move ! (4 ∷ []) $ split ! $ move ! (1 ∷ []) $ drop ! $ move ! (5 ∷ 6 ∷ 7 ∷ 8 ∷ 9 ∷ 10 ∷ 11 ∷ 12 ∷ 1 ∷ 2 ∷ 3 ∷ 4 ∷ 13 ∷ 14 ∷ 15 ∷ 16 ∷ 17 ∷ 0 ∷ []) $
-          ends₁ z (left-by mutably c w) g′ (subst (Is An.the-row z) (An′.lowers .val-is z (v ∷ []) is) is) refl (φ (c .ais)))
+          move ! (0 ∷ 3 ∷ 4 ∷ 5 ∷ 6 ∷ 7 ∷ 8 ∷ 9 ∷ 10 ∷ 11 ∷ 12 ∷ 13 ∷ 14 ∷ 15 ∷ 16 ∷ 17 ∷ 18 ∷ 1 ∷ 2 ∷ []) $
+          ends Then-place refl c d zs z (φ .same-length) gc gd (subst (Is An.the-row z) (An′.lowers .val-is z (v ∷ []) is) is) (place-promises group attr c d ys ps z right (valid right) zs φ) (held blank blank blank blank (eqb group 10) (holds (vbool (onRecords group))) 0 0 blank blank blank (holds (vbool (onPlace group))) 2 blank))
 
-      takes-records : Sq W (Open H a ys d c (‵ (flft κp qp) ∷ ‵ OwnP ∷ locals E (kept blank 0) [])) (runs C′ Λ E (taken mir.s-2) Then)
-      takes-records =
-          assigns ! (addr ! (from ! (hop ! (look ! 21 refl) (fld ! refl (stop !))))) (from ! (stop !)) (init ! 43 refl (tt, tt)) $
-          assigns ! (addr ! (from ! (hop ! (look ! 21 refl) (fld ! refl (stop !))))) (from ! (stop !)) (init ! 45 refl (tt, tt)) $
-          assigns ! (addr ! (from ! (hop ! (look ! 21 refl) (fld ! refl (stop !))))) (from ! (stop !)) (init ! 47 refl (tt, tt)) $
-          assigns ! (addr ! (from ! (hop ! (look ! 21 refl) (fld ! refl (stop !))))) (from ! (stop !)) (init ! 49 refl (tt, tt)) $
-          assigns ! (of-opd ! (load ! (from ! (fld ! refl (stop !))) (look-in ! 25 (sub ! 1 refl (whole !))))) (from ! (stop !)) (init ! 51 refl (tt, record { fits = room .0 })) $ records-it
+      -- ---- any other request is about the device record, or of no group
+      takes-modes : onRecords group ≡ false → eqb group 10 ≡ false → onPlace group ≡ false → Sq W (At ys d c (blank ∷ grouped (eqb group 10) (holds (vbool (onPlace group))))) (runs C′ Λ E mir.t-10 (atRet E Post))
+      takes-modes not-on not-inject off = let n = not-records group not-on in
+          assigns ! (addr ! (from ! (hop ! (look ! 23 refl) (stop !)))) (from ! (stop !)) (init ! 81 refl (tt, tt)) $
+          assigns ! (of-opd ! (load ! (from ! (hop ! (look ! 21 refl) (fld ! refl (stop !)))) (look ! 12 refl))) (from ! (stop !)) (store ! 43 refl (tt, tt)) $
+          move ! (1 ∷ 17 ∷ 18 ∷ []) $ sets-modes ! mem′ run fm (known .set-modes) κp qp bp op γp ps d (a .bd) (a .od) gd (c .ais) group attr group-fits attr-fits (n .0, n .1, n .2, eqb-false group 10 not-inject, off) (λ _ _ _. (and-then ! (load ! (from ! (stop !)) (look ! 81 refl)) (and-then ! (load ! (from ! (stop !)) (look ! 43 refl)) (and-then ! (load ! (from ! (stop !)) (look ! 27 refl)) (and-then ! (load ! (from ! (stop !)) (look ! 29 refl)) (and-then ! (load ! (from ! (stop !)) (look ! 31 refl)) (no-more !))))))) (λ z v y φ is gy.
+          land ! (from ! (stop !)) (init ! 19 refl (LL.lawful An.the-type An′.the-laws 𝓤 H A W .typed z _ is .0)) $ rewrite ! 19 (λ (u : Val). ‵ (fat fullShare An′.mir l₀ 0 u)) (ap only (An′.lowers .val-is z (v ∷ []) is)) refl $
+          move ! (3 ∷ 0 ∷ 4 ∷ 5 ∷ 6 ∷ 7 ∷ 8 ∷ 9 ∷ 10 ∷ 11 ∷ 12 ∷ 13 ∷ 14 ∷ 15 ∷ 16 ∷ 17 ∷ 18 ∷ 1 ∷ 2 ∷ []) $
+          ends (atRet E Post) refl c y ys z refl gc gy (subst (Is An.the-row z) (An′.lowers .val-is z (v ∷ []) is) is) (modes-promises group attr c d ys ps z right (valid right) y φ) (held blank blank blank blank (c .ais) (holds (vbool (onRecords group))) 0 0 blank blank blank (holds (vbool (onPlace group))) 0 (holds (vptr (a .bd) (a .od)))))
 
-    -- ---- any other request, once the adapter's id is known
-    module _ (not-on : onRecords group ≡ false) (id : AdapterId) (about-it : id .0 ≡ aboutOf group attr ps) (fits-id : FitsId id) (gc : Has c) (gd : Is D.the-row d (D′.lowered d ∷ [])) where
-      abbrev old : Place
-      old = getD ys (id .0) unused
+      -- ---- the classes, one after another
+      asks-about-place : onRecords group ≡ false → eqb group 10 ≡ false → Sq W (At ys d c (blank ∷ grouped (eqb group 10) blank)) (runs C′ Λ E mir.t-8 (atRet E Post))
+      asks-about-place not-on not-inject =
+          asks-place ! mem′ run fm (known .on-place) group group-fits (λ _. (and-then ! (load ! (from ! (stop !)) (look ! 28 refl)) (no-more !))) (land ! (from ! (stop !)) (init ! 75 refl (tt, tt)) $ first ! $ branches ! (load ! (from ! (stop !)) (look ! 75 refl))
+          (λ t. takes-place (holds-true (onPlace group) t))
+          (λ t. skips ! $ exec ! C′ Λ E mir.t-10 (atRet E Post) $ takes-modes not-on not-inject (holds-false (onPlace group) t)))
 
-      -- what the locals hold after n statements, with the result's and the decision's content
-      abbrev held : Content → Content → ℕ → List Content
-      held v₀ v₁₀ n = v₀ ∷ (params ++ (holds (I′.lowered id) ∷ since 6 n (P′.lowered old) ∷ since 8 n (D′.lowered d) ∷ v₁₀ ∷ holds (vbool (onRecords group)) ∷ blank ∷ blank ∷ blank ∷ blank ∷ blank ∷ since 4 n (vptr (a .bt) (a .ot)) ∷ since 5 n (table a) ∷ since 7 n (vptr (a .bd) (a .od)) ∷ since 9 n (vptr (a .bc) (a .oc + 0)) ∷ since 10 n (vptr (a .bc) (a .oc + 18432)) ∷ since 11 n (vptr (a .bc) (a .oc + 18688)) ∷ since 12 n (vptr (a .bc) (a .oc + 18760))
-          ∷ since 13 n (vint w64 (length ys)) ∷ since 14 n (vbool (c .ais)) ∷ since 17 n vunit ∷ since 16 n (vptr (a .bd) (a .od)) ∷ since 18 n (vptr (a .bt) (a .ot)) ∷ since 19 n (table a) ∷ since 21 n (vptr (a .bt) (a .ot)) ∷ since 22 n (table a) ∷ []))
+      asks-injection : onRecords group ≡ false → Sq W (At ys d c (blank ∷ grouped wrong blank)) (runs C′ Λ E mir.t-6 (atRet E Post))
+      asks-injection not-on =
+          assigns ! (bin ! (load ! (from ! (stop !)) (look ! 27 refl)) (lit ! tt) tt) (from ! (stop !)) (store ! 43 refl (tt, tt)) $ first ! $ branches ! (load ! (from ! (stop !)) (look ! 43 refl))
+          (λ t. takes-inject (holds-true (eqb group 10) t))
+          (λ t. skips ! $ exec ! C′ Λ E mir.t-8 (atRet E Post) $ asks-about-place not-on (holds-false (eqb group 10) t))
 
-      -- once the decision is made
-      module _ (r : Decision) (c′ : Controller) (gc′ : Has c′) (gr : Is De.the-row r (De′.lowered r ∷ [])) (same : c′ .ais ≡ c .ais) (decided : Decided (length ys) group attr (id .0) c c′ d old ps r) where
-        abbrev ys′ : List Place
-        ys′ = enteredIn ys r
+      asks-class : Sq W (At ys d c (started blank)) (runs C′ Λ E mir.t-4 (atRet E Post))
+      asks-class =
+          asks-group ! mem′ run fm (known .looks) group group-fits (λ _. (and-then ! (load ! (from ! (stop !)) (look ! 28 refl)) (no-more !))) (land ! (from ! (stop !)) (init ! 45 refl (tt, tt)) $ first ! $ branches ! (load ! (from ! (stop !)) (look ! 45 refl))
+          (λ t. takes-records (holds-true (onRecords group) t))
+          (λ t. skips ! $ exec ! C′ Λ E mir.t-6 (atRet E Post) $ asks-injection (holds-false (onRecords group) t)))
 
-        len′ : length ys′ ≡ length ys
-        len′ = length-set ys (r .enters .0) (r .entered)
-
-        abbrev zs : List Place
-        zs = tableAfter ys r
-
-        len : length zs ≡ length ys
-        len = length-set ys′ (r .masks .0) (withMasked (r .masked) (getD ys′ (r .masks .0) unused)) ∙ len′
-
-        promised : Requested (setAttr group attr) c c′ d (r .device) ys zs ps ps (r .answer)
-        promised = set-promises group attr c c′ d ys ps r same (room .0) (subst (λ (k : ℕ). Decided (length ys) group attr k c c′ d (getD ys k unused) ps r) about-it decided) valid
-
-        -- the result is read, and all is closed
-        ends : Sq W (Open H a zs (r .device) c′ (‵ (flft κp qp) ∷ locals E (held blank (holds (De′.lowered r)) 23) [])) (runs C′ Λ E mir.t-24 (atRet E Post))
-        ends =
-            assigns ! (of-opd ! (load ! (from ! (fld ! refl (stop !))) (look-in ! 38 (sub ! 0 refl (whole !))))) (from ! (stop !)) (init ! 18 refl (LL.lawful An.the-type An′.the-laws 𝓤 H A W .typed (r .answer) _ (LL.owed De.the-type De′.the-laws r _ gr .0) .0)) $
-            closes-all ! tt a zs (r .device) c′ len (LL.owed De.the-type De′.the-laws r _ gr .1 .0) gc′ $ returns ! (look ! 10 refl) $
-            swaps ! (Closed a zs (r .device) c′ (‵ (flft κp qp) ∷ [])) (locals E (held (holds (An′.lowered (r .answer))) (holds (De′.lowered r)) 23) []) $ frees-all ! E (held (holds (An′.lowered (r .answer))) (holds (De′.lowered r)) 23) $ by ! (exits c′ (r .device) zs (r .answer) len promised (LL.owed De.the-type De′.the-laws r _ gr .0))
-
-        -- `mask` is called
-        masks-it : Sq W (Open H a ys′ (r .device) c′ (‵ (flft κp qp) ∷ locals E (held blank (holds (De′.lowered r)) 20) [])) (runs C′ Λ E mir.t-21 (atRet E Post))
-        masks-it =
-            assigns ! (addr ! (from ! (fld ! refl (hop ! (look-in ! 24 (sub ! 0 refl (whole !))) (stop !))))) (from ! (stop !)) (init ! 78 refl (tt, tt)) $
-            assigns ! (agg ! (and-then ! (load ! (from ! (stop !)) (look ! 78 refl)) (and-then ! (load ! (from ! (fld ! refl (stop !))) (look-in ! 24 (sub ! 1 refl (whole !)))) (no-more !)))) (from ! (stop !)) (init ! 80 refl (tt, (tt, (record { fits = room .0 }, tt)))) $
-            rewrite ! 80 (λ (k : ℕ). ‵ (fat fullShare (sliceTy (tyRef erased mut (pointee (P.the-row .written)))) l₃₁ 0 (sliceVal ((a .bt), (a .ot)) k))) (sym len′) refl $
-            masks ! mem′ run fm (known .mask) ys′ (r .masks) (r .masked) (a .bt) (a .ot) (subst (Room P.the-row) (sym len′) room) (LL.owed De.the-type De′.the-laws r _ gr .1 .1 .1 .1 .0) (λ _ _. (and-then ! (load ! (from ! (stop !)) (look ! 81 refl)) (and-then ! (load ! (from ! (fld ! refl (stop !))) (look-in ! 39 (sub ! 4 refl (whole !)))) (and-then ! (load ! (from ! (fld ! refl (stop !))) (look-in ! 39 (sub ! 5 refl (whole !)))) (no-more !))))) (
-            rewrite ! 80 (λ (k : ℕ). ‵ (fat fullShare (sliceTy (tyRef erased mut (pointee (P.the-row .written)))) l₃₁ 0 (sliceVal ((a .bt), (a .ot)) k))) len′ refl $ land ! (from ! (stop !)) (store ! 70 refl (tt, tt)) $ ends)
-
-        -- `register` is called
-        registers-it : Sq W (Open H a ys (r .device) c′ (‵ (flft κp qp) ∷ locals E (held blank (holds (De′.lowered r)) 17) [])) (runs C′ Λ E mir.t-18 (atRet E Post))
-        registers-it =
-            assigns ! (addr ! (from ! (fld ! refl (hop ! (look-in ! 24 (sub ! 0 refl (whole !))) (stop !))))) (from ! (stop !)) (init ! 74 refl (tt, tt)) $
-            assigns ! (agg ! (and-then ! (load ! (from ! (stop !)) (look ! 74 refl)) (and-then ! (load ! (from ! (fld ! refl (stop !))) (look-in ! 24 (sub ! 1 refl (whole !)))) (no-more !)))) (from ! (stop !)) (init ! 76 refl (tt, (tt, (record { fits = room .0 }, tt)))) $
-            registers ! mem′ run fm (known .register) ys (r .enters) (r .entered) (a .bt) (a .ot) room (LL.owed De.the-type De′.the-laws r _ gr .1 .1 .0) (LL.owed De.the-type De′.the-laws r _ gr .1 .1 .1 .0) (λ _ _. (and-then ! (load ! (from ! (stop !)) (look ! 77 refl)) (and-then ! (load ! (from ! (fld ! refl (stop !))) (look-in ! 39 (sub ! 2 refl (whole !)))) (and-then ! (load ! (from ! (fld ! refl (stop !))) (look-in ! 39 (sub ! 3 refl (whole !)))) (no-more !)))))
-            (land ! (from ! (stop !)) (store ! 70 refl (tt, tt)) $ masks-it)
-
-        -- `store_device` is called
-        stores-it : Sq W (Open H a ys d c′ (‵ (flft κp qp) ∷ locals E (held blank (holds (De′.lowered r)) 15) [])) (runs C′ Λ E mir.t-16 (atRet E Post))
-        stores-it =
-            assigns ! (addr ! (from ! (hop ! (look ! 22 refl) (stop !)))) (from ! (stop !)) (init ! 72 refl (tt, tt)) $
-            move ! (1 ∷ []) $ stores-device ! mem′ run fm (known .store-device) d (r .device) (a .bd) (a .od) gd (LL.owed De.the-type De′.the-laws r _ gr .1 .0) (λ _ _. (and-then ! (load ! (from ! (stop !)) (look ! 73 refl)) (and-then ! (load ! (from ! (fld ! refl (stop !))) (look-in ! 39 (sub ! 1 refl (whole !)))) (no-more !))))
-            (land ! (from ! (stop !)) (init ! 70 refl (tt, tt)) $ move ! (1 ∷ []) $ registers-it)
-
-      -- ---- the call of `decide`: after the arrays it takes seven values and the payload
-      abbrev O : Fml
-      O = fsep (usize .own (length ys) (vint w64 (length ys) ∷ [])) (fsep (bool .own (c .ais) (vbool (c .ais) ∷ [])) (fsep (D.the-row .own d (D′.lowered d ∷ [])) (fsep (I.the-row .own id (I′.lowered id ∷ [])) (fsep (P.the-row .own old (P′.lowered old ∷ []))
-          (fsep (u32 .own group (vint w32 group ∷ [])) (fsep (u64 .own attr (vint w64 attr ∷ [])) (fsep OwnP ftrue)))))))
-
-      abbrev Y : Type 0
-      Y = Unit {0} × (Unit {0} × (Unit {0} × (Unit {0} × (Unit {0} × (Unit {0} × (Unit {0} × (Unit {0} × Unit {0})))))))
-
-      abbrev Leaves : Y → Fml
-      Leaves y = fsep ftrue (fsep ftrue (fsep ftrue (fsep ftrue (fsep ftrue (fsep ftrue (fsep ftrue (fsep ftrue ftrue)))))))
-
-      abbrev to-decide : Loan → Decide 𝓤 H A mem′ run .Ghost
-      to-decide n = ((lent-lfts n (κp, tt), lent-shares (qp, tt), tt, lent-args n c (a .bc) (a .oc) (length ys, (c .ais, (d, (id, (old, (group, (attr, (at-array bp op γp ps, tt)))))))), lent-vals (a .bc) (a .oc) (vint w64 (length ys) ∷ [], (vbool (c .ais) ∷ [], (D′.lowered d ∷ [], (I′.lowered id ∷ [], (P′.lowered old ∷ [], (vint w32 group ∷ [], (vint w64 attr ∷ [], (sp ∷ [], tt))))))))), tt)
-
-      goes : (n : Loan) → ent 𝓤 (⋆ 𝓤 H A (Toks n T ∷ ‵ (Lent mutably n c (a .bc) (a .oc) O) ∷ [])) (Decide 𝓤 H A mem′ run .pre (to-decide n))
-      goes n = qed W (Toks n T ∷ ‵ (Lent mutably n c (a .bc) (a .oc) O) ∷ []) ∵ says ! (may-decide c c d ys (id .0) valid, not-on) $ done !
-
-      decides-it : Is P.the-row old (P′.lowered old ∷ []) → Sq W (Open H a ys d c (‵ (flft κp qp) ∷ ‵ OwnP ∷ locals E (held blank blank 14) [])) (runs C′ Λ E mir.t-15 (atRet E Post))
-      decides-it go =
-          nothing ! $ move ! (19 ∷ 0 ∷ []) $ fjoin ! $ owned ! u64 (Is u64) (uint-makes 𝓤 H A W w64) attr _ (refl, attr-fits) $ fjoin ! $ owned ! u32 (Is u32) (uint-makes 𝓤 H A W w32) group _ (refl, group-fits) $ fjoin ! $ owned ! P.the-row (Is P.the-row) (LL.makes P.the-type P′.the-plain 𝓤 H A) old _ go $ fjoin ! $ owned ! I.the-row (Is I.the-row) (makes-id 𝓤 H A W) id _ fits-id $ fjoin ! $ owned ! D.the-row (Is D.the-row) (LL.makes D.the-type D′.the-plain 𝓤 H A) d _ gd $ fjoin ! $
-          owned ! bool (Is bool) (bool-makes 𝓤 H A W) (c .ais) _ refl $ fjoin ! $ owned ! usize (Is usize) (uint-makes 𝓤 H A W w64) (length ys) _ (refl, room .0) $ fjoin ! $ nothing ! $ move ! (19 ∷ 0 ∷ []) $ join ! $
-          -- [T; O; the table; the device record; what closes each; the arrays from 10; …]
-          move ! (10 ∷ 11 ∷ 12 ∷ 13 ∷ 0 ∷ 1 ∷ []) $
-          calls-four ! fm (Decide 𝓤 H A mem′ run) (known .decide) mutably to-decide c gc (a .bc) (a .oc) De.the-row T O Leaves (λ z w. Decided (length ys) group attr (id .0) c (left-by mutably c w) d old ps z) goes (λ n v. id⊢ 𝓤 _) (λ n i.
-          (and-then ! (load ! (from ! (stop !)) (look ! 58 refl)) (and-then ! (load ! (from ! (stop !)) (look ! 60 refl)) (and-then ! (load ! (from ! (stop !)) (look ! 62 refl)) (and-then ! (load ! (from ! (stop !)) (look ! 64 refl)) (and-then ! (load ! (from ! (stop !)) (look ! 66 refl)) (and-then ! (load ! (from ! (stop !)) (look ! 68 refl)) (and-then ! (load ! (from ! (stop !)) (look ! 36 refl)) (and-then ! (load ! (from ! (stop !)) (look ! 32 refl)) (and-then ! (load ! (from ! (stop !)) (look ! 34 refl)) (and-then ! (load ! (from ! (stop !)) (look ! 26 refl)) (and-then ! (load ! (from ! (stop !)) (look ! 28 refl)) (and-then ! (load ! (from ! (stop !)) (look ! 30 refl)) (no-more !)))))))))))))) (λ z v w φ g′ is.
-          land ! (from ! (stop !)) (init ! 39 refl (LL.lawful De.the-type De′.the-laws 𝓤 H A W .typed z _ is .0)) $ rewrite ! 39 (λ (u : Val). ‵ (fat fullShare De′.mir l₁₀ 0 u)) (ap only (De′.lowers .val-is z (v ∷ []) is)) refl $
-          -- [the arrays; T; the rest's last values; the table; …]
-          move ! (5 ∷ []) $ drop ! $ move ! (4 ∷ []) $ split ! $ move ! (1 ∷ []) $ drop ! $ move ! (5 ∷ 6 ∷ 7 ∷ 8 ∷ 9 ∷ 10 ∷ 11 ∷ 12 ∷ 1 ∷ 2 ∷ 3 ∷ 4 ∷ 13 ∷ 14 ∷ 15 ∷ 16 ∷ 17 ∷ 0 ∷ []) $
-          stores-it z (left-by mutably c w) g′ (subst (Is De.the-row z) (De′.lowers .val-is z (v ∷ []) is) is) refl φ)
-
-      -- its operands
-      operands : Is P.the-row old (P′.lowered old ∷ []) → Sq W (Open H a ys d c (‵ (flft κp qp) ∷ ‵ OwnP ∷ locals E (held blank blank 8) [])) (runs C′ Λ E mir.t-9 (atRet E Post))
-      operands go =
-          assigns ! (addr ! (from ! (hop ! (look ! 21 refl) (fld ! refl (stop !))))) (from ! (stop !)) (init ! 59 refl (tt, tt)) $
-          assigns ! (addr ! (from ! (hop ! (look ! 21 refl) (fld ! refl (stop !))))) (from ! (stop !)) (init ! 61 refl (tt, tt)) $
-          assigns ! (addr ! (from ! (hop ! (look ! 21 refl) (fld ! refl (stop !))))) (from ! (stop !)) (init ! 63 refl (tt, tt)) $
-          assigns ! (addr ! (from ! (hop ! (look ! 21 refl) (fld ! refl (stop !))))) (from ! (stop !)) (init ! 65 refl (tt, tt)) $
-          assigns ! (of-opd ! (load ! (from ! (fld ! refl (stop !))) (look-in ! 25 (sub ! 1 refl (whole !))))) (from ! (stop !)) (init ! 67 refl (tt, record { fits = room .0 })) $
-          assigns ! (of-opd ! (load ! (from ! (hop ! (look ! 21 refl) (fld ! refl (stop !)))) (look ! 12 refl))) (from ! (stop !)) (init ! 69 refl (tt, tt)) $ decides-it go
-
-      -- `read_device` is called
-      reads-it : Is P.the-row old (P′.lowered old ∷ []) → Sq W (Open H a ys d c (‵ (flft κp qp) ∷ ‵ OwnP ∷ locals E (held blank blank 6) [])) (runs C′ Λ E mir.t-7 (atRet E Post))
-      reads-it go =
-          assigns ! (addr ! (from ! (hop ! (look ! 23 refl) (stop !)))) (from ! (stop !)) (init ! 57 refl (tt, tt)) $
-          move ! (1 ∷ []) $ reads-device ! mem′ run fm (known .read-device) d (a .bd) (a .od) gd (λ _ _. (and-then ! (load ! (from ! (stop !)) (look ! 58 refl)) (no-more !)))
-          (land ! (from ! (stop !)) (init ! 37 refl (LL.lawful D.the-type D′.the-laws 𝓤 H A W .typed d _ gd .0)) $ move ! (1 ∷ []) $ operands go)
-
-      -- `look_up` is called
-      looks-it : Sq W (Open H a ys d c (‵ (flft κp qp) ∷ ‵ OwnP ∷ locals E (held blank blank 3) [])) (runs C′ Λ E mir.t-4 (atRet E Post))
-      looks-it =
-          assigns ! (addr ! (from ! (fld ! refl (hop ! (look-in ! 25 (sub ! 0 refl (whole !))) (stop !))))) (from ! (stop !)) (init ! 53 refl (tt, tt)) $
-          assigns ! (agg ! (and-then ! (load ! (from ! (stop !)) (look ! 53 refl)) (and-then ! (load ! (from ! (fld ! refl (stop !))) (look-in ! 25 (sub ! 1 refl (whole !)))) (no-more !)))) (from ! (stop !)) (init ! 55 refl (tt, (tt, (record { fits = room .0 }, tt)))) $
-          looks-up ! mem′ run fm (known .look-up) ys id (a .bt) (a .ot) room fits-id (λ _ _. (and-then ! (load ! (from ! (stop !)) (look ! 56 refl)) (and-then ! (load ! (from ! (stop !)) (look ! 34 refl)) (no-more !))))
-          (λ go. land ! (from ! (stop !)) (init ! 35 refl (LL.lawful P.the-type P′.the-laws 𝓤 H A W .typed old _ go .0)) $ reads-it go)
-
-    -- `about` is called
-    others : onRecords group ≡ false → Has c → Is D.the-row d (D′.lowered d ∷ []) → Sq W (Open H a ys d c (‵ (flft κp qp) ∷ ‵ OwnP ∷ locals E (blank ∷ (params ++ (blank ∷ blank ∷ blank ∷ blank ∷ holds (vbool (onRecords group)) ∷ []))) [])) (runs C′ Λ E mir.t-3 (atRet E Post))
-    others not-on gc gd =
-        move ! (17 ∷ 18 ∷ []) $ asks-about ! mem′ run fm (known .about) κp qp bp op γp ps group attr group-fits attr-fits (λ _ _. (and-then ! (load ! (from ! (stop !)) (look ! 27 refl)) (and-then ! (load ! (from ! (stop !)) (look ! 29 refl)) (and-then ! (load ! (from ! (stop !)) (look ! 31 refl)) (no-more !))))) (λ id e fits-id.
-        land ! (from ! (stop !)) (init ! 33 refl (typed-id 𝓤 H A W id fits-id)) $ move ! (2 ∷ 3 ∷ 4 ∷ 5 ∷ 6 ∷ 7 ∷ 8 ∷ 9 ∷ 10 ∷ 11 ∷ 12 ∷ 13 ∷ 14 ∷ 15 ∷ 16 ∷ 17 ∷ 18 ∷ 0 ∷ 1 ∷ []) $ looks-it not-on id e fits-id gc gd)
-
-    -- all is opened, and the group is looked at
-    opens-it : Sq W (Passed a (‵ (flft κp qp) ∷ ‵ OwnP ∷ locals E (blank ∷ params) [])) (runs C′ Λ E mir.t-1 (atRet E Post))
-    opens-it =
-        opens-all ! tt a (λ gc gd. asks-group ! mem′ run fm (known .looks) group group-fits (λ _. (and-then ! (load ! (from ! (stop !)) (look ! 28 refl)) (no-more !)))
-        (land ! (from ! (stop !)) (init ! 41 refl (tt, tt)) $ first ! $ branches ! (load ! (from ! (stop !)) (look ! 41 refl))
-        (λ t. takes-records (holds-true (onRecords group) t) gc gd)
-        (λ t. skips ! $ exec ! C′ Λ E mir.t-3 (atRet E Post) $ others (holds-false (onRecords group) t) gc gd)))
+    -- the table's length is looked at, and all is opened
+    starts-it : Sq W (Passed a (‵ (flft κp qp) ∷ ‵ OwnP ∷ locals E (blank ∷ holds (vptr (a .bc) (a .oc)) ∷ holds (vptr (a .bd) (a .od)) ∷ holds (table a) ∷ holds (vint w32 group) ∷ holds (vint w64 attr) ∷ holds sp ∷ []) [])) (runs C′ Λ E mir.t-1 (atRet E Post))
+    starts-it =
+        assigns ! (of-opd ! (load ! (from ! (fld ! refl (stop !))) (look-in ! 14 (sub ! 1 refl (whole !))))) (from ! (stop !)) (init ! 30 refl (tt, record { fits = room .0 })) $
+        assigns ! (bin ! (load ! (from ! (stop !)) (look ! 30 refl)) (lit ! tt) tt) (from ! (stop !)) (init ! 32 refl (tt, tt)) $ first ! $ branches ! (load ! (from ! (stop !)) (look ! 32 refl))
+        (λ t. refuses-it (holds-false (eqb (length ys) 64) t))
+        (λ t. skips ! $ exec ! C′ Λ E mir.t-4 (atRet E Post) $ opens-all ! tt a (λ gc gd. asks-class (eqb-true (length ys) 64 (not-not (eqb (length ys) 64) t)) gc gd))
 
   walk : (C′ : Calls 𝓤 H) (Λ : Loops 𝓤 H) (fm : FmC 𝓤 H (W .laws) C′) → Known 𝓤 H A mem′ run C′ → ent 𝓤 (onEntry 𝓤 H A f.signature (bound .0 .0) (bound .0 .1) x at) (WpFn 𝓤 H C′ Λ code.function (vptr (a .bc) (a .oc) ∷ vptr (a .bd) (a .od) ∷ table a ∷ vint w32 group ∷ vint w64 attr ∷ sp ∷ []) Post)
   walk C′ Λ fm known =
@@ -328,7 +390,7 @@ module _ {M : Type 1} (𝓤 : URA M) (H : Heap 𝓤) (A : Atoms 𝓤) (W : Given
       enter ! C′ Λ code.function (vptr (a .bc) (a .oc) ∷ vptr (a .bd) (a .od) ∷ table a ∷ vint w32 group ∷ vint w64 attr ∷ sp ∷ []) _ $
       alloc1 ! (λ l₀. alloc1 ! (λ l₁. alloc1 ! (λ l₂. alloc1 ! (λ l₃. alloc1 ! (λ l₄. alloc1 ! (λ l₅. alloc1 ! (λ l₆. alloc1 ! (λ l₇. alloc1 ! (λ l₈. alloc1 ! (λ l₉. alloc1 ! (λ l₁₀. alloc1 ! (λ l₁₁. alloc1 ! (λ l₁₂. alloc1 ! (λ l₁₃. alloc1 ! (λ l₁₄. alloc1 ! (λ l₁₅. alloc1 ! (λ l₁₆. alloc1 ! (λ l₁₇. alloc1 ! (λ l₁₈. alloc1 ! (λ l₁₉. alloc1 ! (λ l₂₀. alloc1 ! (λ l₂₁. alloc1 ! (λ l₂₂. alloc1 ! (λ l₂₃. alloc1 ! (λ l₂₄. alloc1 ! (λ l₂₅. alloc1 ! (λ l₂₆. alloc1 ! (λ l₂₇. alloc1 ! (λ l₂₈. alloc1 ! (λ l₂₉. alloc1 ! (λ l₃₀. alloc1 ! (λ l₃₁. alloc0 ! $ params1 ! $
       pass1 ! (init ! 60 refl (tt, tt)) $ pass1 ! (init ! 58 refl (tt, tt)) $ pass1 ! (init ! 56 refl (tt, (tt, (record { fits = room .0 }, tt)))) $ pass1 ! (init ! 54 refl (tt, record { fits = group-fits })) $ pass1 ! (init ! 52 refl (tt, record { fits = attr-fits })) $ pass1 ! (init ! 50 refl (tt, (tt, (record { fits = room-p .0 }, tt)))) $ pass0 ! $
-      keep ! (64 ∷ 65 ∷ 66 ∷ 67 ∷ 68 ∷ 69 ∷ 70 ∷ 71 ∷ 62 ∷ 63 ∷ 60 ∷ 61 ∷ 58 ∷ 59 ∷ 56 ∷ 57 ∷ 54 ∷ 55 ∷ 52 ∷ 53 ∷ 50 ∷ 51 ∷ 48 ∷ 49 ∷ 46 ∷ 47 ∷ 44 ∷ 45 ∷ 42 ∷ 43 ∷ 40 ∷ 41 ∷ 38 ∷ 39 ∷ 36 ∷ 37 ∷ 34 ∷ 35 ∷ 32 ∷ 33 ∷ 30 ∷ 31 ∷ 28 ∷ 29 ∷ 26 ∷ 27 ∷ 24 ∷ 25 ∷ 22 ∷ 23 ∷ 20 ∷ 21 ∷ 18 ∷ 19 ∷ 16 ∷ 17 ∷ 14 ∷ 15 ∷ 12 ∷ 13 ∷ 10 ∷ 11 ∷ 8 ∷ 9 ∷ 6 ∷ 7 ∷ 4 ∷ 5 ∷ 2 ∷ 3 ∷ 0 ∷ 1 ∷ []) $ opens-it C′ Λ fm known l₀ l₁ l₂ l₃ l₄ l₅ l₆ l₇ l₈ l₉ l₁₀ l₁₁ l₁₂ l₁₃ l₁₄ l₁₅ l₁₆ l₁₇ l₁₈ l₁₉ l₂₀ l₂₁ l₂₂ l₂₃ l₂₄ l₂₅ l₂₆ l₂₇ l₂₈ l₂₉ l₃₀ l₃₁))))))))))))))))))))))))))))))))
+      keep ! (64 ∷ 65 ∷ 66 ∷ 67 ∷ 68 ∷ 69 ∷ 70 ∷ 71 ∷ 62 ∷ 63 ∷ 60 ∷ 61 ∷ 58 ∷ 59 ∷ 56 ∷ 57 ∷ 54 ∷ 55 ∷ 52 ∷ 53 ∷ 50 ∷ 51 ∷ 48 ∷ 49 ∷ 46 ∷ 47 ∷ 44 ∷ 45 ∷ 42 ∷ 43 ∷ 40 ∷ 41 ∷ 38 ∷ 39 ∷ 36 ∷ 37 ∷ 34 ∷ 35 ∷ 32 ∷ 33 ∷ 30 ∷ 31 ∷ 28 ∷ 29 ∷ 26 ∷ 27 ∷ 24 ∷ 25 ∷ 22 ∷ 23 ∷ 20 ∷ 21 ∷ 18 ∷ 19 ∷ 16 ∷ 17 ∷ 14 ∷ 15 ∷ 12 ∷ 13 ∷ 10 ∷ 11 ∷ 8 ∷ 9 ∷ 6 ∷ 7 ∷ 4 ∷ 5 ∷ 2 ∷ 3 ∷ 0 ∷ 1 ∷ []) $ starts-it C′ Λ fm known l₀ l₁ l₂ l₃ l₄ l₅ l₆ l₇ l₈ l₉ l₁₀ l₁₁ l₁₂ l₁₃ l₁₄ l₁₅ l₁₆ l₁₇ l₁₈ l₁₉ l₂₀ l₂₁ l₂₂ l₂₃ l₂₄ l₂₅ l₂₆ l₂₇ l₂₈ l₂₉ l₃₀ l₃₁))))))))))))))))))))))))))))))))
 
 module _ {M : Type 1} (𝓤 : URA M) (H : Heap 𝓤) (A : Atoms 𝓤) (W : Given 𝓤 H A) (mem′ : Memory → SProp 𝓤) (run : Routine → Fun 𝓤) where
   walks : (C′ : Calls 𝓤 H) (Λ : Loops 𝓤 H) → FmC 𝓤 H (W .laws) C′ → Known 𝓤 H A mem′ run C′ → Walks 𝓤 H A f.ended stayed (WpFn 𝓤 H C′ Λ code.function) (f.clauses 𝓤 H A mem′ run)
@@ -348,13 +410,14 @@ flic-set-spec 𝓤 H 𝓜 𝓖 𝓡 =
     entered 𝓤 H (tripleOf 𝓤 H (𝓖 .A) f.signature (f.spec 𝓤 H (𝓖 .A) (𝓜 .mem) (𝓡 .run)))
     (tables 𝓤 H 𝓜 𝓡 code.env .C) (tables 𝓤 H 𝓜 𝓡 code.env .Λ) #key code.function (code.unfolded 𝓤 H 𝓜 𝓡)
     (meets 𝓤 H (𝓖 .A) (givenOf 𝓤 H 𝓜 𝓖) (𝓜 .mem) (𝓡 .run) (tablesOf 𝓤 H 𝓜 (tables 𝓤 H 𝓜 𝓡 code.env)) (record {
+      refuse = cited 𝓤 H (Refuse 𝓤 H (𝓖 .A) (𝓜 .mem) (𝓡 .run)) 𝓜 𝓡 code.env refuse-def.name refuse-def.routine code.calls-answers·refuse (refuse-thm.met 𝓤 H 𝓜 𝓖 𝓡);
       looks = cited 𝓤 H (Group 𝓤 H (𝓖 .A) (𝓜 .mem) (𝓡 .run)) 𝓜 𝓡 code.env group-def.name group-def.routine code.calls-core·on-records (group-thm.met 𝓤 H 𝓜 𝓖 𝓡);
       records = cited 𝓤 H (AnswerRecords 𝓤 H (𝓖 .A) (𝓜 .mem) (𝓡 .run)) 𝓜 𝓡 code.env answer-records-def.name answer-records-def.routine code.calls-controller·answer-records (answer-records-thm.met 𝓤 H 𝓜 𝓖 𝓡);
-      about = cited 𝓤 H (About 𝓤 H (𝓖 .A) (𝓜 .mem) (𝓡 .run)) 𝓜 𝓡 code.env about-def.name about-def.routine code.calls-values·about (about-thm.met 𝓤 H 𝓜 𝓖 𝓡);
       look-up = cited 𝓤 H (LookUp 𝓤 H (𝓖 .A) (𝓜 .mem) (𝓡 .run)) 𝓜 𝓡 code.env look-up-def.name look-up-def.routine code.calls-table·look-up (look-up-thm.met 𝓤 H 𝓜 𝓖 𝓡);
       read-device = cited 𝓤 H (ReadDevice 𝓤 H (𝓖 .A) (𝓜 .mem) (𝓡 .run)) 𝓜 𝓡 code.env read-device-def.name read-device-def.routine code.calls-table·read-device (read-device-thm.met 𝓤 H 𝓜 𝓖 𝓡);
-      decide = cited 𝓤 H (Decide 𝓤 H (𝓖 .A) (𝓜 .mem) (𝓡 .run)) 𝓜 𝓡 code.env decide-def.name decide-def.routine code.calls-controller·decide (decide-thm.met 𝓤 H 𝓜 𝓖 𝓡);
-      store-device = cited 𝓤 H (StoreDevice 𝓤 H (𝓖 .A) (𝓜 .mem) (𝓡 .run)) 𝓜 𝓡 code.env store-device-def.name store-device-def.routine code.calls-table·store-device (store-device-thm.met 𝓤 H 𝓜 𝓖 𝓡);
-      register = cited 𝓤 H (Register 𝓤 H (𝓖 .A) (𝓜 .mem) (𝓡 .run)) 𝓜 𝓡 code.env register-def.name register-def.routine code.calls-table·register (register-thm.met 𝓤 H 𝓜 𝓖 𝓡);
-      mask = cited 𝓤 H (Mask 𝓤 H (𝓖 .A) (𝓜 .mem) (𝓡 .run)) 𝓜 𝓡 code.env mask-def.name mask-def.routine code.calls-table·mask (mask-thm.met 𝓤 H 𝓜 𝓖 𝓡);
+      inject = cited 𝓤 H (AnswerInject 𝓤 H (𝓖 .A) (𝓜 .mem) (𝓡 .run)) 𝓜 𝓡 code.env answer-inject-def.name answer-inject-def.routine code.calls-controller·answer-inject (answer-inject-thm.met 𝓤 H 𝓜 𝓖 𝓡);
+      note = cited 𝓤 H (NoteInjection 𝓤 H (𝓖 .A) (𝓜 .mem) (𝓡 .run)) 𝓜 𝓡 code.env note-injection-def.name note-injection-def.routine code.calls-table·note-injection (note-injection-thm.met 𝓤 H 𝓜 𝓖 𝓡);
+      on-place = cited 𝓤 H (OnPlace 𝓤 H (𝓖 .A) (𝓜 .mem) (𝓡 .run)) 𝓜 𝓡 code.env on-place-def.name on-place-def.routine code.calls-values·on-place (on-place-thm.met 𝓤 H 𝓜 𝓖 𝓡);
+      set-place = cited 𝓤 H (SetPlace 𝓤 H (𝓖 .A) (𝓜 .mem) (𝓡 .run)) 𝓜 𝓡 code.env set-place-def.name set-place-def.routine code.calls-table·set-place (set-place-thm.met 𝓤 H 𝓜 𝓖 𝓡);
+      set-modes = cited 𝓤 H (SetModes 𝓤 H (𝓖 .A) (𝓜 .mem) (𝓡 .run)) 𝓜 𝓡 code.env set-modes-def.name set-modes-def.routine code.calls-table·set-modes (set-modes-thm.met 𝓤 H 𝓜 𝓖 𝓡);
     }))

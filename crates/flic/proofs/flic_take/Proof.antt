@@ -9,7 +9,7 @@ use Rattle.flic.specs.Surface.{Ready, Taken}
 use Rattle.controller.specs.Inner.{controller, Handed}
 use Rattle.flic.proofs.Promises.{take-promises}
 use Rattle.controller.proofs.Controller as C
-use Rattle.flic.proofs.Locals.{Content, blank, holds, since, locals, frees-all, swaps}
+use Rattle.table.proofs.Locals.{Content, blank, holds, since, locals, frees-all, swaps}
 use Rattle.flic.proofs.Opened.{Has, OpenAt, opens-ctl, closes-ctl}
 use Rattle.flic.proofs.Four.{mutably, Loan, Toks, Lent, Left, left-by, lent-lfts, lent-shares, lent-args, lent-vals, calls-four}
 use Rattle.controller.proofs.hand_out as hand-out

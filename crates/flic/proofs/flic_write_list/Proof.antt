@@ -1,8 +1,15 @@
--- `flic_write_list`: the device record and the table are passed on and given up; the controller is looked into, and shut at the exit. The bytes are passed on whole.
-use Rattle.flic.proofs.Walk.{_≡_, refl, ℕ, [], _∷_, List, length, URA, named, erased, w8, w64, tyInt, tyBool, tyRef, imm, mut, Val, vint, vbool, vptr, SProp, ent, id⊢, feq, GName, Lft, Share, Fml, ftrue, fsep, flft, fobor, Memory, Routine, Heap, Env, Calls, Loops, WpFn, Tables, Atoms, Fun, Given, Item, Sq, runs, atRet, ‵, ⋆, _⊛_, _$_, _∵_, !, qed, by, move, keep, drop, split, join, fsplit, fsplit3, fjoin, feqL, suffices, frame, done, look, init, stop, hop, fld, from, load, addr, of-opd, and-then, no-more, assigns, land, returns, enter, alloc1, alloc0, params1, pass1, pass0, agg, whole, sub, look-in, FmC, fmOf, WpFn-mono, owns, Is, partAt, pointee, bool-makes, uint-makes, u8, RefT, ShrRef, ptr-vals, shr-tells, finally, sliceVal, sliceTy, MutSlice, ShrSlice, Room, slice-vals, mut-slice-tells, shr-slice-tells, plain, owned, nothing, onEntry, Meets, tripleOf, Contract, Triple, entered, cited, says, Stays, walkOf, Walks, ends-at, walked, walk-meets, yes, givenOf, tables, tablesOf, _+_, tyArray, usize, bool, needs, stay-dropped, goes-dropped, gave-slice, goes-gave-slice}
+-- `flic_write_list`: a table of a wrong length is refused. Else the device record and the table are passed on and given up; the controller is looked into, and shut at the exit. The
+-- bytes are passed on whole.
+use Rattle.flic.proofs.Walk.{_≡_, refl, Bool, true, false, lit, bin, store, first, skips, branches, exec, returns-within, anyQ, afterSeq, Wp, atReturn, ℕ, [], _∷_, List, length, URA, named, erased, w8, w64, tyInt, tyBool, tyRef, imm, mut, Val, vint, vbool, vptr, SProp, ent, id⊢, feq, GName, Lft, Share, Fml, ftrue, fsep, flft, fobor, Memory, Routine, Heap, Env, Calls, Loops, WpFn, Tables, Atoms, Fun, Given, Item, Sq, runs, atRet, ‵, ⋆, _⊛_, _$_, _∵_, !, qed, by, move, keep, drop, split, join, fsplit, fsplit3, fjoin, feqL, suffices, frame, done, look, init, stop, hop, fld, from, load, addr, of-opd, and-then, no-more, assigns, land, returns, enter, alloc1, alloc0, params1, pass1, pass0, agg, whole, sub, look-in, FmC, fmOf, WpFn-mono, owns, Is, partAt, pointee, bool-makes, u8, RefT, ShrRef, ptr-vals, shr-tells, finally, sliceVal, sliceTy, MutSlice, ShrSlice, Room, slice-vals, mut-slice-tells, shr-slice-tells, plain, owned, nothing, onEntry, Meets, tripleOf, Contract, Triple, entered, cited, says, Stays, walkOf, Walks, ends-at, walked, walk-meets, yes, givenOf, tables, tablesOf, _+_, tyArray, bool, needs, stay-dropped, goes-dropped, gave-slice, goes-gave-slice}
+use types.Kit as Kit
+use native.Mathlib.Omega.{arith}
+use lib.Dec.{eqb}
+use mathlib.Core.Bool.{not}
+use borrow.Author.Tests.{eqb-true, eqb-false}
 use denote.Struct.Laws as LL
 use denote.Signature.{shrRefTo, shrSliceOf}
 use Rattle.rules.specs.State.{paperLimits}
+use Rattle.rules.specs.Machine.{writeList}
 use Rattle.answers.specs.declared.Answer.{Answer}
 use Rattle.answers.proofs.Answer as An
 use Rattle.answers.proofs.Answer.Laws as An′
@@ -16,15 +23,19 @@ use Rattle.table.proofs.Images.{Image, imageTy, low-image, FitsImage, image-mak
 use Rattle.table.proofs.Record.{ReadDevice}
 use Rattle.table.proofs.Calls.{Snapshot, snapshots-shared}
 use Rattle.controller.specs.declared.Controller.{Controller}
-use Rattle.flic.specs.Surface.{Valid}
+use Rattle.flic.specs.Surface.{Valid, Requested}
 use Rattle.controller.specs.Inner.{Wrote}
 use Rattle.controller.proofs.Controller as C
-use Rattle.flic.proofs.Promises.{write-promises}
-use Rattle.flic.proofs.Locals.{Content, blank, holds, since, locals, frees-all, swaps}
+use Rattle.flic.proofs.Promises.{write-promises, wrong-promises}
+use Rattle.table.proofs.Locals.{Content, blank, holds, since, locals, frees-all, swaps, not-holds, not-not}
 use Rattle.flic.proofs.Opened.{Has, Cells, looks-ctl, shuts-ctl}
 use Rattle.flic.proofs.All.{Refs, refs, at-ctl, at-dev, at-tab, table, Tokens}
 use Rattle.flic.proofs.Four.{shared, at-array, Loan, Toks, Lent, lent-lfts, lent-shares, lent-args, lent-vals, calls-four}
-use Rattle.flic.proofs.Calls.{reads-passed}
+use Rattle.flic.proofs.Calls.{gives-up, reads-passed}
+use Rattle.table.proofs.Count.{taken}
+use Rattle.table.proofs.Answered.{refused, Refuse, refuses}
+use Rattle.answers.proofs.refuse.Symbol as refuse-def
+use Rattle.answers.proofs.refuse.Met as refuse-thm
 use Rattle.table.proofs.read_device.Symbol as read-device-def
 use Rattle.table.proofs.read_device.Met as read-device-thm
 use Rattle.table.proofs.snapshot.Symbol as snapshot-def
@@ -46,8 +57,9 @@ module _ {M : Type 1} (𝓤 : URA M) (H : Heap 𝓤) (A : Atoms 𝓤) (mem′ : 
   abbrev WriteFrom : Contract 𝓤
   WriteFrom = tripleOf 𝓤 H A write-from.signature (write-from.spec 𝓤 H A mem′ run)
 
-  -- what is known of the three callees
+  -- what is known of the four callees
   pub record Known (C′ : Calls 𝓤 H) : Type 1 where
+    pub refuse : Triple 𝓤 (C′ refuse-def.name) (Refuse 𝓤 H A mem′ run)
     pub read-device : Triple 𝓤 (C′ read-device-def.name) (ReadDevice 𝓤 H A mem′ run)
     pub snapshot : Triple 𝓤 (C′ snapshot-def.name) (Snapshot 𝓤 H A mem′ run)
     pub write-from : Triple 𝓤 (C′ write-from-def.name) WriteFrom
@@ -76,84 +88,111 @@ module _ {M : Type 1} (𝓤 : URA M) (H : Heap 𝓤) (A : Atoms 𝓤) (W : Given
   abbrev Rest : List ℕ → List (Item 𝓤)
   Rest ls = ‵ (flft (a .κc) (a .qc)) ∷ ‵ (flft (a .κd) (a .qd)) ∷ ‵ (flft (a .κt) (a .qt)) ∷ ‵ (flft κo qo) ∷ ‵ (finally u8 γo ls) ∷ []
 
-  exits : (ls : List ℕ) (z : Answer) (v : Val) → Wrote (length (a .t)) (a .c) (a .d) (snapTo (a .t) imageSize) bytes ls z → length ls ≡ length bytes → Is An.the-row z (v ∷ []) → ent 𝓤 (⋆ 𝓤 H A (Rest ls)) (Post v)
-  exits ls z v wrote e is =
-      qed W (Rest ls) ∵ suffices ! _ (ends-at 𝓤 H A f.ended stayed (f.clauses 𝓤 H A mem′ run) W bound v z (tt, (tt, (tt, (ls, tt)))) (tt, (tt, (tt, (e, tt))))) $ says ! (write-promises (a .c) (a .d) (a .t) bytes ls z wrote valid) $
+  exits : (ls : List ℕ) (z : Answer) (v : Val) → Requested writeList (a .c) (a .c) (a .d) (a .d) (a .t) (a .t) bytes ls z → length ls ≡ length bytes → Is An.the-row z (v ∷ []) → ent 𝓤 (⋆ 𝓤 H A (Rest ls)) (Post v)
+  exits ls z v requested e is =
+      qed W (Rest ls) ∵ suffices ! _ (ends-at 𝓤 H A f.ended stayed (f.clauses 𝓤 H A mem′ run) W bound v z (tt, (tt, (tt, (ls, tt)))) (tt, (tt, (tt, (e, tt))))) $ says ! requested $
       nothing ! $ move ! (4 ∷ 0 ∷ []) $ join ! $ move ! (3 ∷ 0 ∷ []) $ join ! $ move ! (2 ∷ 0 ∷ []) $ join ! $ move ! (1 ∷ 0 ∷ []) $ join ! $ frame ! $
       nothing ! $ move ! (1 ∷ 0 ∷ []) $ fjoin ! $ nothing ! $ fjoin ! $ nothing ! $ fjoin ! $ nothing ! $ fjoin ! $ frame ! $ owned ! An.the-row (Is An.the-row) (LL.makes An.the-type An′.the-plain 𝓤 H A) z _ is $ done !
 
-  -- ---- the call of `write_from`: after the arrays it takes four values and the bytes
+  -- ---- the call of `write_from`: after the arrays it takes three values and the bytes
   abbrev T : Item 𝓤
   T = ‵ (flft κo qo) ⊛ ‵ ftrue
 
   abbrev O : Fml
-  O = fsep (usize .own (length (a .t)) (vint w64 (length (a .t)) ∷ [])) (fsep (bool .own (a .c .ais) (vbool (a .c .ais) ∷ [])) (fsep (D.the-row .own (a .d) (D′.lowered (a .d) ∷ [])) (fsep (Image .own (snapTo (a .t) imageSize) (low-image (snapTo (a .t) imageSize) ∷ [])) (fsep OwnO ftrue))))
+  O = fsep (bool .own (a .c .ais) (vbool (a .c .ais) ∷ [])) (fsep (D.the-row .own (a .d) (D′.lowered (a .d) ∷ [])) (fsep (Image .own (snapTo (a .t) imageSize) (low-image (snapTo (a .t) imageSize) ∷ [])) (fsep OwnO ftrue)))
 
   abbrev Y : Type 0
-  Y = Unit {0} × (Unit {0} × (Unit {0} × (Unit {0} × (List ℕ × Unit {0}))))
+  Y = Unit {0} × (Unit {0} × (Unit {0} × (List ℕ × Unit {0})))
 
   abbrev last : Y → List ℕ
-  last y = y .1 .1 .1 .1 .0
+  last y = y .1 .1 .1 .0
 
   abbrev Leaves : Y → Fml
-  Leaves y = fsep ftrue (fsep ftrue (fsep ftrue (fsep ftrue (fsep (fsep (finally u8 γo (last y)) (feq ℕ (length (last y)) (length bytes))) ftrue))))
+  Leaves y = fsep ftrue (fsep ftrue (fsep ftrue (fsep (fsep (finally u8 γo (last y)) (feq ℕ (length (last y)) (length bytes))) ftrue)))
 
   abbrev to-write : Loan → WriteFrom 𝓤 H A mem′ run .Ghost
-  to-write n = ((lent-lfts n (κo, tt), lent-shares (qo, tt), tt, lent-args n (a .c) (a .bc) (a .oc) (length (a .t), (a .c .ais, (a .d, (snapTo (a .t) imageSize, (at-array bo oo γo bytes, tt))))), lent-vals (a .bc) (a .oc) (vint w64 (length (a .t)) ∷ [], (vbool (a .c .ais) ∷ [], (D′.lowered (a .d) ∷ [], (low-image (snapTo (a .t) imageSize) ∷ [], (out ∷ [], tt)))))), tt)
+  to-write n = ((lent-lfts n (κo, tt), lent-shares (qo, tt), tt, lent-args n (a .c) (a .bc) (a .oc) (a .c .ais, (a .d, (snapTo (a .t) imageSize, (at-array bo oo γo bytes, tt)))), lent-vals (a .bc) (a .oc) (vbool (a .c .ais) ∷ [], (D′.lowered (a .d) ∷ [], (low-image (snapTo (a .t) imageSize) ∷ [], (out ∷ [], tt))))), tt)
 
-  goes : (sh : Share) (n : Loan) → ent 𝓤 (⋆ 𝓤 H A (Toks n T ∷ ‵ (Lent (shared sh) n (a .c) (a .bc) (a .oc) O) ∷ [])) (WriteFrom 𝓤 H A mem′ run .pre (to-write n))
-  goes sh n = qed W (Toks n T ∷ ‵ (Lent (shared sh) n (a .c) (a .bc) (a .oc) O) ∷ []) ∵ says ! (λ e. valid e .ready) $ done !
+  goes : length (a .t) ≡ paperLimits .places → (sh : Share) (n : Loan) → ent 𝓤 (⋆ 𝓤 H A (Toks n T ∷ ‵ (Lent (shared sh) n (a .c) (a .bc) (a .oc) O) ∷ [])) (WriteFrom 𝓤 H A mem′ run .pre (to-write n))
+  goes right sh n = qed W (Toks n T ∷ ‵ (Lent (shared sh) n (a .c) (a .bc) (a .oc) O) ∷ []) ∵ says ! (valid right .ready) $ done !
 
   module _ (C′ : Calls 𝓤 H) (Λ : Loops 𝓤 H) (fm : FmC 𝓤 H (W .laws) C′) (known : Known 𝓤 H A mem′ run C′) (l₀ l₁ l₂ l₃ l₄ l₅ l₆ l₇ l₈ l₉ l₁₀ l₁₁ l₁₂ l₁₃ l₁₄ : ℕ) where
     abbrev E : Env 𝓤 H
-    E = (An′.mir, l₀) ∷ (tyRef (named 0) imm (pointee (C.the-row .written)), l₁) ∷ (tyRef (named 1) imm (pointee (D.the-row .written)), l₂) ∷ (sliceTy (tyRef (named 2) imm (pointee (P.the-row .written))), l₃) ∷ (sliceTy (tyRef (named 3) mut (tyInt w8)), l₄) ∷ (D′.mir, l₅) ∷ (imageTy, l₆) ∷ (tyRef erased imm (tyArray (tyInt w8) 18432), l₇) ∷ (tyRef erased imm (tyArray (tyInt w8) 256), l₈) ∷ (tyRef erased imm (tyArray (tyInt w64) 9), l₉) ∷ (tyRef erased imm (tyArray (tyInt w8) 146), l₁₀) ∷ (tyInt w64, l₁₁) ∷ (tyBool, l₁₂) ∷ (tyRef erased mut (tyInt w8), l₁₃) ∷ (sliceTy (tyRef erased mut (tyInt w8)), l₁₄) ∷ []
+    E = (An′.mir, l₀) ∷ (tyRef (named 0) imm (pointee (C.the-row .written)), l₁) ∷ (tyRef (named 1) imm (pointee (D.the-row .written)), l₂) ∷ (sliceTy (tyRef (named 2) imm (pointee (P.the-row .written))), l₃) ∷ (sliceTy (tyRef (named 3) mut (tyInt w8)), l₄) ∷ (D′.mir, l₅) ∷ (imageTy, l₆) ∷ (tyInt w64, l₇) ∷ (tyBool, l₈) ∷ (tyRef erased imm (tyArray (tyInt w8) 18432), l₉) ∷ (tyRef erased imm (tyArray (tyInt w8) 256), l₁₀) ∷ (tyRef erased imm (tyArray (tyInt w64) 9), l₁₁) ∷ (tyRef erased imm (tyArray (tyInt w8) 146), l₁₂) ∷ (tyRef erased mut (tyInt w8), l₁₃) ∷ (sliceTy (tyRef erased mut (tyInt w8)), l₁₄) ∷ []
 
-    -- what the locals hold after n statements, and the result's v₀
-    abbrev held : Content → ℕ → List Content
-    held v₀ n = v₀ ∷ holds (vptr (a .bc) (a .oc)) ∷ holds (vptr (a .bd) (a .od)) ∷ holds (table a) ∷ holds out ∷ since 1 n (D′.lowered (a .d)) ∷ since 2 n (low-image (snapTo (a .t) imageSize)) ∷ since 3 n (vptr (a .bc) (a .oc + 0)) ∷ since 4 n (vptr (a .bc) (a .oc + 18432)) ∷ since 5 n (vptr (a .bc) (a .oc + 18688)) ∷ since 6 n (vptr (a .bc) (a .oc + 18760))
-        ∷ since 7 n (vint w64 (length (a .t))) ∷ since 8 n (vbool (a .c .ais)) ∷ since 9 n (vptr bo oo) ∷ since 10 n out ∷ []
+    -- what the locals hold after n statements, and the result's v₀; the flag is whether the length is wrong, then the capability
+    abbrev wrong : Bool
+    wrong = not (eqb (length (a .t)) 64)
+
+    abbrev held : Content → Bool → ℕ → List Content
+    held v₀ flag n = v₀ ∷ holds (vptr (a .bc) (a .oc)) ∷ holds (vptr (a .bd) (a .od)) ∷ holds (table a) ∷ holds out ∷ since 4 n (D′.lowered (a .d)) ∷ since 5 n (low-image (snapTo (a .t) imageSize)) ∷ since 1 n (vint w64 (length (a .t))) ∷ since 2 n (vbool flag)
+        ∷ since 6 n (vptr (a .bc) (a .oc + 0)) ∷ since 7 n (vptr (a .bc) (a .oc + 18432)) ∷ since 8 n (vptr (a .bc) (a .oc + 18688)) ∷ since 9 n (vptr (a .bc) (a .oc + 18760)) ∷ since 11 n (vptr bo oo) ∷ since 12 n out ∷ []
 
     -- the controller looked into, at the share sh
     abbrev Open : Share → List (Item 𝓤) → List (Item 𝓤)
     Open sh Γ = Cells H sh (a .c) (a .bc) (a .oc) (‵ (fobor (a .κc) (a .qc) (partAt C.the-row sh (a .c) (a .bc) (a .oc))) ∷ Γ)
 
-    -- the controller is shut
-    ends : (sh : Share) → Has (a .c) → (z : Answer) (v : Val) (y : Y) → Wrote (length (a .t)) (a .c) (a .d) (snapTo (a .t) imageSize) bytes (last y) z → Is An.the-row z (v ∷ [])
-        → Sq W (Open sh (T ∷ ‵ (Leaves y) ∷ ‵ (flft (a .κd) (a .qd)) ∷ ‵ (flft (a .κt) (a .qt)) ∷ locals E (held (holds v) 10) [])) (runs C′ Λ E mir.t-12 (atRet E Post))
-    ends sh g z v y wrote is =
-        shuts-ctl ! tt sh (a .c) g (a .bc) (a .oc) $ move ! (2 ∷ []) $ fsplit ! $ drop ! $ fsplit ! $ drop ! $ fsplit ! $ drop ! $ fsplit ! $ drop ! $ fsplit ! $ fsplit ! $ move ! (1 ∷ []) $ feqL ! (λ e.
-        -- [the last bytes; true; the token; T; two tokens; the locals]
-        move ! (3 ∷ []) $ split ! $ move ! (4 ∷ 5 ∷ 6 ∷ 0 ∷ 2 ∷ 1 ∷ 3 ∷ []) $ move ! (5 ∷ []) $ drop ! $ move ! (5 ∷ []) $ drop ! $
-        returns ! (look ! 5 refl) $ swaps ! (Rest (last y)) (locals E (held (holds v) 10) []) $ frees-all ! E (held (holds v) 10) $ by ! (exits (last y) z v wrote e is))
+    module _ (right : length (a .t) ≡ paperLimits .places) where
+      -- the controller is shut
+      ends : (sh : Share) → Has (a .c) → (z : Answer) (v : Val) (y : Y) → Wrote (a .c) (a .d) (snapTo (a .t) imageSize) bytes (last y) z → Is An.the-row z (v ∷ [])
+          → Sq W (Open sh (T ∷ ‵ (Leaves y) ∷ ‵ (flft (a .κd) (a .qd)) ∷ ‵ (flft (a .κt) (a .qt)) ∷ locals E (held (holds v) (a .c .ais) 12) [])) (runs C′ Λ E mir.t-14 (atRet E Post))
+      ends sh g z v y wrote is =
+          shuts-ctl ! tt sh (a .c) g (a .bc) (a .oc) $ move ! (2 ∷ []) $ fsplit ! $ drop ! $ fsplit ! $ drop ! $ fsplit ! $ drop ! $ fsplit ! $ fsplit ! $ move ! (1 ∷ []) $ feqL ! (λ e.
+          -- [the last bytes; true; the token; T; two tokens; the locals]
+          move ! (3 ∷ []) $ split ! $ move ! (4 ∷ 5 ∷ 6 ∷ 0 ∷ 2 ∷ 1 ∷ 3 ∷ []) $ move ! (5 ∷ []) $ drop ! $ move ! (5 ∷ []) $ drop ! $
+          returns ! (look ! 5 refl) $ swaps ! (Rest (last y)) (locals E (held (holds v) (a .c .ais) 12) []) $ frees-all ! E (held (holds v) (a .c .ais) 12) $ by ! (exits (last y) z v (write-promises (a .c) (a .d) (a .t) bytes (last y) z right (valid right) wrote) e is))
 
-    calls-it : (sh : Share) → Has (a .c) → Is D.the-row (a .d) (D′.lowered (a .d) ∷ []) → FitsImage (snapTo (a .t) imageSize) → Sq W (Open sh (‵ (flft (a .κd) (a .qd)) ∷ ‵ OwnO ∷ ‵ (flft κo qo) ∷ ‵ (flft (a .κt) (a .qt)) ∷ locals E (held blank 10) [])) (runs C′ Λ E mir.t-11 (atRet E Post))
-    calls-it sh g gd gi =
-        nothing ! $ move ! (9 ∷ 0 ∷ []) $ fjoin ! $ owned ! Image (Is Image) (image-makes 𝓤 H A W) (snapTo (a .t) imageSize) _ gi $ fjoin ! $ owned ! D.the-row (Is D.the-row) (LL.makes D.the-type D′.the-plain 𝓤 H A) (a .d) _ gd $ fjoin ! $
-        owned ! bool (Is bool) (bool-makes 𝓤 H A W) (a .c .ais) _ refl $ fjoin ! $ owned ! usize (Is usize) (uint-makes 𝓤 H A W w64) (length (a .t)) _ (refl, room .0) $ fjoin ! $ nothing ! $ move ! (10 ∷ 0 ∷ []) $ join ! $ move ! (2 ∷ 3 ∷ 4 ∷ 5 ∷ 0 ∷ 1 ∷ []) $
-        calls-four ! fm (WriteFrom 𝓤 H A mem′ run) (known .write-from) (shared sh) to-write (a .c) g (a .bc) (a .oc) An.the-row T O Leaves (λ z w. Wrote (length (a .t)) (a .c) (a .d) (snapTo (a .t) imageSize) bytes (last (w .1 .1 .1 .1)) z) (goes sh) (λ n v. id⊢ 𝓤 _) (λ n i.
-        (and-then ! (load ! (from ! (stop !)) (look ! 24 refl)) (and-then ! (load ! (from ! (stop !)) (look ! 26 refl)) (and-then ! (load ! (from ! (stop !)) (look ! 28 refl)) (and-then ! (load ! (from ! (stop !)) (look ! 30 refl)) (and-then ! (load ! (from ! (stop !)) (look ! 32 refl)) (and-then ! (load ! (from ! (stop !)) (look ! 34 refl)) (and-then ! (load ! (from ! (stop !)) (look ! 20 refl)) (and-then ! (load ! (from ! (stop !)) (look ! 22 refl)) (and-then ! (load ! (from ! (stop !)) (look ! 38 refl)) (no-more !))))))))))) (λ z v w wrote g′ is.
-        land ! (from ! (stop !)) (init ! 11 refl (LL.lawful An.the-type An′.the-laws 𝓤 H A W .typed z _ is .0)) $ move ! (0 ∷ 1 ∷ 2 ∷ 3 ∷ 6 ∷ 7 ∷ 8 ∷ []) $ ends sh g z v (w .1 .1 .1 .1) wrote is)
+      calls-it : (sh : Share) → Has (a .c) → Is D.the-row (a .d) (D′.lowered (a .d) ∷ []) → FitsImage (snapTo (a .t) imageSize) → Sq W (Open sh (‵ (flft (a .κd) (a .qd)) ∷ ‵ OwnO ∷ ‵ (flft κo qo) ∷ ‵ (flft (a .κt) (a .qt)) ∷ locals E (held blank (a .c .ais) 12) [])) (runs C′ Λ E mir.t-13 (atRet E Post))
+      calls-it sh g gd gi =
+          nothing ! $ move ! (9 ∷ 0 ∷ []) $ fjoin ! $ owned ! Image (Is Image) (image-makes 𝓤 H A W) (snapTo (a .t) imageSize) _ gi $ fjoin ! $ owned ! D.the-row (Is D.the-row) (LL.makes D.the-type D′.the-plain 𝓤 H A) (a .d) _ gd $ fjoin ! $
+          owned ! bool (Is bool) (bool-makes 𝓤 H A W) (a .c .ais) _ refl $ fjoin ! $ nothing ! $ move ! (10 ∷ 0 ∷ []) $ join ! $ move ! (2 ∷ 3 ∷ 4 ∷ 5 ∷ 0 ∷ 1 ∷ []) $
+          calls-four ! fm (WriteFrom 𝓤 H A mem′ run) (known .write-from) (shared sh) to-write (a .c) g (a .bc) (a .oc) An.the-row T O Leaves (λ z w. Wrote (a .c) (a .d) (snapTo (a .t) imageSize) bytes (last (w .1 .1 .1 .1)) z) (goes right sh) (λ n v. id⊢ 𝓤 _) (λ n i.
+          (and-then ! (load ! (from ! (stop !)) (look ! 28 refl)) (and-then ! (load ! (from ! (stop !)) (look ! 30 refl)) (and-then ! (load ! (from ! (stop !)) (look ! 32 refl)) (and-then ! (load ! (from ! (stop !)) (look ! 34 refl)) (and-then ! (load ! (from ! (stop !)) (look ! 26 refl)) (and-then ! (load ! (from ! (stop !)) (look ! 20 refl)) (and-then ! (load ! (from ! (stop !)) (look ! 22 refl)) (and-then ! (load ! (from ! (stop !)) (look ! 38 refl)) (no-more !)))))))))) (λ z v w wrote g′ is.
+          land ! (from ! (stop !)) (init ! 11 refl (LL.lawful An.the-type An′.the-laws 𝓤 H A W .typed z _ is .0)) $ move ! (0 ∷ 1 ∷ 2 ∷ 3 ∷ 6 ∷ 7 ∷ 8 ∷ []) $ ends sh g z v (w .1 .1 .1 .1) wrote is)
 
-    -- the operands
-    operands : (sh : Share) → Has (a .c) → Is D.the-row (a .d) (D′.lowered (a .d) ∷ []) → FitsImage (snapTo (a .t) imageSize) → Sq W (Open sh (‵ (flft (a .κd) (a .qd)) ∷ ‵ OwnO ∷ ‵ (flft κo qo) ∷ ‵ (flft (a .κt) (a .qt)) ∷ locals E (held blank 2) [])) (runs C′ Λ E mir.t-3 (atRet E Post))
-    operands sh g gd gi =
-        assigns ! (addr ! (from ! (hop ! (look ! 13 refl) (fld ! refl (stop !))))) (from ! (stop !)) (init ! 25 refl (tt, tt)) $
-        assigns ! (addr ! (from ! (hop ! (look ! 13 refl) (fld ! refl (stop !))))) (from ! (stop !)) (init ! 27 refl (tt, tt)) $
-        assigns ! (addr ! (from ! (hop ! (look ! 13 refl) (fld ! refl (stop !))))) (from ! (stop !)) (init ! 29 refl (tt, tt)) $
-        assigns ! (addr ! (from ! (hop ! (look ! 13 refl) (fld ! refl (stop !))))) (from ! (stop !)) (init ! 31 refl (tt, tt)) $
-        assigns ! (of-opd ! (load ! (from ! (fld ! refl (stop !))) (look-in ! 17 (sub ! 1 refl (whole !))))) (from ! (stop !)) (init ! 33 refl (tt, record { fits = room .0 })) $
-        assigns ! (of-opd ! (load ! (from ! (hop ! (look ! 13 refl) (fld ! refl (stop !)))) (look ! 4 refl))) (from ! (stop !)) (init ! 35 refl (tt, tt)) $
-        assigns ! (addr ! (from ! (fld ! refl (hop ! (look-in ! 19 (sub ! 0 refl (whole !))) (stop !))))) (from ! (stop !)) (init ! 37 refl (tt, tt)) $
-        assigns ! (agg ! (and-then ! (load ! (from ! (stop !)) (look ! 37 refl)) (and-then ! (load ! (from ! (fld ! refl (stop !))) (look-in ! 19 (sub ! 1 refl (whole !)))) (no-more !)))) (from ! (stop !)) (init ! 39 refl (tt, (tt, (record { fits = room-o .0 }, tt)))) $
-        calls-it sh g gd gi
+      -- the operands
+      operands : (sh : Share) → Has (a .c) → Is D.the-row (a .d) (D′.lowered (a .d) ∷ []) → FitsImage (snapTo (a .t) imageSize) → Sq W (Open sh (‵ (flft (a .κd) (a .qd)) ∷ ‵ OwnO ∷ ‵ (flft κo qo) ∷ ‵ (flft (a .κt) (a .qt)) ∷ locals E (held blank wrong 5) [])) (runs C′ Λ E mir.t-6 (atRet E Post))
+      operands sh g gd gi =
+          assigns ! (addr ! (from ! (hop ! (look ! 13 refl) (fld ! refl (stop !))))) (from ! (stop !)) (init ! 29 refl (tt, tt)) $
+          assigns ! (addr ! (from ! (hop ! (look ! 13 refl) (fld ! refl (stop !))))) (from ! (stop !)) (init ! 31 refl (tt, tt)) $
+          assigns ! (addr ! (from ! (hop ! (look ! 13 refl) (fld ! refl (stop !))))) (from ! (stop !)) (init ! 33 refl (tt, tt)) $
+          assigns ! (addr ! (from ! (hop ! (look ! 13 refl) (fld ! refl (stop !))))) (from ! (stop !)) (init ! 35 refl (tt, tt)) $
+          assigns ! (of-opd ! (load ! (from ! (hop ! (look ! 13 refl) (fld ! refl (stop !)))) (look ! 4 refl))) (from ! (stop !)) (store ! 27 refl (tt, tt)) $
+          assigns ! (addr ! (from ! (fld ! refl (hop ! (look-in ! 19 (sub ! 0 refl (whole !))) (stop !))))) (from ! (stop !)) (init ! 37 refl (tt, tt)) $
+          assigns ! (agg ! (and-then ! (load ! (from ! (stop !)) (look ! 37 refl)) (and-then ! (load ! (from ! (fld ! refl (stop !))) (look-in ! 19 (sub ! 1 refl (whole !)))) (no-more !)))) (from ! (stop !)) (init ! 39 refl (tt, (tt, (record { fits = room-o .0 }, tt)))) $
+          calls-it sh g gd gi
+
+    -- what is passed, before anything is read
+    abbrev Passed : List (Item 𝓤) → List (Item 𝓤)
+    Passed Γ = ‵ (flft (a .κd) (a .qd)) ∷ ‵ (ShrRef (named 1) (a .κd) D.the-row .own (x .1 .0) (vptr (a .bd) (a .od) ∷ [])) ∷ ‵ (ShrRef (named 0) (a .κc) C.the-row .own (x .0) (vptr (a .bc) (a .oc) ∷ [])) ∷ ‵ (flft (a .κc) (a .qc)) ∷ ‵ OwnO ∷ ‵ (flft κo qo) ∷ ‵ (flft (a .κt) (a .qt)) ∷ ‵ (ShrSlice (named 2) (a .κt) P.the-row .own (x .1 .1 .0) (table a ∷ [])) ∷ Γ
 
     -- `read_device` and `snapshot` are called, and the controller is looked into
-    reads-it : Sq W (‵ (flft (a .κd) (a .qd)) ∷ ‵ (ShrRef (named 1) (a .κd) D.the-row .own (x .1 .0) (vptr (a .bd) (a .od) ∷ [])) ∷ ‵ (ShrRef (named 0) (a .κc) C.the-row .own (x .0) (vptr (a .bc) (a .oc) ∷ [])) ∷ ‵ (flft (a .κc) (a .qc)) ∷ ‵ OwnO ∷ ‵ (flft κo qo) ∷ ‵ (flft (a .κt) (a .qt)) ∷ ‵ (ShrSlice (named 2) (a .κt) P.the-row .own (x .1 .1 .0) (table a ∷ [])) ∷ locals E (held blank 0) []) (runs C′ Λ E mir.t-1 (atRet E Post))
-    reads-it =
+    reads-it : length (a .t) ≡ paperLimits .places → Sq W (Passed (locals E (held blank wrong 2) [])) (runs C′ Λ E mir.t-4 (atRet E Post))
+    reads-it right =
         reads-passed ! mem′ run fm (known .read-device) (a .κd) (a .qd) (a .bd) (a .od) (a .γd) (a .d) (λ _. (and-then ! (load ! (from ! (stop !)) (look ! 11 refl)) (no-more !))) (λ gd. land ! (from ! (stop !)) (init ! 17 refl (LL.lawful D.the-type D′.the-laws 𝓤 H A W .typed (a .d) _ gd .0)) $ move ! (5 ∷ 6 ∷ []) $
         snapshots-shared ! mem′ run fm (known .snapshot) (a .t) (a .bt) (a .ot) (a .κt) (a .qt) (a .γt) (λ _ _. (and-then ! (load ! (from ! (stop !)) (look ! 13 refl)) (no-more !))) (λ gi. land ! (from ! (stop !)) (init ! 19 refl (image-typed 𝓤 H A W (snapTo (a .t) imageSize) gi)) $
         -- [t's token; t's; d's token; c's; its token; out's; its token; the locals]
-        move ! (1 ∷ []) $ drop ! $ move ! (2 ∷ []) $ fsplit3 ! $ drop ! $ drop ! $ move ! (0 ∷ 3 ∷ 2 ∷ 4 ∷ 5 ∷ 1 ∷ []) $ looks-ctl ! tt (a .c) (a .bc) (a .oc) (λ sh g. operands sh g gd gi)))
+        move ! (1 ∷ []) $ drop ! $ move ! (2 ∷ []) $ fsplit3 ! $ drop ! $ drop ! $ move ! (0 ∷ 3 ∷ 2 ∷ 4 ∷ 5 ∷ 1 ∷ []) $ looks-ctl ! tt (a .c) (a .bc) (a .oc) (λ sh g. operands right sh g gd gi)))
+
+    abbrev Then : Kit.Post 𝓤 H
+    Then = anyQ (afterSeq 𝓤 H (Wp 𝓤 H C′ Λ E mir.t-4 (atReturn 𝓤 H E Post)) (atReturn 𝓤 H E Post))
+
+    -- a wrong table: the bytes are given up as they are
+    refuses-it : eqb (length (a .t)) 64 ≡ false → Sq W (Passed (locals E (held blank wrong 2) [])) (runs C′ Λ E (taken mir.s-3) Then)
+    refuses-it e =
+        refuses ! mem′ run fm (known .refuse) 14 (omega arith) (λ i. (and-then ! (lit ! tt) (no-more !))) (λ g.
+        land ! (from ! (stop !)) (init ! 8 refl (LL.lawful An.the-type An′.the-laws 𝓤 H A W .typed (refused 14) _ g .0)) $ move ! (4 ∷ []) $ gives-up ! κo bo oo γo bytes $
+        move ! (4 ∷ 1 ∷ 6 ∷ 5 ∷ 0 ∷ []) $ move ! (5 ∷ []) $ drop ! $ move ! (5 ∷ []) $ drop ! $ move ! (5 ∷ []) $ drop ! $ returns-within ! Post refl (look ! 5 refl) $
+        swaps ! (Rest bytes) (locals E (held (holds (An′.lowered (refused 14))) wrong 2) []) $ frees-all ! E (held (holds (An′.lowered (refused 14))) wrong 2) $
+        by ! (exits bytes (refused 14) (An′.lowered (refused 14)) (wrong-promises (a .c) (a .d) (a .t) bytes (eqb-false (length (a .t)) 64 e) writeList tt) refl g))
+
+    -- the length is looked at
+    starts : Sq W (Passed (locals E (held blank wrong 0) [])) (runs C′ Λ E mir.t-1 (atRet E Post))
+    starts =
+        assigns ! (of-opd ! (load ! (from ! (fld ! refl (stop !))) (look-in ! 14 (sub ! 1 refl (whole !))))) (from ! (stop !)) (init ! 22 refl (tt, record { fits = room .0 })) $
+        assigns ! (bin ! (load ! (from ! (stop !)) (look ! 22 refl)) (lit ! tt) tt) (from ! (stop !)) (init ! 24 refl (tt, tt)) $
+        first ! $ branches ! (load ! (from ! (stop !)) (look ! 24 refl)) (λ t. refuses-it (not-holds (eqb (length (a .t)) 64) t))
+        (λ t. skips ! $ exec ! C′ Λ E mir.t-4 (atRet E Post) $ reads-it (eqb-true (length (a .t)) 64 (not-not (eqb (length (a .t)) 64) t)))
 
   walk : (C′ : Calls 𝓤 H) (Λ : Loops 𝓤 H) (fm : FmC 𝓤 H (W .laws) C′) → Known 𝓤 H A mem′ run C′ → ent 𝓤 (onEntry 𝓤 H A f.signature (bound .0 .0) (bound .0 .1) x at) (WpFn 𝓤 H C′ Λ code.function (vptr (a .bc) (a .oc) ∷ vptr (a .bd) (a .od) ∷ table a ∷ out ∷ []) Post)
   walk C′ Λ fm known =
@@ -165,7 +204,7 @@ module _ {M : Type 1} (𝓤 : URA M) (H : Heap 𝓤) (A : Atoms 𝓤) (W : Given
       keep ! (8 ∷ 3 ∷ 4 ∷ 9 ∷ 0 ∷ 5 ∷ 7 ∷ 2 ∷ []) $ enter ! C′ Λ code.function (vptr (a .bc) (a .oc) ∷ vptr (a .bd) (a .od) ∷ table a ∷ out ∷ []) _ $
       alloc1 ! (λ l₀. alloc1 ! (λ l₁. alloc1 ! (λ l₂. alloc1 ! (λ l₃. alloc1 ! (λ l₄. alloc1 ! (λ l₅. alloc1 ! (λ l₆. alloc1 ! (λ l₇. alloc1 ! (λ l₈. alloc1 ! (λ l₉. alloc1 ! (λ l₁₀. alloc1 ! (λ l₁₁. alloc1 ! (λ l₁₂. alloc1 ! (λ l₁₃. alloc1 ! (λ l₁₄. alloc0 ! $ params1 ! $
       pass1 ! (init ! 26 refl (tt, tt)) $ pass1 ! (init ! 24 refl (tt, tt)) $ pass1 ! (init ! 22 refl (tt, (tt, (record { fits = room .0 }, tt)))) $ pass1 ! (init ! 20 refl (tt, (tt, (record { fits = room-o .0 }, tt)))) $ pass0 ! $
-      keep ! (30 ∷ 31 ∷ 32 ∷ 33 ∷ 34 ∷ 35 ∷ 36 ∷ 37 ∷ 28 ∷ 29 ∷ 26 ∷ 27 ∷ 24 ∷ 25 ∷ 22 ∷ 23 ∷ 20 ∷ 21 ∷ 18 ∷ 19 ∷ 16 ∷ 17 ∷ 14 ∷ 15 ∷ 12 ∷ 13 ∷ 10 ∷ 11 ∷ 8 ∷ 9 ∷ 6 ∷ 7 ∷ 4 ∷ 5 ∷ 2 ∷ 3 ∷ 0 ∷ 1 ∷ []) $ reads-it C′ Λ fm known l₀ l₁ l₂ l₃ l₄ l₅ l₆ l₇ l₈ l₉ l₁₀ l₁₁ l₁₂ l₁₃ l₁₄)))))))))))))))
+      keep ! (30 ∷ 31 ∷ 32 ∷ 33 ∷ 34 ∷ 35 ∷ 36 ∷ 37 ∷ 28 ∷ 29 ∷ 26 ∷ 27 ∷ 24 ∷ 25 ∷ 22 ∷ 23 ∷ 20 ∷ 21 ∷ 18 ∷ 19 ∷ 16 ∷ 17 ∷ 14 ∷ 15 ∷ 12 ∷ 13 ∷ 10 ∷ 11 ∷ 8 ∷ 9 ∷ 6 ∷ 7 ∷ 4 ∷ 5 ∷ 2 ∷ 3 ∷ 0 ∷ 1 ∷ []) $ starts C′ Λ fm known l₀ l₁ l₂ l₃ l₄ l₅ l₆ l₇ l₈ l₉ l₁₀ l₁₁ l₁₂ l₁₃ l₁₄)))))))))))))))
 
 module _ {M : Type 1} (𝓤 : URA M) (H : Heap 𝓤) (A : Atoms 𝓤) (W : Given 𝓤 H A) (mem′ : Memory → SProp 𝓤) (run : Routine → Fun 𝓤) where
   walks : (C′ : Calls 𝓤 H) (Λ : Loops 𝓤 H) → FmC 𝓤 H (W .laws) C′ → Known 𝓤 H A mem′ run C′ → Walks 𝓤 H A f.ended stayed (WpFn 𝓤 H C′ Λ code.function) (f.clauses 𝓤 H A mem′ run)
@@ -185,6 +224,7 @@ flic-write-list-spec 𝓤 H 𝓜 𝓖 𝓡 =
     entered 𝓤 H (tripleOf 𝓤 H (𝓖 .A) f.signature (f.spec 𝓤 H (𝓖 .A) (𝓜 .mem) (𝓡 .run)))
     (tables 𝓤 H 𝓜 𝓡 code.env .C) (tables 𝓤 H 𝓜 𝓡 code.env .Λ) #key code.function (code.unfolded 𝓤 H 𝓜 𝓡)
     (meets 𝓤 H (𝓖 .A) (givenOf 𝓤 H 𝓜 𝓖) (𝓜 .mem) (𝓡 .run) (tablesOf 𝓤 H 𝓜 (tables 𝓤 H 𝓜 𝓡 code.env)) (record {
+      refuse = cited 𝓤 H (Refuse 𝓤 H (𝓖 .A) (𝓜 .mem) (𝓡 .run)) 𝓜 𝓡 code.env refuse-def.name refuse-def.routine code.calls-answers·refuse (refuse-thm.met 𝓤 H 𝓜 𝓖 𝓡);
       read-device = cited 𝓤 H (ReadDevice 𝓤 H (𝓖 .A) (𝓜 .mem) (𝓡 .run)) 𝓜 𝓡 code.env read-device-def.name read-device-def.routine code.calls-table·read-device (read-device-thm.met 𝓤 H 𝓜 𝓖 𝓡);
       snapshot = cited 𝓤 H (Snapshot 𝓤 H (𝓖 .A) (𝓜 .mem) (𝓡 .run)) 𝓜 𝓡 code.env snapshot-def.name snapshot-def.routine code.calls-table·snapshot (snapshot-thm.met 𝓤 H 𝓜 𝓖 𝓡);
       write-from = cited 𝓤 H (WriteFrom 𝓤 H (𝓖 .A) (𝓜 .mem) (𝓡 .run)) 𝓜 𝓡 code.env write-from-def.name write-from-def.routine code.calls-controller·write-from (write-from-thm.met 𝓤 H 𝓜 𝓖 𝓡);

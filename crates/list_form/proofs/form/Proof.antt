@@ -8,7 +8,7 @@ use lib.Dec.{leb, eqb}
 use borrow.Author.Needs.{needs}
 use borrow.Author.Tests.{eq-eqb, ne-eqb, le-leb, lt-leb, not-true, not-false}
 use Rattle.rules.specs.State.{Limits, State}
-use Rattle.rules.specs.MoveList.{flag, headerBytes, countIn, tableIn, payloadsIn, payloadsAt, formed, plays}
+use Rattle.rules.specs.MoveList.{oneIf, headerBytes, countIn, tableOffsetIn, payloadOffsetIn, payloadOffset, formed, plays}
 use Rattle.rules.proofs.Checks.{passes, fails}
 use Rattle.list_form.specs.Form.{slotsOf}
 use Rattle.list_form.proofs.Laws.{fromAis, fromSlots, fromOffsets, fromCount, fromFlag, fromTotal, refused-with, offsets-say}
@@ -30,19 +30,19 @@ past-count c L s = past-flag (c .before .before) L s ∙ passes _ _ _ (rw (← c
 
 -- the offsets' test and the entries' test, with the count as the list has it
 offsets-pass : (c : tie.Else5) → let b = c .before .before .before .before .before .before .before .before .before .before .args .list .now in
-    (eqb (tableIn b) headerBytes && (eqb (payloadsIn b) (payloadsAt (countIn b)) && leb (payloadsIn b) (length b))) ≡ true
+    (eqb (tableOffsetIn b) headerBytes && (eqb (payloadOffsetIn b) (payloadOffset (countIn b)) && leb (payloadOffsetIn b) (length b))) ≡ true
 offsets-pass c = (rw (c .before .before .before .read-be3 .ensures .0) at (sym (c .before .offsets .ensures))) ∙ not-false _ (c .if5 .left)
 
-start-is : (c : tie.Else5) → let b = c .before .before .before .before .before .before .before .before .before .before .args .list .now in (payloadsIn b ≡ payloadsAt (countIn b)) × (payloadsAt (countIn b) ≤ length b)
-start-is c = offsets-say (eqb (tableIn (c .before .before .before .before .before .before .before .before .before .before .args .list .now)) headerBytes) _ _ _ (offsets-pass c)
+start-is : (c : tie.Else5) → let b = c .before .before .before .before .before .before .before .before .before .before .args .list .now in (payloadOffsetIn b ≡ payloadOffset (countIn b)) × (payloadOffset (countIn b) ≤ length b)
+start-is c = offsets-say (eqb (tableOffsetIn (c .before .before .before .before .before .before .before .before .before .before .args .list .now)) headerBytes) _ _ _ (offsets-pass c)
 
 past-offsets : (c : tie.Else5) (L : Limits) (s : State) → let b = c .before .before .before .before .before .before .before .before .before .before .args .list .now in plays L s b ≡ fromSlots L s b
 past-offsets c L s = past-count (c .before .before) L s ∙ passes _ _ _ (offsets-pass c)
 
-said : (c : tie.After-slots-formed) → let b = c .before .before .before .before .before .before .before .before .before .before .before .args .list .now in c .slots-formed .result ≡ formed (length b) (payloadsAt (countIn b)) (slotsOf b)
+said : (c : tie.After-slots-formed) → let b = c .before .before .before .before .before .before .before .before .before .before .before .args .list .now in c .slots-formed .result ≡ formed (length b) (payloadOffset (countIn b)) (slotsOf b)
 said c = rw (c .before .before .before .before .read-be3 .ensures .0) at (c .slots-formed .ensures)
 
-slots-pass : (c : tie.Else6) → let b = c .before .before .before .before .before .before .before .before .before .before .before .before .args .list .now in formed (length b) (payloadsAt (countIn b)) (slotsOf b) ≡ true
+slots-pass : (c : tie.Else6) → let b = c .before .before .before .before .before .before .before .before .before .before .before .before .args .list .now in formed (length b) (payloadOffset (countIn b)) (slotsOf b) ≡ true
 slots-pass c = sym (said (c .before)) ∙ not-false _ (c .if6 .left)
 
 past-slots : (c : tie.Else6) (L : Limits) (s : State) → let b = c .before .before .before .before .before .before .before .before .before .before .before .before .args .list .now in plays L s b ≡ fromAis L s b
@@ -92,7 +92,7 @@ flag-of-requires c κs = search needs
 returns-7 : tie.Need-returns-7
 returns-7 c =
     refused-with _ _ 95 (omega arith)
-    (λ L s e. past-slots (c .before .before) L s ∙ fails _ _ _ (ne-eqb _ _ (λ z. c .if7 .taken (c .before .before .before .before .before .before .before .before .before .read-be2 .ensures .0 ∙ z ∙ ap flag e ∙ sym (c .before .flag-of .ensures .0)))))
+    (λ L s e. past-slots (c .before .before) L s ∙ fails _ _ _ (ne-eqb _ _ (λ z. c .if7 .taken (c .before .before .before .before .before .before .before .before .before .read-be2 .ensures .0 ∙ z ∙ ap oneIf e ∙ sym (c .before .flag-of .ensures .0)))))
 
 returns-8 : tie.Need-returns-8
 returns-8 c =
@@ -101,7 +101,7 @@ returns-8 c =
       good = λ z. record { few = rw (← c .before .before .before .before .before .before .before .read-be3 .ensures .0) (c .before .before .before .before .before .before .if4 .left); table = start-is (c .before .before .before .before) .1; slots = slots-pass (c .before .before) };
       played =
           λ z L s e.
-          past-slots (c .before .before) L s ∙ passes _ _ _ (eq-eqb _ _ (sym (c .before .before .before .before .before .before .before .before .before .read-be2 .ensures .0) ∙ c .if7 .left ∙ c .before .flag-of .ensures .0 ∙ ap flag (sym e)))
+          past-slots (c .before .before) L s ∙ passes _ _ _ (eq-eqb _ _ (sym (c .before .before .before .before .before .before .before .before .before .read-be2 .ensures .0) ∙ c .if7 .left ∙ c .before .flag-of .ensures .0 ∙ ap oneIf (sym e)))
           ∙ rw e;
       refused = λ n. absurd (n (omega arith));
     }

@@ -2,7 +2,7 @@
 use mathlib.Core.Path.{_∙_, sym}
 use borrow.Author.Needs.{needs}
 use borrow.Author.Tests.{eq-eqb, ne-eqb}
-use Rattle.rules.specs.MoveList.{tableIn, payloadsIn, payloadsAt}
+use Rattle.rules.specs.MoveList.{tableOffsetIn, payloadOffsetIn, payloadOffset}
 use Rattle.list_form.proofs.offsets.Statement.{statement}
 use Rattle.list_form.proofs.offsets.Tie as tie
 
@@ -10,7 +10,7 @@ read-be-requires : tie.Need-read-be-requires
 read-be-requires c κs = search needs
 
 returns : tie.Need-returns
-returns c = rw (ne-eqb (tableIn (c .before .before .before .args .list .now)) 20 (λ e. c .if1 .taken (c .before .read-be .ensures .0 ∙ e)))
+returns c = rw (ne-eqb (tableOffsetIn (c .before .before .before .args .list .now)) 20 (λ e. c .if1 .taken (c .before .read-be .ensures .0 ∙ e)))
 
 read-be-requires-2 : tie.Need-read-be-requires-2
 read-be-requires-2 c κs = search needs
@@ -24,12 +24,12 @@ add-if2 c = search needs
 returns-2 : tie.Need-returns-2
 returns-2 c =
     let a = c .before .before .before .before .before .args in
-    rw (eq-eqb (tableIn (a .list .now)) 20 (sym (c .before .before .before .read-be .ensures .0) ∙ c .before .before .if1 .left), ne-eqb (payloadsIn (a .list .now)) (payloadsAt (a .count)) (λ e. c .if2 .taken (c .before .read-be2 .ensures .0 ∙ e)))
+    rw (eq-eqb (tableOffsetIn (a .list .now)) 20 (sym (c .before .before .before .read-be .ensures .0) ∙ c .before .before .if1 .left), ne-eqb (payloadOffsetIn (a .list .now)) (payloadOffset (a .count)) (λ e. c .if2 .taken (c .before .read-be2 .ensures .0 ∙ e)))
 
 returns-3 : tie.Need-returns-3
 returns-3 c =
     let a = c .before .before .before .before .before .args in
-    rw (eq-eqb (tableIn (a .list .now)) 20 (sym (c .before .before .before .read-be .ensures .0) ∙ c .before .before .if1 .left), eq-eqb (payloadsIn (a .list .now)) (payloadsAt (a .count)) (sym (c .before .read-be2 .ensures .0) ∙ c .if2 .left), c .before .read-be2 .ensures .0)
+    rw (eq-eqb (tableOffsetIn (a .list .now)) 20 (sym (c .before .before .before .read-be .ensures .0) ∙ c .before .before .if1 .left), eq-eqb (payloadOffsetIn (a .list .now)) (payloadOffset (a .count)) (sym (c .before .read-be2 .ensures .0) ∙ c .if2 .left), c .before .read-be2 .ensures .0)
 
 pub offsets-spec : {M : Type 1} → statement M
 offsets-spec =

@@ -5,7 +5,7 @@ use native.Mathlib.Omega.{arith}
 use lib.ListN.{length, drop}
 use borrow.Author.Needs.{needs}
 use borrow.Author.Tests.{not-true, not-false}
-use Rattle.rules.specs.MoveList.{headerBytes, payloadsAt, slotsIn, formed}
+use Rattle.rules.specs.MoveList.{headerBytes, payloadOffset, tableEntriesIn, formed}
 use Rattle.list_form.specs.Form.{slotAt}
 use Rattle.list_form.proofs.Laws.{inside, slotsFrom, slots-all, formed-next, formed-stops, formed-ends}
 use Rattle.list_form.proofs.slots_formed.Statement.{statement}
@@ -14,7 +14,7 @@ use Rattle.list_form.proofs.slots_formed.Tie as tie
 abbrev Inv-loop : tie.InvT-loop
 Inv-loop list count at₀ i₀ at i =
     (i ≤ count) × (at ≤ 20 + 24 * count + 2 ^ 32 * i)
-    × (formed (length list) (payloadsAt count) (slotsIn count (drop headerBytes list)) ≡ formed (length list) at (slotsFrom i count list))
+    × (formed (length list) (payloadOffset count) (tableEntriesIn count (drop headerBytes list)) ≡ formed (length list) at (slotsFrom i count list))
 
 abbrev μ-loop : tie.MeasureT-loop
 μ-loop list count at₀ i₀ at i = count - i

@@ -4,7 +4,7 @@ use mathlib.Core.Path.{_≡_, refl, sym, _∙_}
 use native.Mathlib.Omega.{arith}
 use lib.ListN.{length, getD}
 use borrow.Author.Needs.{needs}
-use Rattle.rules.specs.MoveList.{flag, payloads}
+use Rattle.rules.specs.MoveList.{oneIf, payloads}
 use Rattle.image.specs.Image.{imageSize, unpacked}
 use Rattle.image.proofs.Laws.{unpacked-isc}
 use Rattle.list_parts.specs.Parts.{put, each, isWritten, sizeOf}
@@ -26,7 +26,7 @@ on-is : (c : tie.After-is-written Inv-loop μ-loop) → let a = c .before .befor
 on-is c = rw (c .before .unpack .ensures) at (c .is-written .ensures)
 
 room : (c : tie.After-is-written Inv-loop μ-loop) → let l = c .before .before .before .loop in let m = c .before .before .before .before .before .args .modify in
-    l .a + sizeOf m * flag (c .is-written .result) + sizeOf m * length (eachFrom m (l .i + 1) (c .before .before .before .before .before .args .t3)) ≤ length (l .out)
+    l .a + sizeOf m * oneIf (c .is-written .result) + sizeOf m * length (eachFrom m (l .i + 1) (c .before .before .before .before .before .args .t3)) ≤ length (l .out)
 room c =
     let l = c .before .before .before .loop in
     room-turn (c .before .before .before .before .before .args .modify) (l .i) (c .before .before .before .before .before .args .t3) (search needs) (c .is-written .result) (on-is c) (l .out) (l .out) (l .a) _ _ (l .inv .2)

@@ -4,7 +4,7 @@ use mathlib.Core.Path.{_≡_, refl, sym, _∙_}
 use native.Mathlib.Omega.{arith}
 use lib.ListN.{length, getD}
 use borrow.Author.Needs.{needs}
-use Rattle.rules.specs.MoveList.{flag, table}
+use Rattle.rules.specs.MoveList.{oneIf, writtenTable}
 use Rattle.image.specs.Image.{imageSize, unpacked}
 use Rattle.list_parts.specs.Parts.{put, each, isWritten}
 use Rattle.list_parts.proofs.Laws.{put-none, eachFrom, each-last, room-turn, slots-turn}
@@ -14,7 +14,7 @@ use Rattle.list_parts.proofs.put_slots.Tie as tie
 abbrev Inv-loop : tie.InvT-loop
 Inv-loop out₀ at pay modify image group size a₀ p₀ i₀ out a p i =
     (i ≤ imageSize) × (length out ≡ length out₀) × (p ≤ pay + 16 * i) × (a + 24 * length (eachFrom modify i image) ≤ length out)
-    × (put out₀ at (table pay (each modify image)) ≡ put out a (table p (eachFrom modify i image)))
+    × (put out₀ at (writtenTable pay (each modify image)) ≡ put out a (writtenTable p (eachFrom modify i image)))
 
 abbrev μ-loop : tie.MeasureT-loop
 μ-loop out₀ at pay modify image group size a₀ p₀ i₀ out a p i = imageSize - i
@@ -25,7 +25,7 @@ on-is : (c : tie.After-is-written Inv-loop μ-loop) → let a = c .before .befor
 on-is c = rw (c .before .unpack .ensures) at (c .is-written .ensures)
 
 room : (c : tie.After-is-written Inv-loop μ-loop) → let l = c .before .before .before .loop in
-    l .a + 24 * flag (c .is-written .result) + 24 * length (eachFrom (c .before .before .before .before .before .before .before .args .modify) (l .i + 1) (c .before .before .before .before .before .before .before .args .t4)) ≤ length (l .out)
+    l .a + 24 * oneIf (c .is-written .result) + 24 * length (eachFrom (c .before .before .before .before .before .before .before .args .modify) (l .i + 1) (c .before .before .before .before .before .before .before .args .t4)) ≤ length (l .out)
 room c =
     let l = c .before .before .before .loop in
     room-turn (c .before .before .before .before .before .before .before .args .modify) (l .i) (c .before .before .before .before .before .before .before .args .t4) (search needs) (c .is-written .result) (on-is c) (l .out) (l .out) (l .a) 24 _ (l .inv .3)
@@ -91,7 +91,7 @@ same-length : tie.Need-same-length Inv-loop μ-loop
 same-length c = c .before .loop .inv .1
 
 returns : tie.Need-returns Inv-loop μ-loop
-unfolding table
+unfolding writtenTable
 returns c =
     let a = c .before .before .before .before .before .args in
     let l = c .before .loop in

@@ -3,7 +3,7 @@ use Prim.Native.Nat.{_-_, _≤_}
 use mathlib.Core.Path.{_≡_, sym, _∙_}
 use native.Mathlib.Omega.{arith}
 use borrow.Author.Needs.{needs}
-use Rattle.rules.specs.MoveList.{entriesIn, applies}
+use Rattle.rules.specs.MoveList.{requestsIn, applies}
 use Rattle.queues.specs.Queues.{Held}
 use Rattle.records.specs.Memory.{pendingOf}
 use Rattle.image_places.specs.Places.{AllCanonical}
@@ -17,8 +17,8 @@ use Rattle.play.proofs.apply_all.Tie as tie
 abbrev Inv-loop : tie.InvT-loop
 Inv-loop slots₀ order₀ counts₀ singles₀ places room ais image₀ list count d₀ i₀ slots order counts singles image d i =
     (i ≤ count) × Held order counts × AllCanonical image
-    × (applies (limitsOf places room) 0 (stateOf ais places image₀ (pendingOf order₀ counts₀ slots₀ singles₀) d₀) (entriesIn list (slotsOf list))
-    ≡ applies (limitsOf places room) i (stateOf ais places image (pendingOf order counts slots singles) d) (entriesIn list (slotsFrom i count list)))
+    × (applies (limitsOf places room) 0 (stateOf ais places image₀ (pendingOf order₀ counts₀ slots₀ singles₀) d₀) (requestsIn list (slotsOf list))
+    ≡ applies (limitsOf places room) i (stateOf ais places image (pendingOf order counts slots singles) d) (requestsIn list (slotsFrom i count list)))
 
 abbrev μ-loop : tie.MeasureT-loop
 μ-loop slots₀ order₀ counts₀ singles₀ places room ais image₀ list count d₀ i₀ slots order counts singles image d i = count - i

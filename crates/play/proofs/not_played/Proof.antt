@@ -9,8 +9,11 @@ refuse-requires c κs = search needs
 empty-requires : tie.Need-empty-requires
 empty-requires c κs = search needs
 
+fresh-device-requires : tie.Need-fresh-device-requires
+fresh-device-requires c κs = search needs
+
 returns : tie.Need-returns
-returns c = rw (c .before .refuse .ensures, c .empty .ensures)
+returns c = rw (c .before .before .refuse .ensures, c .before .empty .ensures, c .fresh-device .ensures)
 
 pub not-played-spec : {M : Type 1} → statement M
-not-played-spec = tie.close (tie.spec refuse-requires empty-requires returns)
+not-played-spec = tie.close (tie.spec refuse-requires empty-requires fresh-device-requires returns)

@@ -3,7 +3,6 @@ use mathlib.Core.Path.{refl}
 use native.Mathlib.Omega.{arith}
 use lib.ListN.{replicate}
 use borrow.Author.Needs.{needs}
-use Rattle.rules.specs.State.{fresh}
 use Rattle.image_places.proofs.Laws.{canonical-zeros, canonical-take}
 use Rattle.play.proofs.Laws.{not-refused, fresh-is, not-played, played-all, played-part}
 use Rattle.play.proofs.play_list.Statement.{statement}
@@ -21,10 +20,10 @@ returns c =
     let s = c .before .before .before .before in
     let e = c .not-played .ensures in
     rw e (
-      λ L t e1 e2 e3 e4 e5. not-played L t _ _ _ _ (c .before .before .form .ensures .refused (c .before .if1 .taken) L t e3) refl,
+      λ L t e1 e2 e3. not-played L t _ _ _ _ (c .before .before .form .ensures .refused (c .before .if1 .taken) L t e3) refl,
       (
         (s .pre .3, canonical-take (s .args .places) (replicate imageSize 0) (canonical-zeros imageSize)),
-        (λ n. absurd (n refl), (λ L t e code f. refl, λ z. (refl, refl, refl, refl, refl))),
+        (λ n. absurd (n refl), (λ L t e code f. refl, λ z. (refl, refl, refl, refl))),
       ),
     )
 
@@ -61,7 +60,7 @@ returns-2 c =
     let r = c .before .before .before .before .before .before .before .before .before .before .apply-all in
     let blank = canonical-take (a .places) (replicate imageSize 0) (canonical-zeros imageSize) in
     rw (c .empty2 .ensures) (
-      λ L t e1 e2 e3 e4 e5.
+      λ L t e1 e2 e3.
           played-part (a .places) (a .room) (a .ais) (a .list .now) _ _ _ (r .result .answer) (s .pre .1)
           (fresh-is (a .places) (a .room) (a .ais) _ _ (s .pre .2) (c .before .before .before .before .before .before .before .before .before .before .before .before .before .before .before .before .before .before .fresh .ensures .1 _) (c .before .before .before .before .before .before .before .before .before .before .before .before .fresh-device .ensures))
           (rw (c .before .before .before .before .before .before .before .before .before .before .before .before .before .before .before .before .before .before .before .before .before .before .empty .ensures) at (r .ensures .0)) L t e1 e2 e3 (c .before .before .before .before .before .before .before .before .before .before .before .before .before .before .before .before .before .before .before .before .before .before .before .before .form .ensures .played (c .before .before .before .before .before .before .before .before .before .before .before .before .before .before .before .before .before .before .before .before .before .before .before .if1 .left) L t e3) _
@@ -74,7 +73,7 @@ returns-3 c =
     let s = c .before .before .before .before .before .before .before .before .before .before .before .before .before .before .before .before .before .before .before .before in
     let a = s .args in
     let r = c .before .before .before .before .apply-all in (
-      λ L t e1 e2 e3 e4 e5.
+      λ L t e1 e2 e3.
           played-all (a .places) (a .room) (a .ais) (a .list .now) _ _ _ (r .result .answer) (s .pre .1)
           (fresh-is (a .places) (a .room) (a .ais) _ _ (s .pre .2) (c .before .before .before .before .before .before .before .before .before .before .before .before .fresh .ensures .1 _) (c .before .before .before .before .before .before .fresh-device .ensures))
           (rw (c .before .before .before .before .before .before .before .before .before .before .before .before .before .before .before .before .empty .ensures) at (r .ensures .0)) L t e1 e2 e3 (c .before .before .before .before .before .before .before .before .before .before .before .before .before .before .before .before .before .before .form .ensures .played (c .before .before .before .before .before .before .before .before .before .before .before .before .before .before .before .before .before .if1 .left) L t e3) (c .if2 .left),

@@ -13,17 +13,17 @@ use Rattle.printing.proofs.print_list.Statement.{statement}
 use Rattle.printing.proofs.print_list.Tie as tie
 
 -- what the list that was played prints
-answered : (c : tie.After-play-list) → let f = c .before .before .before .before .before .before .before in
+answered : (c : tie.After-play-list) → let f = c .before .before .before .before .before .before in
     let p = c .play-list in
     printed (f .before .before .before .before .before .before .args .input .now)
     ≡ choose (eqb (p .result .answer .code) 0) (shown (listing (pendingOf (p .last .1 .0) (p .last .1 .1 .0) (p .last .0) (p .last .1 .1 .1 .0)))) (refusal (p .result .answer .code))
 unfolding fresh
 answered c =
-    let f = c .before .before .before .before .before .before .before in
+    let f = c .before .before .before .before .before .before in
     let p = c .play-list in
     let e = f .fresh .ensures .1 _ in
-    let a = p .ensures .0 paperLimits (fresh paperLimits _) refl refl refl (sym e) (rw (c .before .fresh-device .ensures)) in
-    printed-is _ _ _ (p .result .restored) _ _ (f .before .before .before .before .if1 .left) (c .before .before .capable .ensures) a refl
+    let a = p .ensures .0 paperLimits (fresh paperLimits _) refl refl refl in
+    printed-is _ _ _ (p .result .restored) _ _ (f .before .before .before .before .if1 .left) (c .before .capable .ensures) a refl
     (λ z. let k = p .ensures .1 .1 .1 .1 z in rw (k .0, k .1, k .2, k .3) (sym e))
 
 write-refusal-requires : tie.Need-write-refusal-requires
@@ -37,9 +37,6 @@ fresh-requires c κs = search needs
 
 capable-requires : tie.Need-capable-requires
 capable-requires c κs = search needs
-
-fresh-device-requires : tie.Need-fresh-device-requires
-fresh-device-requires c κs = search needs
 
 play-list-requires : tie.Need-play-list-requires
 play-list-requires c κs = search needs
@@ -66,7 +63,6 @@ print-list-spec =
     returns
     fresh-requires
     capable-requires
-    fresh-device-requires
     play-list-requires
     write-refusal-requires-2
     returns-2

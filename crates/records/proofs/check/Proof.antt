@@ -8,7 +8,7 @@ use mathlib.Core.Path.{_≡_, sym, ap, _∙_}
 use borrow.Author.Needs.{needs}
 use Rattle.rules.specs.Bytes.{part}
 use Rattle.rules.specs.State.{Record, kind, subclass}
-use Rattle.rules.specs.Requests.{taken, wants, recordsIn}
+use Rattle.rules.specs.Requests.{kindAccepted, wants, recordsIn}
 use Rattle.records.proofs.Kind.{the-type}
 use Rattle.records.proofs.Laws.{kind-known, kindFor, tag-wants, check-next, check-stops, check-ends, recordsFrom, records-all}
 use Rattle.records.specs.Cases.{checkFrom}
@@ -38,7 +38,7 @@ enum-told : tie.Need-enum-told Inv-loop μ-loop
 enum-told c = search needs
 
 returns : tie.Need-returns Inv-loop μ-loop
-unfolding taken
+unfolding kindAccepted
 returns c =
     let j = c .before .before .before .before in
     let f = j .before .before in
@@ -60,7 +60,7 @@ loop-again c =
     let a = f .args in
     let r : Record = part (j .loop .place * 72) 72 (a .b .now) in
     let t = tag-wants (kind r) (subclass r) _ (ap (tagOf the-type) (c .before .kind-at .ensures)) in
-    let u : (taken (kind r) ≡ true) × (c .match .wanted ≡ j .loop .wanted + wants (kind r)) × (c .match .wanted ≤ j .loop .wanted + 1) =
+    let u : (kindAccepted (kind r) ≡ true) × (c .match .wanted ≡ j .loop .wanted + wants (kind r)) × (c .match .wanted ≤ j .loop .wanted + 1) =
     ⊎-elim (λ w. let g = t .0 (w .0 .keys1) in (g .0, omega arith, omega arith)) (λ w. let g = t .1 (w .0 .keys2) in (g .0, omega arith, omega arith))
     (c .match .came) in
     (omega arith, omega arith, j .loop .inv .2 ∙ check-next (j .loop .place) (a .n) _ (a .b .now) _ (c .before .before .loop-test .taken) (u .0) (u .1))

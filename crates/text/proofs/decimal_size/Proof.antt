@@ -3,13 +3,13 @@ use mathlib.Core.Path.{_≡_}
 use Prim.Native.Nat.{_+_, _≤_}
 use native.Mathlib.Omega.{arith}
 use borrow.Author.Needs.{needs}
-use Rattle.rules.specs.Listing.{size}
+use Rattle.rules.specs.Listing.{digitCount}
 use Rattle.text.proofs.Laws.{size-one, size-next, size-most}
 use Rattle.text.proofs.decimal_size.Statement.{statement}
 use Rattle.text.proofs.decimal_size.Tie as tie
 
 abbrev Inv-loop : tie.InvT-loop
-Inv-loop v n₀ w₀ n w = (n + size w w ≡ size v v + 1) × (size v v ≤ 20)
+Inv-loop v n₀ w₀ n w = (n + digitCount w w ≡ digitCount v v + 1) × (digitCount v v ≤ 20)
 
 abbrev μ-loop : tie.MeasureT-loop
 μ-loop v n₀ w₀ n w = w

@@ -2,13 +2,13 @@
 use mathlib.Core.Path.{_≡_}
 use native.Mathlib.Omega.{arith}
 use borrow.Author.Needs.{needs}
-use Rattle.rules.specs.Listing.{ascii, size}
+use Rattle.rules.specs.Listing.{ascii, digitCount}
 use Rattle.text.proofs.Laws.{wrote-then, io-text, size-one}
 use Rattle.text.proofs.write_io.Statement.{statement}
 use Rattle.text.proofs.write_io.Tie as tie
 
 -- a subclass is one digit
-one : (c : tie.After-wide) → size (c .wide .result) (c .wide .result) ≡ 1
+one : (c : tie.After-wide) → digitCount (c .wide .result) (c .wide .result) ≡ 1
 one c = size-one (c .wide .result) (c .wide .result) (omega arith)
 
 slice-aggregate-append : tie.Need-slice-aggregate-append

@@ -2,13 +2,13 @@
 use Prim.Native.Nat.{_≤_}
 use native.Mathlib.Omega.{arith}
 use borrow.Author.Needs.{needs}
-use Rattle.rules.specs.Listing.{ascii, size}
+use Rattle.rules.specs.Listing.{ascii, digitCount}
 use Rattle.text.proofs.Laws.{wrote-then, number-text, size-most}
 use Rattle.text.proofs.write_number.Statement.{statement}
 use Rattle.text.proofs.write_number.Tie as tie
 
 -- a number has at most 20 digits
-few : (c : tie.Start) → size (c .args .v) (c .args .v) ≤ 20
+few : (c : tie.Start) → digitCount (c .args .v) (c .args .v) ≤ 20
 few c = size-most 19 (c .args .v) (c .args .v) (omega arith)
 
 append-requires : tie.Need-append-requires

@@ -6,7 +6,7 @@ use native.Mathlib.Omega.{arith}
 use lib.ListN.{length}
 use borrow.Author.Needs.{needs}
 use Rattle.rules.specs.State.{State, Record, listing}
-use Rattle.rules.specs.MoveList.{Entry, entries, total}
+use Rattle.rules.specs.MoveList.{ListRequest, listRequests, total}
 use Rattle.records.specs.Memory.{pendingOf}
 use Rattle.answers.proofs.Laws.{not-refused}
 use Rattle.adapters.specs.Values.{deviceOf}
@@ -31,7 +31,7 @@ parts c =
 abbrev pending : tie.After-has-masks → List Record
 pending c = let a = c .before .before .before .before .before .before .before .args in listing (pendingOf (a .order .now) (a .counts .now) (a .slots .now) (a .singles .now))
 
-abbrev wanted : tie.After-has-masks → List Entry
+abbrev wanted : tie.After-has-masks → List ListRequest
 wanted c = let d = c .before .before .before .before .before .before .before .args .device in entriesFrom (c .before .before .before .before .before .before .before .args .image) (pending c) (c .has-masks .result) (d .simm) (d .nimm) (d .apf)
 
 counted : (c : tie.After-has-masks) → Counted (c .before .before .before .before .before .before .before .args .image) (parts c)
@@ -54,7 +54,7 @@ total-is c =
     rw (count-is (c .before), z, ← c .payload-bytes .ensures .0)
 
 same-entries : (c : tie.After-has-masks) (s : State) → let a = c .before .before .before .before .before .before .before .args in s .ais ≡ a .ais → s .adapters ≡ placesOf (a .image)
-    → s .pending ≡ pendingOf (a .order .now) (a .counts .now) (a .slots .now) (a .singles .now) → s .device ≡ deviceOf (a .device) → wanted c ≡ entries s
+    → s .pending ≡ pendingOf (a .order .now) (a .counts .now) (a .slots .now) (a .singles .now) → s .device ≡ deviceOf (a .device) → wanted c ≡ listRequests s
 same-entries c s e1 e2 e3 e4 = sym (entries-are s _ _ _ (c .before .before .before .before .before .before .before .args .device) _ e1 e2 e3 e4 (c .has-masks .ensures))
 
 count-requires : tie.Need-count-requires

@@ -63,7 +63,7 @@ fn file(scripts: &[Script], names: &[(&str, &str)], mode: &str) -> String {
     out.push_str(
         "\n\
          call : Ask → List ℕ → ℕ → Call\n\
-         call ask buffer table = record { ask = ask; buffer = buffer; table = table }\n\
+         call ask buffer table = record { ask = ask; buffer = buffer; tableLength = table }\n\
          \n\
          saw : ℕ → ℕ → List ℕ → Seen\n\
          saw code count buffer = record { code = code; count = count; buffer = buffer }\n",

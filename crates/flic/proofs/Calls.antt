@@ -18,16 +18,16 @@ use Rattle.core.proofs.on_records.Symbol.{name as #group-of}
 use Rattle.values.specs.States.{onPlace}
 use Rattle.values.proofs.on_place as on-place
 use Rattle.values.proofs.on_place.Symbol.{name as #on-place}
-use Rattle.table.specs.Table.{ModesSet, PlaceSet}
+use Rattle.lent.specs.Requests.{ModesSet, PlaceSet}
 use Rattle.table.proofs.Record.{ReadDevice}
 use Rattle.table.proofs.Gives.{at-list, Lent, LentCell, gives}
-use Rattle.table.proofs.Payload.{payload, Payload, asks-record, asks-table}
+use Rattle.lent.proofs.Payload.{payload, Payload, asks-record, asks-table}
 use Rattle.table.proofs.Called.{asks-nothing, calls-told}
 use Rattle.table.proofs.read_device.Symbol.{name as #read-device}
-use Rattle.table.proofs.set_place as set-place
-use Rattle.table.proofs.set_place.Symbol.{name as #set-place}
-use Rattle.table.proofs.set_modes as set-modes
-use Rattle.table.proofs.set_modes.Symbol.{name as #set-modes}
+use Rattle.lent.proofs.set_place as set-place
+use Rattle.lent.proofs.set_place.Symbol.{name as #set-place}
+use Rattle.lent.proofs.set_modes as set-modes
+use Rattle.lent.proofs.set_modes.Symbol.{name as #set-modes}
 
 -- a `&mut [u8]` is given up: what is in it then is its last value
 module _ {M : Type 1} {𝓤 : URA M} {H : Heap 𝓤} {A : Atoms 𝓤} {K : Type 0} {W : Given 𝓤 H A} {Γ : List (Item 𝓤)} {G : Goal 𝓤 H} where

@@ -32,7 +32,7 @@ use Rattle.controller.proofs.Controller.Laws as C′
 use Rattle.controller.proofs.Started as St
 use Rattle.controller.proofs.Started.Laws as St′
 use Rattle.table.proofs.Locals.{Content, blank, holds, since, locals, frees-all, swaps, not-holds, not-not}
-use Rattle.table.proofs.Answered.{FitsAnswer, refused, Refuse, refuses}
+use Rattle.lent.proofs.Answered.{FitsAnswer, refused, Refuse, refuses}
 use Rattle.answers.proofs.refuse.Symbol.{name as #refuse}
 use Rattle.flic.proofs.Opened.{Has}
 use Rattle.flic.proofs.All.{Refs, table, Passed, Open, Closed, opens-all, closes-all}

@@ -23,10 +23,11 @@ use Rattle.adapters.specs.declared.Place.{Place}
 use Rattle.adapters.specs.Values.{placeOf, deviceOf, unused, Canonical}
 use Rattle.image.specs.Image.{imageSize, unpacked}
 use Rattle.image.proofs.Laws.{unpacked-zero, unpacked-table}
-use Rattle.table.specs.Table.{snapTo, restored, ModesSet, PlaceSet}
+use Rattle.table.specs.Table.{snapTo, restored}
+use Rattle.lent.specs.Requests.{ModesSet, PlaceSet}
 use Rattle.table.proofs.Tables.{snap-all, restored-all, restored-whole}
-use Rattle.table.proofs.Maps.{map-replicate}
-use Rattle.table.proofs.Requests.{canonical-unused}
+use Rattle.lent.proofs.Maps.{map-replicate}
+use Rattle.lent.proofs.Laws.{canonical-unused}
 use Rattle.controller.specs.declared.Controller.{Controller}
 use Rattle.controller.specs.declared.Started.{Started}
 use Rattle.flic.specs.Surface.{stateOf, Valid, Steps, Made, Requested, Taken, Played}

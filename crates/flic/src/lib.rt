@@ -85,9 +85,9 @@ pub extern "C" fn flic_set(
         return r;
     }
     if values::on_place(group) {
-        return table::set_place(t, group, attr, payload);
+        return lent::set_place(t, group, attr, payload);
     }
-    table::set_modes(d, c.ais, group, attr, payload)
+    lent::set_modes(d, c.ais, group, attr, payload)
 }
 
 // A request that gets.

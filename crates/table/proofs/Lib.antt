@@ -6,13 +6,9 @@ pub mod Rows
 pub mod Gives
 pub mod Called
 pub mod Locals
-pub mod Payload
-pub mod Answered
 pub mod Count
 pub mod Modes
 pub mod Record
 pub mod Tables
-pub mod Maps
-pub mod Requests
 pub mod Images
 pub mod Calls

@@ -1,27 +1,18 @@
 // Inner crate: the adapter table as a lent slice of places, and the device record behind a reference. Few and thin functions, proved by hand.
 ghost use mathlib.Core.Path.{_≡_};
 ghost use Prim.Native.Nat.{_≤_};
-ghost use mathlib.Core.Bool.{true, false};
-ghost use lib.Dec.{eqb};
 ghost use lib.ListN.{getD, set};
-ghost use Rattle.rules.specs.Bytes.{choose};
 ghost use Rattle.adapters.specs.Values.{deviceOf, deviceFrom, unused, withMasked, modeSet, injectedDevice};
-ghost use Rattle.values.specs.States.{onPlace, modesAfter, ModesAsked};
 ghost use Rattle.image.specs.Image.{imageSize};
-ghost use Rattle.table.specs.Table.{snapTo, restored, ModesSet, PlaceSet};
+ghost use Rattle.table.specs.Table.{snapTo, restored};
 use adapters::Device;
 use adapters::Place;
-use answers::Answer;
-use words::ADAPTER_REGISTER;
-use words::AISM;
-use words::AISM_ALL;
-use words::APF_ENABLE;
 use words::AdapterId;
 use words::PLACES;
 use words::Subclass;
 
 // The ids of an image's places are those below it.
-const IDS: u64 = PLACES as u64;
+pub const IDS: u64 = PLACES as u64;
 
 // The place of an id; an id without a place reads as free.
 pub fn look_up(t: &[Place], id: AdapterId) -> Place
@@ -96,64 +87,6 @@ pub fn note_injection(d: &mut Device, ais: bool, p: Place)
     ensures { λ _. ⌜ now (d .exit) ≡ injectedDevice ais (now (d .entry)) p ⌝ }
 {
     *d = adapters::after_injection(ais, *d, p);
-}
-
-// The device record after an accepted request about it.
-pub fn change_modes(d: &mut Device, group: u32, payload: &[u8])
-    requires { ⌜ ModesAsked group (now payload) ⌝ }
-    ensures { λ _. ⌜ now (d .exit) ≡ deviceFrom (modesAfter group (now (payload .entry)) (deviceOf (now (d .entry)))) ⌝ }
-{
-    if group == AISM {
-        let m = values::mode_in(payload);
-        set_mode(d, m.isc, m.single);
-        return;
-    }
-    if group == AISM_ALL {
-        let m = values::masks_in(payload);
-        set_masks(d, m.simm, m.nimm);
-        return;
-    }
-    set_flag(d, group == APF_ENABLE);
-}
-
-// The table after an accepted request about the place of an id, which is p then: REGISTER enters it, MODIFY changes whether its adapter is masked.
-pub fn change_place(t: &mut [Place], id: AdapterId, group: u32, p: Place)
-    ensures { λ _. ⌜ now (t .exit) ≡ set (now (t .entry)) (id .0) (choose (eqb group 6) p (withMasked (p .masked) (getD (now (t .entry)) (id .0) unused))) ⌝ }
-{
-    if group == ADAPTER_REGISTER {
-        register(t, id, p);
-        return;
-    }
-    mask(t, id, p.masked);
-}
-
-// A request about the device record: groups 4, 5, 9 and 11; a group that is no request is refused.
-pub fn set_modes(d: &mut Device, ais: bool, group: u32, attr: u64, payload: &[u8]) -> Answer
-    requires { ⌜ (group ≡ 2 → ⊥) × (group ≡ 3 → ⊥) × (group ≡ 8 → ⊥) × (group ≡ 10 → ⊥) × (onPlace group ≡ false) ⌝ }
-    ensures { λ r. ⌜ ModesSet ais group attr (now (d .entry)) (now (d .exit)) (now (payload .entry)) r ⌝ }
-{
-    let code = values::modes_code(ais, group, attr, payload);
-    if code != 0 {
-        return answers::refuse(code);
-    }
-    change_modes(d, group, payload);
-    answers::accept(0)
-}
-
-// A request about an adapter's place: REGISTER and MODIFY.
-pub fn set_place(t: &mut [Place], group: u32, attr: u64, payload: &[u8]) -> Answer
-    requires { ⌜ onPlace group ≡ true ⌝ }
-    ensures { λ r. ⌜ PlaceSet group attr (now (t .entry)) (now (t .exit)) (now (payload .entry)) r ⌝ }
-{
-    let id = values::payload_id(payload);
-    let place = look_up(t, id);
-    let code = values::place_code(IDS, place, group, attr, payload);
-    if code != 0 {
-        return answers::refuse(code);
-    }
-    let after = values::place_after(place, group, payload);
-    change_place(t, id, group, after);
-    answers::accept(0)
 }
 
 // The places as an image; a place that is not there reads as free.

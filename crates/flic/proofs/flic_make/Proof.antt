@@ -29,7 +29,7 @@ use Rattle.flic.proofs.Fresh as Fresh
 use Rattle.flic.proofs.Fresh.{Known, starts, finishes}
 use Rattle.answers.proofs.refuse.Symbol as refuse-def
 use Rattle.answers.proofs.refuse.Met as refuse-thm
-use Rattle.table.proofs.Answered.{refused, Refuse}
+use Rattle.lent.proofs.Answered.{refused, Refuse}
 use Rattle.table.proofs.store_device.Symbol as store-device-def
 use Rattle.table.proofs.store_device.Met as store-device-thm
 use Rattle.table.proofs.restore.Symbol as restore-def

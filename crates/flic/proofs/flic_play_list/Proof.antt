@@ -33,7 +33,7 @@ use Rattle.flic.proofs.Fresh.{Known, starts, finishes}
 use Rattle.answers.proofs.refuse.Symbol as refuse-def
 use Rattle.answers.proofs.refuse.Met as refuse-thm
 use Rattle.table.proofs.Count.{taken}
-use Rattle.table.proofs.Answered.{refused, Refuse}
+use Rattle.lent.proofs.Answered.{refused, Refuse}
 use Rattle.table.proofs.store_device.Symbol as store-device-def
 use Rattle.table.proofs.store_device.Met as store-device-thm
 use Rattle.table.proofs.restore.Symbol as restore-def

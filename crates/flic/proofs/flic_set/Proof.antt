@@ -36,8 +36,8 @@ use Rattle.values.proofs.on_place.Met as on-place-thm
 use Rattle.table.proofs.Count.{after, afters, taken}
 use Rattle.table.proofs.Places.{FitsId, fit-id, typed-id, makes-id}
 use Rattle.table.proofs.Locals.{Content, blank, holds, since, locals, frees-front, swaps, holds-true, holds-false, not-not}
-use Rattle.table.proofs.Answered.{FitsAnswer, refused, Refuse, refuses}
-use Rattle.table.proofs.Requests.{canonical-unused}
+use Rattle.lent.proofs.Answered.{FitsAnswer, refused, Refuse, refuses}
+use Rattle.lent.proofs.Laws.{canonical-unused}
 use Rattle.table.proofs.Record.{ReadDevice, NoteInjection, reads-device, notes-injection}
 use Rattle.table.proofs.Calls.{LookUp, looks-up}
 use Rattle.table.proofs.look_up.Symbol as look-up-def
@@ -46,10 +46,10 @@ use Rattle.table.proofs.read_device.Symbol as read-device-def
 use Rattle.table.proofs.read_device.Met as read-device-thm
 use Rattle.table.proofs.note_injection.Symbol as note-injection-def
 use Rattle.table.proofs.note_injection.Met as note-injection-thm
-use Rattle.table.proofs.set_place.Symbol as set-place-def
-use Rattle.table.proofs.set_place.Met as set-place-thm
-use Rattle.table.proofs.set_modes.Symbol as set-modes-def
-use Rattle.table.proofs.set_modes.Met as set-modes-thm
+use Rattle.lent.proofs.set_place.Symbol as set-place-def
+use Rattle.lent.proofs.set_place.Met as set-place-thm
+use Rattle.lent.proofs.set_modes.Symbol as set-modes-def
+use Rattle.lent.proofs.set_modes.Met as set-modes-thm
 use Rattle.core.specs.Cases.{onRecords}
 use Rattle.core.proofs.Laws.{not-records}
 use Rattle.core.proofs.on_records.Symbol as group-def
@@ -418,6 +418,6 @@ flic-set-spec 𝓤 H 𝓜 𝓖 𝓡 =
       inject = cited 𝓤 H (AnswerInject 𝓤 H (𝓖 .A) (𝓜 .mem) (𝓡 .run)) 𝓜 𝓡 code.env answer-inject-def.name answer-inject-def.routine code.calls-controller·answer-inject (answer-inject-thm.met 𝓤 H 𝓜 𝓖 𝓡);
       note = cited 𝓤 H (NoteInjection 𝓤 H (𝓖 .A) (𝓜 .mem) (𝓡 .run)) 𝓜 𝓡 code.env note-injection-def.name note-injection-def.routine code.calls-table·note-injection (note-injection-thm.met 𝓤 H 𝓜 𝓖 𝓡);
       on-place = cited 𝓤 H (OnPlace 𝓤 H (𝓖 .A) (𝓜 .mem) (𝓡 .run)) 𝓜 𝓡 code.env on-place-def.name on-place-def.routine code.calls-values·on-place (on-place-thm.met 𝓤 H 𝓜 𝓖 𝓡);
-      set-place = cited 𝓤 H (SetPlace 𝓤 H (𝓖 .A) (𝓜 .mem) (𝓡 .run)) 𝓜 𝓡 code.env set-place-def.name set-place-def.routine code.calls-table·set-place (set-place-thm.met 𝓤 H 𝓜 𝓖 𝓡);
-      set-modes = cited 𝓤 H (SetModes 𝓤 H (𝓖 .A) (𝓜 .mem) (𝓡 .run)) 𝓜 𝓡 code.env set-modes-def.name set-modes-def.routine code.calls-table·set-modes (set-modes-thm.met 𝓤 H 𝓜 𝓖 𝓡);
+      set-place = cited 𝓤 H (SetPlace 𝓤 H (𝓖 .A) (𝓜 .mem) (𝓡 .run)) 𝓜 𝓡 code.env set-place-def.name set-place-def.routine code.calls-lent·set-place (set-place-thm.met 𝓤 H 𝓜 𝓖 𝓡);
+      set-modes = cited 𝓤 H (SetModes 𝓤 H (𝓖 .A) (𝓜 .mem) (𝓡 .run)) 𝓜 𝓡 code.env set-modes-def.name set-modes-def.routine code.calls-lent·set-modes (set-modes-thm.met 𝓤 H 𝓜 𝓖 𝓡);
     }))

@@ -12,20 +12,20 @@ use Rattle.adapters.specs.declared.Place.{Place}
 use Rattle.adapters.specs.Values.{unused, withMasked}
 use Rattle.adapters.proofs.Place as P
 use Rattle.adapters.proofs.Place.Laws as P′
 use Rattle.table.proofs.Count.{taken}
 use Rattle.table.proofs.Places.{R, slice-of, low, Fits, FitsId, typed, typed-id}
 use Rattle.table.proofs.Slot.{Have}
 use Rattle.table.proofs.Locals.{Content, blank, holds, locals, frees-all, swaps, holds-true, holds-false}
 use Rattle.table.proofs.Calls.{Register, Mask, registers, masks}
 use Rattle.table.proofs.register.Symbol as register-def
 use Rattle.table.proofs.register.Met as register-thm
 use Rattle.table.proofs.mask.Symbol as mask-def
 use Rattle.table.proofs.mask.Met as mask-thm
-use Rattle.table.proofs.change_place.Key.{name as #key}
-use Rattle.table.proofs.change_place as f
-use Rattle.table.proofs.change_place.Statement as stated
-use Rattle.table.proofs.change_place.Code as code
-use Rattle.table.proofs.change_place.Code.Mir as mir
+use Rattle.lent.proofs.change_place.Key.{name as #key}
+use Rattle.lent.proofs.change_place as f
+use Rattle.lent.proofs.change_place.Statement as stated
+use Rattle.lent.proofs.change_place.Code as code
+use Rattle.lent.proofs.change_place.Code.Mir as mir
 
 abbrev stayed : Stays (f.ended .signature .params) (f.ended .kept)
 stayed = (stay-slice (0 ∷ []) tt (plain (λ _. R)), (stay-dropped (plain (λ _. I.the-row)) yes, (stay-dropped (plain (λ _. u32)) yes, (stay-dropped (plain (λ _. R)) yes, tt))))

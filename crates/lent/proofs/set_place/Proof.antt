@@ -14,10 +14,10 @@ use Rattle.answers.proofs.refuse.Symbol as refuse-def
 use Rattle.answers.proofs.refuse.Met as refuse-thm
 use Rattle.answers.proofs.accept.Symbol as accept-def
 use Rattle.answers.proofs.accept.Met as accept-thm
 use Rattle.table.proofs.Count.{taken}
 use Rattle.table.proofs.Gives.{at-list, changes-row, Lent}
 use Rattle.table.proofs.Locals.{Content, blank, holds, locals, frees-all, swaps, not-holds, not-not, zero-fits}
-use Rattle.table.proofs.Answered.{FitsAnswer, refused, accepted, Refuse, Accept, refuses, accepts}
+use Rattle.lent.proofs.Answered.{FitsAnswer, refused, accepted, Refuse, Accept, refuses, accepts}
 use Rattle.words.specs.declared.AdapterId.{AdapterId}
 use Rattle.words.proofs.AdapterId as I
 use Rattle.words.proofs.AdapterId.Laws as I′
@@ -40,23 +40,23 @@ use Rattle.values.proofs.place_code.Met as place-code-thm
 use Rattle.values.proofs.place_after as place-after
 use Rattle.values.proofs.place_after.Symbol as place-after-def
 use Rattle.values.proofs.place_after.Met as place-after-thm
-use Rattle.table.specs.Table.{PlaceSet}
+use Rattle.lent.specs.Requests.{PlaceSet}
 use Rattle.table.proofs.Places.{R, slice-of, low, Fits, FitsId, typed, makes, makes-id}
 use Rattle.table.proofs.Slot.{Have}
 use Rattle.table.proofs.Calls.{LookUp, looks-up}
 use Rattle.table.proofs.Called.{asks-nothing}
-use Rattle.table.proofs.Payload.{asks-slice}
-use Rattle.table.proofs.Requests.{PlaceDecided, place-within, place-refused, place-accepted}
+use Rattle.lent.proofs.Payload.{asks-slice}
+use Rattle.lent.proofs.Laws.{PlaceDecided, place-within, place-refused, place-accepted}
 use Rattle.table.proofs.look_up.Symbol as look-up-def
 use Rattle.table.proofs.look_up.Met as look-up-thm
-use Rattle.table.proofs.change_place as change-place
-use Rattle.table.proofs.change_place.Symbol as change-place-def
-use Rattle.table.proofs.change_place.Met as change-place-thm
-use Rattle.table.proofs.set_place.Key.{name as #key}
-use Rattle.table.proofs.set_place as f
-use Rattle.table.proofs.set_place.Statement as stated
-use Rattle.table.proofs.set_place.Code as code
-use Rattle.table.proofs.set_place.Code.Mir as mir
+use Rattle.lent.proofs.change_place as change-place
+use Rattle.lent.proofs.change_place.Symbol as change-place-def
+use Rattle.lent.proofs.change_place.Met as change-place-thm
+use Rattle.lent.proofs.set_place.Key.{name as #key}
+use Rattle.lent.proofs.set_place as f
+use Rattle.lent.proofs.set_place.Statement as stated
+use Rattle.lent.proofs.set_place.Code as code
+use Rattle.lent.proofs.set_place.Code.Mir as mir
 
 abbrev stayed : Stays (f.ended .signature .params) (f.ended .kept)
 stayed = (stay-slice (0 ∷ []) tt (plain (λ _. R)), (stay-dropped (plain (λ _. u32)) yes, (stay-dropped (plain (λ _. u64)) yes, (stay-dropped (shrSliceOf (1 ∷ []) tt (plain (λ _. u8))) yes, tt))))
@@ -285,7 +285,7 @@ set-place-spec 𝓤 H 𝓜 𝓖 𝓡 =
       look-up = cited 𝓤 H (LookUp 𝓤 H (𝓖 .A) (𝓜 .mem) (𝓡 .run)) 𝓜 𝓡 code.env look-up-def.name look-up-def.routine code.calls-table·look-up (look-up-thm.met 𝓤 H 𝓜 𝓖 𝓡);
       place-code = cited 𝓤 H (PlaceCode 𝓤 H (𝓖 .A) (𝓜 .mem) (𝓡 .run)) 𝓜 𝓡 code.env place-code-def.name place-code-def.routine code.calls-values·place-code (place-code-thm.met 𝓤 H 𝓜 𝓖 𝓡);
       place-after = cited 𝓤 H (PlaceAfter 𝓤 H (𝓖 .A) (𝓜 .mem) (𝓡 .run)) 𝓜 𝓡 code.env place-after-def.name place-after-def.routine code.calls-values·place-after (place-after-thm.met 𝓤 H 𝓜 𝓖 𝓡);
-      change-place = cited 𝓤 H (ChangePlace 𝓤 H (𝓖 .A) (𝓜 .mem) (𝓡 .run)) 𝓜 𝓡 code.env change-place-def.name change-place-def.routine code.calls-table·change-place (change-place-thm.met 𝓤 H 𝓜 𝓖 𝓡);
+      change-place = cited 𝓤 H (ChangePlace 𝓤 H (𝓖 .A) (𝓜 .mem) (𝓡 .run)) 𝓜 𝓡 code.env change-place-def.name change-place-def.routine code.calls-lent·change-place (change-place-thm.met 𝓤 H 𝓜 𝓖 𝓡);
       refuse = cited 𝓤 H (Refuse 𝓤 H (𝓖 .A) (𝓜 .mem) (𝓡 .run)) 𝓜 𝓡 code.env refuse-def.name refuse-def.routine code.calls-answers·refuse (refuse-thm.met 𝓤 H 𝓜 𝓖 𝓡);
       accept = cited 𝓤 H (Accept 𝓤 H (𝓖 .A) (𝓜 .mem) (𝓡 .run)) 𝓜 𝓡 code.env accept-def.name accept-def.routine code.calls-answers·accept (accept-thm.met 𝓤 H 𝓜 𝓖 𝓡);
     }))

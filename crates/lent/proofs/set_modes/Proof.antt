@@ -13,10 +13,10 @@ use Rattle.answers.proofs.refuse.Symbol as refuse-def
 use Rattle.answers.proofs.refuse.Met as refuse-thm
 use Rattle.answers.proofs.accept.Symbol as accept-def
 use Rattle.answers.proofs.accept.Met as accept-thm
 use Rattle.table.proofs.Count.{taken}
 use Rattle.table.proofs.Gives.{at-list, LentCell}
 use Rattle.table.proofs.Locals.{Content, blank, holds, locals, frees-all, swaps, not-holds, not-not, zero-fits, unit-typed}
-use Rattle.table.proofs.Answered.{FitsAnswer, refused, accepted, Refuse, Accept, refuses, accepts}
+use Rattle.lent.proofs.Answered.{FitsAnswer, refused, accepted, Refuse, Accept, refuses, accepts}
 use Rattle.adapters.specs.declared.Device.{Device}
 use Rattle.adapters.proofs.Device as D
 use Rattle.adapters.proofs.Device.Laws as D′
@@ -25,18 +25,18 @@ use Rattle.values.specs.States.{onPlace, modesAfter, ModesAsked}
 use Rattle.values.proofs.modes_code as modes-code
 use Rattle.values.proofs.modes_code.Symbol as modes-code-def
 use Rattle.values.proofs.modes_code.Met as modes-code-thm
-use Rattle.table.specs.Table.{ModesSet}
+use Rattle.lent.specs.Requests.{ModesSet}
 use Rattle.table.proofs.Modes.{FitsDevice, Had}
-use Rattle.table.proofs.Payload.{asks-slice, asks-record}
-use Rattle.table.proofs.Requests.{ModesDecided, modes-refused, modes-accepted}
-use Rattle.table.proofs.change_modes as change-modes
-use Rattle.table.proofs.change_modes.Symbol as change-modes-def
-use Rattle.table.proofs.change_modes.Met as change-modes-thm
-use Rattle.table.proofs.set_modes.Key.{name as #key}
-use Rattle.table.proofs.set_modes as f
-use Rattle.table.proofs.set_modes.Statement as stated
-use Rattle.table.proofs.set_modes.Code as code
-use Rattle.table.proofs.set_modes.Code.Mir as mir
+use Rattle.lent.proofs.Payload.{asks-slice, asks-record}
+use Rattle.lent.proofs.Laws.{ModesDecided, modes-refused, modes-accepted}
+use Rattle.lent.proofs.change_modes as change-modes
+use Rattle.lent.proofs.change_modes.Symbol as change-modes-def
+use Rattle.lent.proofs.change_modes.Met as change-modes-thm
+use Rattle.lent.proofs.set_modes.Key.{name as #key}
+use Rattle.lent.proofs.set_modes as f
+use Rattle.lent.proofs.set_modes.Statement as stated
+use Rattle.lent.proofs.set_modes.Code as code
+use Rattle.lent.proofs.set_modes.Code.Mir as mir
 
 abbrev stayed : Stays (f.ended .signature .params) (f.ended .kept)
 stayed = (stay-ref (0 ∷ []) tt (plain (λ _. D.the-row)), (stay-dropped (plain (λ _. bool)) yes, (stay-dropped (plain (λ _. u32)) yes, (stay-dropped (plain (λ _. u64)) yes, (stay-dropped (shrSliceOf (1 ∷ []) tt (plain (λ _. u8))) yes, tt)))))
@@ -193,7 +193,7 @@ set-modes-spec 𝓤 H 𝓜 𝓖 𝓡 =
     (tables 𝓤 H 𝓜 𝓡 code.env .C) (tables 𝓤 H 𝓜 𝓡 code.env .Λ) #key code.function (code.unfolded 𝓤 H 𝓜 𝓡)
     (meets 𝓤 H (𝓖 .A) (givenOf 𝓤 H 𝓜 𝓖) (𝓜 .mem) (𝓡 .run) (tablesOf 𝓤 H 𝓜 (tables 𝓤 H 𝓜 𝓡 code.env)) (record {
       modes-code = cited 𝓤 H (ModesCode 𝓤 H (𝓖 .A) (𝓜 .mem) (𝓡 .run)) 𝓜 𝓡 code.env modes-code-def.name modes-code-def.routine code.calls-values·modes-code (modes-code-thm.met 𝓤 H 𝓜 𝓖 𝓡);
-      change-modes = cited 𝓤 H (ChangeModes 𝓤 H (𝓖 .A) (𝓜 .mem) (𝓡 .run)) 𝓜 𝓡 code.env change-modes-def.name change-modes-def.routine code.calls-table·change-modes (change-modes-thm.met 𝓤 H 𝓜 𝓖 𝓡);
+      change-modes = cited 𝓤 H (ChangeModes 𝓤 H (𝓖 .A) (𝓜 .mem) (𝓡 .run)) 𝓜 𝓡 code.env change-modes-def.name change-modes-def.routine code.calls-lent·change-modes (change-modes-thm.met 𝓤 H 𝓜 𝓖 𝓡);
       refuse = cited 𝓤 H (Refuse 𝓤 H (𝓖 .A) (𝓜 .mem) (𝓡 .run)) 𝓜 𝓡 code.env refuse-def.name refuse-def.routine code.calls-answers·refuse (refuse-thm.met 𝓤 H 𝓜 𝓖 𝓡);
       accept = cited 𝓤 H (Accept 𝓤 H (𝓖 .A) (𝓜 .mem) (𝓡 .run)) 𝓜 𝓡 code.env accept-def.name accept-def.routine code.calls-answers·accept (accept-thm.met 𝓤 H 𝓜 𝓖 𝓡);
     }))

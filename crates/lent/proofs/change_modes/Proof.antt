@@ -25,23 +25,23 @@ use Rattle.values.proofs.mode_in.Met as mode-in-thm
 use Rattle.values.proofs.masks_in as masks-in
 use Rattle.values.proofs.masks_in.Symbol as masks-in-def
 use Rattle.values.proofs.masks_in.Met as masks-in-thm
 use Rattle.table.proofs.Count.{after, taken}
 use Rattle.table.proofs.Gives.{at-list}
 use Rattle.table.proofs.Locals.{Content, blank, holds, locals, frees-all, swaps, holds-true, holds-false}
-use Rattle.table.proofs.Payload.{asks-slice}
+use Rattle.lent.proofs.Payload.{asks-slice}
 use Rattle.table.proofs.Modes.{FitsDevice, Had}
 use Rattle.table.proofs.Record.{SetMode, SetMasks, SetFlag, sets-mode, sets-masks, sets-flag}
 use Rattle.table.proofs.set_mode.Symbol as set-mode-def
 use Rattle.table.proofs.set_mode.Met as set-mode-thm
 use Rattle.table.proofs.set_masks.Symbol as set-masks-def
 use Rattle.table.proofs.set_masks.Met as set-masks-thm
 use Rattle.table.proofs.set_flag.Symbol as set-flag-def
 use Rattle.table.proofs.set_flag.Met as set-flag-thm
-use Rattle.table.proofs.change_modes.Key.{name as #key}
-use Rattle.table.proofs.change_modes as f
-use Rattle.table.proofs.change_modes.Statement as stated
-use Rattle.table.proofs.change_modes.Code as code
-use Rattle.table.proofs.change_modes.Code.Mir as mir
+use Rattle.lent.proofs.change_modes.Key.{name as #key}
+use Rattle.lent.proofs.change_modes as f
+use Rattle.lent.proofs.change_modes.Statement as stated
+use Rattle.lent.proofs.change_modes.Code as code
+use Rattle.lent.proofs.change_modes.Code.Mir as mir
 
 abbrev stayed : Stays (f.ended .signature .params) (f.ended .kept)
 stayed = (stay-ref (0 ∷ []) tt (plain (λ _. D.the-row)), (stay-dropped (plain (λ _. u32)) yes, (stay-dropped (shrSliceOf (1 ∷ []) tt (plain (λ _. u8))) yes, tt)))

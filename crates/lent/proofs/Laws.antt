@@ -18,9 +18,9 @@ use Rattle.adapters.specs.Values.{placeOf, deviceOf, deviceFrom, unused, Canoni
 use Rattle.image.specs.Image.{imageSize}
 use Rattle.values.specs.States.{payloadId, onPlace, decided, placeAfter, withPlace, modesAfter, Within, changeOf}
 use Rattle.values.proofs.Laws.{decided-refused, decided-accepted, on-place-7}
-use Rattle.table.specs.Table.{ModesSet, withTable, PlaceSet}
-use Rattle.table.proofs.Answered.{refused, accepted}
-use Rattle.table.proofs.Maps.{map-set}
+use Rattle.lent.specs.Requests.{ModesSet, withTable, PlaceSet}
+use Rattle.lent.proofs.Answered.{refused, accepted}
+use Rattle.lent.proofs.Maps.{map-set}
 
 -- ---- the device record
 module _ (ais : Bool) (group attr : ℕ) (d : Device) (b : List ℕ) (code : ℕ) where

@@ -1,0 +1,4 @@
+pub mod Payload
+pub mod Answered
+pub mod Maps
+pub mod Laws

@@ -4,28 +4,28 @@ use mathlib.Core.Path.{_≡_, ap, sym, _∙_, subst}
 use mathlib.Core.List.{List, _++_}
 use lib.ListN.{length, drop}
 use Rattle.rules.specs.State.{Limits, Pending, State, withPending}
-use Rattle.rules.specs.Outcome.{Outcome, refuse, accept, result}
+use Rattle.rules.specs.Outcome.{Outcome, refuse, accept, result, tell}
 use Rattle.rules.specs.Requests.{setRequest, request}
 use Rattle.answers.specs.declared.Answer.{Answer}
-use Rattle.answers.specs.Answers.{Answers}
+use Rattle.answers.specs.Answers.{Answers, answered}
 
 pub same-state : (s : State) (p : Pending) → s .pending ≡ p → withPending p s ≡ s
 same-state s p e = ap (λ (q : Pending). withPending q s) (sym e)
 
 module _ (L : Limits) (s : State) (b : List ℕ) (o : Outcome) (a : Answer) (n : ℕ) where
   -- a refusal leaves the state, whatever form it is given in
-  pub refused-as : (t : State) → s ≡ t → o ≡ refuse n → a ≡ record { code = n; count = 0 } → Answers L s b o a t b
+  pub refused-as : (t : State) → s ≡ t → o ≡ refuse n → a ≡ answered n 0 → Answers L s b o a t b
   unfolding result
-  refused-as t e f k = ap (result L s b) f ∙ (λ i. record { code = sym k i .code; count = sym k i .count; next = e i; buffer = b })
+  refused-as t e f k = ap (result L s b) f ∙ (λ i. tell (sym k i .code) (sym k i .count) (e i) b)
 
-  pub refused : (p : Pending) → s .pending ≡ p → o ≡ refuse n → a ≡ record { code = n; count = 0 } → Answers L s b o a (withPending p s) b
+  pub refused : (p : Pending) → s .pending ≡ p → o ≡ refuse n → a ≡ answered n 0 → Answers L s b o a (withPending p s) b
   refused p e = refused-as (withPending p s) (sym (same-state s p e))
 
-  pub accepted : (t : State) (w d : List ℕ) → o ≡ accept n t w → a ≡ record { code = 0; count = n } → d ≡ w ++ drop (length w) b → Answers L s b o a t d
+  pub accepted : (t : State) (w d : List ℕ) → o ≡ accept n t w → a ≡ answered 0 n → d ≡ w ++ drop (length w) b → Answers L s b o a t d
   unfolding result
   accepted t w d e f k = rw (e, f, k)
 
-pub not-refused : {A : Type 0} (a : Answer) (n : ℕ) → a ≡ record { code = 0; count = n } → (a .code ≡ 0 → ⊥) → A
+pub not-refused : {A : Type 0} (a : Answer) (n : ℕ) → a ≡ answered 0 n → (a .code ≡ 0 → ⊥) → A
 not-refused a n e h = absurd (h (ap (λ (x : Answer). x .code) e))
 
 -- an answer to the set request of one group number is one to that of an equal number; and so is an equal answer

@@ -1,5 +1,6 @@
 // Inner crate: the codes of refusals, an answer, and how it is held to the rules.
 ghost use mathlib.Core.Path.{_≡_};
+ghost use Rattle.answers.specs.Answers.{answered};
 
 // Codes, named and numbered as in errno.
 pub const EINVAL: u32 = 22;
@@ -22,13 +23,13 @@ pub struct Answer {
 }
 
 pub fn accept(count: u64) -> Answer
-    ensures { λ r. ⌜ r ≡ record { code = 0; count = count } ⌝ }
+    ensures { λ r. ⌜ r ≡ answered 0 count ⌝ }
 {
     Answer { code: 0, count }
 }
 
 pub fn refuse(code: u32) -> Answer
-    ensures { λ r. ⌜ r ≡ record { code = code; count = 0 } ⌝ }
+    ensures { λ r. ⌜ r ≡ answered code 0 ⌝ }
 {
     Answer { code, count: 0 }
 }

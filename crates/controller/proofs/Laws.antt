@@ -6,7 +6,7 @@ use mathlib.Core.List.{List, map}
 use lib.ListN.{take}
 use Rattle.rules.specs.Bytes.{choose}
 use Rattle.rules.specs.State.{Limits, State, Pending, paperLimits}
-use Rattle.rules.specs.Outcome.{Outcome}
+use Rattle.rules.specs.Outcome.{Outcome, tell}
 use Rattle.rules.specs.Outcome.{Answer as Told}
 use Rattle.answers.specs.declared.Answer.{Answer}
 use Rattle.adapters.specs.declared.Device.{Device}
@@ -20,8 +20,8 @@ use Rattle.values.specs.States.{Replies}
 
 -- the state that a played list leaves
 pub replayed-answer : (s : State) (ais : Bool) (image b : List ℕ) (p : Pending) (device : Device) (a : Answer) (q : Bool) {x : Told}
-    → x ≡ record { code = a .code; count = a .count; next = choose q s (imageState ais (paperLimits .places) image p device); buffer = b }
-    → x ≡ record { code = a .code; count = a .count; next = choose q s (record { ais = ais; adapters = map placeOf (map unpacked (take (paperLimits .places) image)); pending = p; device = deviceOf device }); buffer = b }
+    → x ≡ tell (a .code) (a .count) (choose q s (imageState ais (paperLimits .places) image p device)) b
+    → x ≡ tell (a .code) (a .count) (choose q s (record { ais = ais; adapters = map placeOf (map unpacked (take (paperLimits .places) image)); pending = p; device = deviceOf device })) b
 replayed-answer s ais image b p device a q e =
     e
     ∙ (λ i. record {

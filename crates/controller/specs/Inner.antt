@@ -11,9 +11,9 @@ use Rattle.rules.specs.Requests.{airqInject, setRequest, getRequest, request}
 use Rattle.rules.specs.Outcome.{refuse}
 use Rattle.rules.specs.Take.{takes}
 use Rattle.rules.specs.MoveList.{writes, plays}
-use Rattle.rules.proofs.Lists.{All}
+use Rattle.rules.specs.Invariant.{All}
 use Rattle.answers.specs.declared.Answer.{Answer}
-use Rattle.answers.specs.Answers.{Answers}
+use Rattle.answers.specs.Answers.{Answers, answered}
 use Rattle.adapters.specs.declared.Device.{Device}
 use Rattle.adapters.specs.declared.Place.{Place}
 use Rattle.adapters.specs.Values.{placeOf, deviceOf, Canonical, injectedDevice}
@@ -35,7 +35,7 @@ pendingIn c = pendingOf (c .order) (c .counts) (c .slots) (c .singles)
 -- A fresh controller's arrays.
 pub record Began (ais : Bool) (c′ : Controller) (r : Started) : Type 0 where
   pub started : r ≡ record {
-    answer = record { code = 0; count = 0 };
+    answer = answered 0 0;
     ais = ais;
     device = record { simm = 0; nimm = 0; apf = false };
     restored = paperLimits .places;

@@ -15,7 +15,7 @@ use Rattle.rules.specs.Requests.{noRequest, airqInject, setRequest, getRequest,
 use Rattle.rules.specs.Requests.{underAis as rules-underAis}
 use Rattle.rules.proofs.Checks.{passes, fails, found, chosen, passed}
 use Rattle.answers.specs.declared.Answer.{Answer}
-use Rattle.answers.specs.Answers.{Answers}
+use Rattle.answers.specs.Answers.{Answers, answered}
 use Rattle.adapters.specs.declared.Device.{Device}
 use Rattle.adapters.specs.declared.Place.{Place}
 use Rattle.adapters.specs.declared.Injection.{Injection}
@@ -171,11 +171,11 @@ code-of er n e = n (ap (λ (x : Reply). x .answer .code) er ∙ e)
 
 -- the device record of a reply: an injection that was appended, of count 1, is noted in it, and no other
 pub not-noted : (x : Device) {a : Answer} {code : ℕ} {d : Device} {p : Place} {r : Reply} → r ≡ record { answer = a; device = d; place = p }
-    → a ≡ record { code = code; count = 0 } → r .device ≡ choose (eqb (r .answer .count) 1) x d
+    → a ≡ answered code 0 → r .device ≡ choose (eqb (r .answer .count) 1) x d
 unfolding choose
 not-noted x er ea = rw (er, ea)
 
 pub noted : (d x : Device) {a : Answer} {d′ : Device} {p : Place} {r : Reply} → r ≡ record { answer = a; device = d′; place = p }
-    → a ≡ record { code = 0; count = 1 } → d′ ≡ x → r .device ≡ choose (eqb (r .answer .count) 1) x d
+    → a ≡ answered 0 1 → d′ ≡ x → r .device ≡ choose (eqb (r .answer .count) 1) x d
 unfolding choose
 noted d x er ea e = rw (er, ea) e

@@ -6,12 +6,13 @@ use Rattle.rules.specs.Outcome.{EINVAL, EBUSY}
 use Rattle.answers.specs.declared.Answer.{Answer}
 use Rattle.adapters.specs.declared.Injection.{Injection}
 use Rattle.adapters.specs.declared.Injection.the-variants.{NoAdapter, Dropped, Full, Appended}
+use Rattle.answers.specs.Answers.{answered}
 
 abbrev pub answerFor : Injection → Answer
-answerFor NoAdapter = record { code = EINVAL; count = 0 }
-answerFor Dropped = record { code = 0; count = 0 }
-answerFor Full = record { code = EBUSY; count = 0 }
-answerFor (Appended isc) = record { code = 0; count = 1 }
+answerFor NoAdapter = answered EINVAL 0
+answerFor Dropped = answered 0 0
+answerFor Full = answered EBUSY 0
+answerFor (Appended isc) = answered 0 1
 
 -- whether a set request is about pending records alone: ENQUEUE, CLEAR_IRQS, CLEAR_IO_IRQ
 unfoldable pub onRecords : ℕ → Bool

@@ -1,82 +1,18 @@
--- Demand 3, one claim about whole lists of calls on the code's own controllers.
+-- Demand 3 holds: its statement is specs/Claim.
 use Prim.Native.Nat.{ℕ, _≤_}
 use mathlib.Core.Path.{_≡_, refl, ap, sym, _∙_, subst}
 use mathlib.Core.Bool.{Bool}
 use mathlib.Core.List.{List, [], _∷_, _++_}
 use lib.ListN.{length, take}
 use Rattle.rules.specs.State.{State, paperLimits, fresh}
-use Rattle.rules.specs.Outcome.{Answer as Told}
-use Rattle.rules.specs.MoveList.{listRequests, total, countIn, mostRequests}
+use Rattle.rules.specs.Outcome.{Answer as Told, tell}
+use Rattle.rules.specs.MoveList.{countIn, mostRequests}
 use Rattle.rules.specs.Machine.{writeList, playList, Call, Seen, seen, step, answers, after}
 use Rattle.rules.proofs.Reachable.{fresh-ais, reachable}
 use Rattle.rules.proofs.Move.{Move, move, movable-paper}
-use Rattle.answers.specs.declared.Answer.{Answer}
-use Rattle.adapters.specs.declared.Device.{Device}
-use Rattle.adapters.specs.declared.Place.{Place}
-use Rattle.controller.specs.declared.Controller.{Controller}
-use Rattle.flic.specs.Surface.{Made, Requested, Played}
+use Rattle.flic.specs.Claim.{Fresh, machine, Moved, listOf, callsOf, Claim}
 use Rattle.flic.specs.Chain.{Host, its-own, asked, saw, Ran}
 use Rattle.flic.proofs.Follows.{hostState, Good, own-length, Stepped, requested, played, follows}
-
--- A host that the code made, with this capability.
-pub record Fresh (ais : Bool) (f : Host) : Type 0 where
-  pub ctl : Controller
-  pub dev : Device
-  pub tab : List Place
-  pub right : length tab ≡ paperLimits .places
-  pub answer : Answer
-  pub made : Made ais ctl (f .ctl) dev (f .dev) tab (f .tab) answer
-
--- The plain machine with this capability, fresh at the start: its state after a list of calls, and its answers to a further list.
-abbrev pub machine : Bool → List Call → State
-machine ais cs = after paperLimits (fresh paperLimits ais) cs
-
-abbrev pub machineAnswers : Bool → List Call → List Call → List Seen
-machineAnswers ais cs ds = answers paperLimits (machine ais cs) ds
-
--- A move. Any list of calls on a fresh first host; the move list written into a buffer that is long enough; exactly as many bytes as the count says
--- played on a second host, which any list of calls on a fresh one of the same capability left. Both calls are lent their host's own table.
-pub record Moved : Type 0 where
-  pub ais : Bool
-  pub start₁ : Host
-  pub fresh₁ : Fresh ais start₁
-  pub calls₁ : List Call
-  pub seen₁ : List Seen
-  pub first : Host
-  pub ran₁ : Ran start₁ calls₁ seen₁ first
-  pub buffer : List ℕ
-  pub left : List ℕ
-  pub wrote : Answer
-  pub writes : Requested writeList (first .ctl) (first .ctl) (first .dev) (first .dev) (first .tab) (first .tab) buffer left wrote
-  pub long : total (listRequests (machine ais calls₁)) ≤ length buffer
-  pub start₂ : Host
-  pub fresh₂ : Fresh ais start₂
-  pub calls₂ : List Call
-  pub seen₂ : List Seen
-  pub before : Host
-  pub ran₂ : Ran start₂ calls₂ seen₂ before
-  pub second : Host
-  pub played : Answer
-  pub plays : Played (before .ctl) (second .ctl) (before .dev) (second .dev) (before .tab) (second .tab) (take (wrote .count) left) played
-
--- the bytes that are played; the calls on the first host, the writing included
-abbrev pub listOf : Moved → List ℕ
-listOf m = take (m .wrote .count) (m .left)
-
-abbrev pub callsOf : Moved → List Call
-callsOf m = m .calls₁ ++ (asked writeList (m .buffer) (paperLimits .places) ∷ [])
-
--- Demand 3.
-pub record Claim (m : Moved) : Type 0 where
-  -- the first controller gives the plain machine's answers, counts and bytes, of the writing too
-  pub first-seen : m .seen₁ ++ (saw (m .wrote) (m .left) ∷ []) ≡ machineAnswers (m .ais) [] (callsOf m)
-  -- the writing is accepted, and its count is the list's length
-  pub written : (m .wrote .code ≡ 0) × (m .wrote .count ≡ total (listRequests (machine (m .ais) (m .calls₁)))) × (length (listOf m) ≡ m .wrote .count)
-  -- the second controller accepts exactly those bytes, whatever it held, and applies as many requests as they say, at most 131
-  pub accepted : (m .played .code ≡ 0) × (m .played .count ≡ countIn (listOf m)) × (m .played .count ≤ mostRequests)
-  -- from then on both give the plain machine's answers, counts and bytes, for every further list of calls
-  pub alike : (ds : List Call) (xs ys : List Seen) (e₁ e₂ : Host) → Ran (m .first) ds xs e₁ → Ran (m .second) ds ys e₂
-      → (xs ≡ machineAnswers (m .ais) (callsOf m) ds) × (ys ≡ machineAnswers (m .ais) (callsOf m) ds)
 
 -- what the plain machine answers to one list after another
 answers-append : (s : State) (cs ds : List Call) → answers paperLimits s (cs ++ ds) ≡ answers paperLimits s cs ++ answers paperLimits (after paperLimits s cs) ds
@@ -133,7 +69,7 @@ module _ (m : Moved) where
       requested (m .first) good₁ writeList tt (m .buffer) (m .left) (m .first .ctl) (m .first .dev) (m .first .tab) (m .first .tab) (m .first .tab) (m .wrote)
       (its-own refl) (m .writes)
 
-  wrote-is : told ≡ record { code = m .wrote .code; count = m .wrote .count; next = hostState (m .first); buffer = m .left }
+  wrote-is : told ≡ tell (m .wrote .code) (m .wrote .count) (hostState (m .first)) (m .left)
   wrote-is =
       (λ i. step paperLimits ((sym first-is) i) (asked writeList (m .buffer) ((sym (own-length (m .first) good₁)) i)))
       ∙ write-step .steps
@@ -151,7 +87,7 @@ module _ (m : Moved) where
   good-second = play-step .good
 
   played-is : step paperLimits (hostState (m .before)) (asked playList (take (told .count) (told .buffer)) (paperLimits .places))
-      ≡ record { code = m .played .code; count = m .played .count; next = hostState (m .second); buffer = listOf m }
+      ≡ tell (m .played .code) (m .played .count) (hostState (m .second)) (listOf m)
   played-is =
       (λ i. step paperLimits (hostState (m .before)) (asked playList (list-is i) ((sym (own-length (m .before) good₂)) i)))
       ∙ play-step .steps

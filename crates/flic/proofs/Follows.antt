@@ -5,7 +5,7 @@ use mathlib.Core.Bool.{Bool}
 use mathlib.Core.List.{List, _∷_}
 use lib.ListN.{length, length-map}
 use Rattle.rules.specs.State.{State, paperLimits}
-use Rattle.rules.specs.Outcome.{Outcome, result}
+use Rattle.rules.specs.Outcome.{Outcome, result, tell}
 use Rattle.rules.specs.Outcome.{Answer as Told}
 use Rattle.rules.specs.Machine.{Ask, setAttr, getAttr, guestTake, writeList, playList, Call, Seen, outcome, step, answers, after}
 use Rattle.answers.specs.declared.Answer.{Answer}
@@ -16,6 +16,7 @@ use Rattle.controller.specs.declared.Controller.{Controller}
 use Rattle.flic.specs.Surface.{stateOf, Valid, Steps, Requested, Taken, Played}
 use Rattle.flic.specs.Chain.{Host, Lends, its-own, another, asked, saw, Ran, end, set, get, take, write, play}
 use Rattle.flic.proofs.Promises.{next-sound, Tabled, refused-table, not-zero}
+use Rattle.answers.specs.Answers.{answered}
 
 abbrev pub hostState : Host → State
 hostState h = stateOf (h .ctl) (h .dev) (h .tab)
@@ -31,12 +32,12 @@ own-length h g = sym (length-map (h .tab) placeOf) ∙ g .sound .table
 -- ---- one call
 -- what one call comes to on a host: the machine's step, and a host that stands for the machine's next state
 pub record Stepped (h : Host) (c : Call) (s : Seen) (k : Host) : Type 0 where
-  pub steps : step paperLimits (hostState h) c ≡ record { code = s .code; count = s .count; next = hostState k; buffer = s .buffer }
+  pub steps : step paperLimits (hostState h) c ≡ tell (s .code) (s .count) (hostState k) (s .buffer)
   pub good : Good k
 
 module _ (h : Host) (g : Good h) (ask : Ask) (tabled : Tabled ask) (b b′ : List ℕ) (c′ : Controller) (d′ : Device) (r : Answer) where
   refused-step : (s : State) (n : ℕ) → (n ≡ paperLimits .places → ⊥)
-      → step paperLimits s (asked ask b n) ≡ record { code = 14; count = 0; next = s; buffer = b }
+      → step paperLimits s (asked ask b n) ≡ tell 14 0 s b
   unfolding step result
   refused-step s n w = ap (result paperLimits s b) (refused-table s ask n b tabled w)
 
@@ -45,7 +46,7 @@ module _ (h : Host) (g : Good h) (ask : Ask) (tabled : Tabled ask) (b b′ : Lis
       → Stepped h (asked ask b (length t)) (saw r b′) (record { ctl = c′; dev = d′; tab = u })
   lent t t′ u (its-own e) f v k =
       record {
-        steps = subst (λ (x : List Place). step paperLimits (stateOf (h .ctl) (h .dev) x) (asked ask b (length t)) ≡ record { code = r .code; count = r .count; next = stateOf c′ d′ t′; buffer = b′ }) e f;
+        steps = subst (λ (x : List Place). step paperLimits (stateOf (h .ctl) (h .dev) x) (asked ask b (length t)) ≡ tell (r .code) (r .count) (stateOf c′ d′ t′) b′) e f;
         good = v (ap length e ∙ own-length h g);
       }
   lent t t′ u (another w) f v k =
@@ -53,7 +54,7 @@ module _ (h : Host) (g : Good h) (ask : Ask) (tabled : Tabled ask) (b b′ : Lis
       record {
         steps =
             refused-step (hostState h) (length t) w
-            ∙ (λ i. record { code = (sym a) i .code; count = (sym a) i .count; next = stateOf ((sym (k w .0)) i) ((sym (k w .1)) i) (h .tab); buffer = (sym a) i .buffer });
+            ∙ (λ i. tell ((sym a) i .code) ((sym a) i .count) (stateOf ((sym (k w .0)) i) ((sym (k w .1)) i) (h .tab)) ((sym a) i .buffer));
         good = subst (λ (x : Host). Good x) (λ i. record { ctl = (sym (k w .0)) i; dev = (sym (k w .1)) i; tab = h .tab }) g;
       }
 
@@ -66,7 +67,7 @@ wrong-code ask tabled c c′ d d′ t t′ b b′ r w f z =
     fourteen y
   where
     fourteen : _≡_ {A = ℕ} 14 0 → ⊥
-    fourteen y = not-zero {a = record { code = 14; count = 0 }} refl y
+    fourteen y = not-zero {a = answered 14 0} refl y
 
 pub requested : (h : Host) → Good h → (ask : Ask) → Tabled ask → (b b′ : List ℕ) (c′ : Controller) (d′ : Device) (t t′ u : List Place) (r : Answer)
     → Lends (h .tab) t t′ u → Requested ask (h .ctl) c′ (h .dev) d′ t t′ b b′ r

@@ -7,10 +7,12 @@ use prog.Wp.{Heap}
 use prog.Memory.{Memory}
 use prog.Routine.{Routine}
 use ghost.Atoms.{Atoms}
+use contract.Lifetimes.{Lfts}
 use contract.Monad.{Fun, fact}
 use contract.Notation.{connectives}
 use denote.Ref.{now}
-use denote.Triple.Clauses.{Clauses}
+use denote.Triple.Entry.{Args, Res}
+use denote.Triple.Clauses.{Ended, AtExit, Clauses}
 use Rattle.rules.specs.Machine.{setAttr, getAttr, writeList}
 use Rattle.flic.specs.Surface.{Ready, Premise, Made, Requested, Taken, Played}
 use Rattle.flic.proofs.flic_make as flic-make
@@ -20,85 +22,34 @@ use Rattle.flic.proofs.flic_take as flic-take
 use Rattle.flic.proofs.flic_write_list as flic-write
 use Rattle.flic.proofs.flic_play_list as flic-play
 
-module _ {M : Type 1} (𝓤 : URA M) (H : Heap 𝓤) (A : Atoms 𝓤) (mem : Memory → SProp 𝓤) (run : Routine → Fun 𝓤) where
-  -- no premise
-  makes : Clauses 𝓤 flic-make.ended
-  makes = λ κs a.
-      record {
-        ghost = Unit {0};
-        requires = λ g. connectives 𝓤 .⊤ₛ;
-        ensures = λ g r e.
-            fact 𝓤 (Made (a .1 .1 .1 .0) (now (a .0)) (now (e .0)) (now (a .1 .0)) (now (e .1 .0)) (now (a .1 .1 .0)) (now (e .1 .1 .0)) r);
-      }
+module _ {M : Type 1} (𝓤 : URA M) where
+  -- A contract that requires no more than a plain fact of the parameters at entry, and ensures one of these, the result and the parameters at exit.
+  abbrev Plain : (T : Ended) → ((κs : Lfts (T .signature .lifetimes)) → Args (T .signature) κs → SProp 𝓤)
+      → ((κs : Lfts (T .signature .lifetimes)) → Args (T .signature) κs → Res (T .signature) κs → AtExit T κs → Type 0) → Clauses 𝓤 T
+  Plain T P Q = λ κs a. record { ghost = Unit {0}; requires = λ g. P κs a; ensures = λ g r e. fact 𝓤 (Q κs a r e) }
 
-  make-is : flic-make.clauses 𝓤 H A mem run ≡ makes
-  unfolding makes
+-- A parameter is named as at entry, and with a prime as at exit.
+module _ {M : Type 1} (𝓤 : URA M) (H : Heap 𝓤) (A : Atoms 𝓤) (mem : Memory → SProp 𝓤) (run : Routine → Fun 𝓤) where
+  make-is : flic-make.clauses 𝓤 H A mem run ≡ Plain 𝓤 flic-make.ended (λ κs a. connectives 𝓤 .⊤ₛ)
+      (λ κs (c, (d, (t, (ais, _)))) r (c′, (d′, (t′, _))). Made ais (now c) (now c′) (now d) (now d′) (now t) (now t′) r)
   make-is = refl
 
-  sets : Clauses 𝓤 flic-set.ended
-  sets = λ κs a.
-      record {
-        ghost = Unit {0};
-        requires = λ g. fact 𝓤 (Premise (now (a .0)) (now (a .1 .0)) (now (a .1 .1 .0)));
-        ensures = λ g r e.
-            fact 𝓤 (Requested (setAttr (a .1 .1 .1 .0) (a .1 .1 .1 .1 .0)) (now (a .0)) (now (e .0)) (now (a .1 .0)) (now (e .1 .0)) (now (a .1 .1 .0)) (now (e .1 .1 .0))
-            (now (a .1 .1 .1 .1 .1 .0)) (now (a .1 .1 .1 .1 .1 .0)) r);
-      }
-
-  set-is : flic-set.clauses 𝓤 H A mem run ≡ sets
-  unfolding sets
+  set-is : flic-set.clauses 𝓤 H A mem run ≡ Plain 𝓤 flic-set.ended (λ κs (c, (d, (t, _))). fact 𝓤 (Premise (now c) (now d) (now t)))
+      (λ κs (c, (d, (t, (group, (attr, (b, _)))))) r (c′, (d′, (t′, _))). Requested (setAttr group attr) (now c) (now c′) (now d) (now d′) (now t) (now t′) (now b) (now b) r)
   set-is = refl
 
-  gets : Clauses 𝓤 flic-get.ended
-  gets = λ κs a.
-      record {
-        ghost = Unit {0};
-        requires = λ g. fact 𝓤 (Premise (now (a .0)) (now (a .1 .0)) (now (a .1 .1 .0)));
-        ensures = λ g r e.
-            fact 𝓤 (Requested (getAttr (a .1 .1 .1 .0) (a .1 .1 .1 .1 .0)) (now (a .0)) (now (a .0)) (now (a .1 .0)) (now (a .1 .0)) (now (a .1 .1 .0)) (now (a .1 .1 .0))
-            (now (a .1 .1 .1 .1 .1 .0)) (now (e .1 .1 .1 .1 .1 .0)) r);
-      }
-
-  get-is : flic-get.clauses 𝓤 H A mem run ≡ gets
-  unfolding gets
+  get-is : flic-get.clauses 𝓤 H A mem run ≡ Plain 𝓤 flic-get.ended (λ κs (c, (d, (t, _))). fact 𝓤 (Premise (now c) (now d) (now t)))
+      (λ κs (c, (d, (t, (group, (attr, (b, _)))))) r (_, (_, (_, (_, (_, (b′, _)))))). Requested (getAttr group attr) (now c) (now c) (now d) (now d) (now t) (now t) (now b) (now b′) r)
   get-is = refl
 
-  takes : Clauses 𝓤 flic-take.ended
-  takes = λ κs a.
-      record {
-        ghost = Unit {0};
-        requires = λ g. fact 𝓤 (Ready (now (a .0)));
-        ensures = λ g r e.
-            fact 𝓤 (Taken (a .1 .0) (a .1 .1 .0) (a .1 .1 .1 .0) (now (a .0)) (now (e .0)) (now (a .1 .1 .1 .1 .0)) (now (e .1 .1 .1 .1 .0)) r);
-      }
-
-  take-is : flic-take.clauses 𝓤 H A mem run ≡ takes
-  unfolding takes
+  take-is : flic-take.clauses 𝓤 H A mem run ≡ Plain 𝓤 flic-take.ended (λ κs (c, _). fact 𝓤 (Ready (now c)))
+      (λ κs (c, (subclasses, (external, (mcheck, (b, _))))) r (c′, (_, (_, (_, (b′, _))))). Taken subclasses external mcheck (now c) (now c′) (now b) (now b′) r)
   take-is = refl
 
-  writes : Clauses 𝓤 flic-write.ended
-  writes = λ κs a.
-      record {
-        ghost = Unit {0};
-        requires = λ g. fact 𝓤 (Premise (now (a .0)) (now (a .1 .0)) (now (a .1 .1 .0)));
-        ensures = λ g r e.
-            fact 𝓤 (Requested writeList (now (a .0)) (now (a .0)) (now (a .1 .0)) (now (a .1 .0)) (now (a .1 .1 .0)) (now (a .1 .1 .0))
-            (now (a .1 .1 .1 .0)) (now (e .1 .1 .1 .0)) r);
-      }
-
-  write-is : flic-write.clauses 𝓤 H A mem run ≡ writes
-  unfolding writes
+  write-is : flic-write.clauses 𝓤 H A mem run ≡ Plain 𝓤 flic-write.ended (λ κs (c, (d, (t, _))). fact 𝓤 (Premise (now c) (now d) (now t)))
+      (λ κs (c, (d, (t, (b, _)))) r (_, (_, (_, (b′, _)))). Requested writeList (now c) (now c) (now d) (now d) (now t) (now t) (now b) (now b′) r)
   write-is = refl
 
-  plays : Clauses 𝓤 flic-play.ended
-  plays = λ κs a.
-      record {
-        ghost = Unit {0};
-        requires = λ g. fact 𝓤 (Premise (now (a .0)) (now (a .1 .0)) (now (a .1 .1 .0)));
-        ensures = λ g r e.
-            fact 𝓤 (Played (now (a .0)) (now (e .0)) (now (a .1 .0)) (now (e .1 .0)) (now (a .1 .1 .0)) (now (e .1 .1 .0)) (now (a .1 .1 .1 .0)) r);
-      }
-
-  play-is : flic-play.clauses 𝓤 H A mem run ≡ plays
-  unfolding plays
+  play-is : flic-play.clauses 𝓤 H A mem run ≡ Plain 𝓤 flic-play.ended (λ κs (c, (d, (t, _))). fact 𝓤 (Premise (now c) (now d) (now t)))
+      (λ κs (c, (d, (t, (b, _)))) r (c′, (d′, (t′, _))). Played (now c) (now c′) (now d) (now d′) (now t) (now t′) (now b) r)
   play-is = refl

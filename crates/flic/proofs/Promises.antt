@@ -10,13 +10,14 @@ use lib.Dec.{eqb}
 use borrow.Author.Tests.{eq-eqb, ne-eqb, eqb-true, eqb-false}
 use Rattle.rules.specs.Bytes.{choose}
 use Rattle.rules.specs.State.{State, free, fresh, paperLimits}
-use Rattle.rules.specs.Outcome.{Outcome, refuse, need_else_⨾_, result}
+use Rattle.rules.specs.Outcome.{Outcome, refuse, need_else_⨾_, result, tell}
 use Rattle.rules.specs.Outcome.{Answer as Told}
 use Rattle.rules.specs.Requests.{setRequest, request}
 use Rattle.rules.specs.Machine.{Ask, setAttr, getAttr, guestTake, writeList, playList, outcome, step}
 use Rattle.rules.proofs.Checks.{passes, fails, chosen, passed}
-use Rattle.rules.proofs.Lists.{All, all-replicate}
-use Rattle.rules.proofs.Reachable.{Sound, kept-step, fresh-sound}
+use Rattle.rules.specs.Invariant.{All, Sound}
+use Rattle.rules.proofs.Lists.{all-replicate}
+use Rattle.rules.proofs.Reachable.{kept-step, fresh-sound}
 use Rattle.answers.specs.declared.Answer.{Answer}
 use Rattle.adapters.specs.declared.Device.{Device}
 use Rattle.adapters.specs.declared.Place.{Place}
@@ -32,6 +33,7 @@ use Rattle.controller.specs.declared.Controller.{Controller}
 use Rattle.controller.specs.declared.Started.{Started}
 use Rattle.flic.specs.Surface.{stateOf, Valid, Steps, Made, Requested, Taken, Played}
 use Rattle.controller.specs.Inner.{pendingIn, Began, playedState, Replayed, Wrote, Recorded, notedIn, Injected, Got, Handed}
+use Rattle.answers.specs.Answers.{answered}
 
 -- a state that a step leads to is sound
 pub next-sound : (ask : Ask) (c c′ : Controller) (d d′ : Device) (t t′ : List Place) (b b′ : List ℕ) (r : Answer) → Valid c d t
@@ -71,29 +73,29 @@ refused-table s (guestTake subclasses external mcheck) n b t w = absurd t
 refused-table s writeList n b t w = wrong-table n 14 _ w
 refused-table s playList n b t w = wrong-table n 14 _ w
 
-pub not-zero : {a : Answer} → a ≡ record { code = 14; count = 0 } → a .code ≡ 0 → ⊥
+pub not-zero : {a : Answer} → a ≡ answered 14 0 → a .code ≡ 0 → ⊥
 not-zero e z = let y : _≡_ {A = ℕ} 14 0 = sym (ap (λ (x : Answer). x .code) e) ∙ z in omega (arith, y)
 
 -- ---- a wrong table: 14, and everything stays
 module _ (c : Controller) (d : Device) (t : List Place) (b : List ℕ) (w : length t ≡ paperLimits .places → ⊥) where
-  wrong-steps : (ask : Ask) → Tabled ask → Steps ask c c d d t t b b (record { code = 14; count = 0 })
+  wrong-steps : (ask : Ask) → Tabled ask → Steps ask c c d d t t b b (answered 14 0)
   unfolding step result
   wrong-steps ask tabled = ap (result paperLimits (stateOf c d t) b) (refused-table (stateOf c d t) ask (length t) b tabled w)
 
-  pub wrong-promises : (ask : Ask) → Tabled ask → Requested ask c c d d t t b b (record { code = 14; count = 0 })
+  pub wrong-promises : (ask : Ask) → Tabled ask → Requested ask c c d d t t b b (answered 14 0)
   wrong-promises ask tabled = record { steps = wrong-steps ask tabled; kept = λ n. (refl, refl, refl, refl); valid = λ e. absurd (w e) }
 
-  pub wrong-plays : Played c c d d t t b (record { code = 14; count = 0 })
+  pub wrong-plays : Played c c d d t t b (answered 14 0)
   wrong-plays = record { steps = wrong-steps playList tt; kept = λ code o. (refl, refl, refl); valid = λ e. absurd (w e) }
 
-  pub wrong-makes : (ais : Bool) → Made ais c c d d t t (record { code = 14; count = 0 })
+  pub wrong-makes : (ais : Bool) → Made ais c c d d t t (answered 14 0)
   wrong-makes ais = record { right = λ e. absurd (w e); wrong = λ _. (refl, refl, refl, refl) }
 
 -- ---- set requests, with the right table
 module _ (group attr : ℕ) (c c′ : Controller) (d : Device) (t : List Place) (b : List ℕ) (r : Answer) (e : length t ≡ paperLimits .places) (h : Valid c d t) where
   -- the request's answer is the step's
   as-step : (d′ : Device) (t′ : List Place) → result paperLimits (stateOf c d t) b (request paperLimits (stateOf c d t) (setRequest group) attr b)
-      ≡ record { code = r .code; count = r .count; next = stateOf c′ d′ t′; buffer = b } → Steps (setAttr group attr) c c′ d d′ t t′ b b r
+      ≡ tell (r .code) (r .count) (stateOf c′ d′ t′) b → Steps (setAttr group attr) c c′ d d′ t t′ b b r
   unfolding step outcome
   as-step d′ t′ f = ap (result paperLimits (stateOf c d t) b) (right-table (length t) 14 _ e) ∙ f
 
@@ -102,7 +104,7 @@ module _ (group attr : ℕ) (c c′ : Controller) (d : Device) (t : List Place) 
   unfolding stateOf
   record-steps a f =
       as-step d t (f .answer (stateOf c d t) refl
-      ∙ (λ i. record { code = r .code; count = r .count; next = record { ais = (sym a) i; adapters = map placeOf t; pending = pendingIn c′; device = deviceOf d }; buffer = b }))
+      ∙ (λ i. tell (r .code) (r .count) (record { ais = (sym a) i; adapters = map placeOf t; pending = pendingIn c′; device = deviceOf d }) b))
 
   pub record-promises : c′ .ais ≡ c .ais → Recorded group attr c c′ b r → Requested (setAttr group attr) c c′ d d t t b b r
   record-promises a f =
@@ -183,7 +185,7 @@ unfolding step outcome stateOf
 take-promises subclasses external mcheck c c′ b b′ r a f =
     record {
       steps = λ d t. f .answer (stateOf c d t) refl
-          ∙ (λ i. record { code = r .code; count = r .count; next = record { ais = (sym a) i; adapters = map placeOf t; pending = pendingIn c′; device = deviceOf d }; buffer = b′ });
+          ∙ (λ i. tell (r .code) (r .count) (record { ais = (sym a) i; adapters = map placeOf t; pending = pendingIn c′; device = deviceOf d }) b′);
       kept = f .kept;
       ready = f .held;
     }
@@ -250,7 +252,7 @@ module _ (c c′ : Controller) (d : Device) (t : List Place) (b : List ℕ) (r :
   next = choose (eqb (r .restored) 0) (stateOf c d t) (playedState c′ r)
 
   told : step paperLimits (stateOf c d t) (record { ask = playList; buffer = b; tableLength = length t })
-      ≡ record { code = r .answer .code; count = r .answer .count; next = next; buffer = b }
+      ≡ tell (r .answer .code) (r .answer .count) next b
   unfolding step outcome stateOf next
   told = ap (result paperLimits (stateOf c d t) b) (right-table (length t) 14 _ e) ∙ f .answer (stateOf c d t) refl
 

@@ -11,8 +11,9 @@ use lib.Seq.{take-at, drop-at}
 use Rattle.rules.specs.Bytes.{choose}
 use Rattle.rules.specs.State as rules
 use Rattle.rules.specs.State.{State, Pending, Record, free, holds, queued, listing, paperLimits}
-use Rattle.rules.proofs.Lists.{All, Maybe, flatten-append}
-use Rattle.rules.proofs.Reachable.{SoundPlace, Whole, IsKind, SoundPending, Sound, listing-sendable}
+use Rattle.rules.specs.Invariant.{All, Maybe, SoundPlace, Whole, IsKind, SoundPending, Sound}
+use Rattle.rules.proofs.Lists.{flatten-append}
+use Rattle.rules.proofs.Reachable.{listing-sendable}
 use Rattle.adapters.specs.declared.Place.{Place}
 use Rattle.adapters.specs.Values.{placeOf, unused, Canonical}
 use Rattle.slots.specs.Slots.{slotCount, slot, listed}

@@ -9,12 +9,13 @@ use lib.ListN.{length, drop, replicate, length-replicate}
 use lib.ListN.{take as first}
 use lib.Dec.{leb}
 use Rattle.rules.specs.State.{State, Pending, recordBytes, paperLimits, fresh, withPending}
-use Rattle.rules.specs.Outcome.{Outcome, refuse, accept, reset, result}
+use Rattle.rules.specs.Outcome.{Outcome, refuse, accept, reset, result, tell}
 use Rattle.rules.specs.Machine.{Ask, setAttr, getAttr, guestTake, writeList, playList, Call, Seen, outcome, step}
 use Rattle.rules.specs.MoveList.{listRequests, total}
 use Rattle.rules.specs.Take.{Handed, handed, handsOut, takes}
 use Rattle.rules.proofs.Checks.{passes, fails}
-use Rattle.rules.proofs.Reachable.{Sound, kept-step, fresh-sound}
+use Rattle.rules.specs.Invariant.{Sound}
+use Rattle.rules.proofs.Reachable.{kept-step, fresh-sound}
 use Rattle.rules.proofs.Shapes.{Shape, Any, None, Sets, Gets, set-shape, get-shape, write-shape, play-shape}
 use Rattle.answers.specs.declared.Answer.{Answer}
 use Rattle.adapters.specs.declared.Device.{Device}
@@ -22,12 +23,14 @@ use Rattle.adapters.specs.declared.Place.{Place}
 use Rattle.adapters.specs.Values.{unused, placeOf, deviceOf}
 use Rattle.records.specs.Memory.{pendingOf}
 use Rattle.controller.specs.declared.Controller.{Controller}
-use Rattle.flic.specs.Surface.{stateOf, Ready, Valid, Premise, Steps, Requested, Taken, Played}
-use Rattle.flic.specs.Chain.{Host, Lends, its-own, another, asked, Ran, end, set, get, take, write, play}
+use Rattle.flic.specs.Surface.{stateOf, Valid, Steps, Requested, Taken, Played}
+use Rattle.flic.specs.Chain.{Host, Lends, its-own, another, asked, Ran, end, set, get, take, write, play, LentPremise, Premises}
 use Rattle.flic.proofs.Promises.{by-length, Tabled, refused-table, wrong-promises}
 use Rattle.flic.proofs.Follows.{hostState, Good, own-length, requested, taken, played, follows}
-use Rattle.flic.proofs.Claim.{Fresh, fresh-good, machine, Moved, good₁, good-second}
+use Rattle.flic.specs.Claim.{Fresh, machine, Moved}
+use Rattle.flic.proofs.Claim.{fresh-good, good₁, good-second}
 use Rattle.flic.proofs.Represent.{keep, Represents, represent}
+use Rattle.answers.specs.Answers.{answered}
 
 -- ---- every contract has an answer
 module _ (c : Controller) (d : Device) (t : List Place) where
@@ -36,7 +39,7 @@ module _ (c : Controller) (d : Device) (t : List Place) where
 
   -- a refused call: everything stays
   stays : (ask : Ask) (b : List ℕ) (code : ℕ) → (length t ≡ paperLimits .places → Valid c d t) → outcome paperLimits s ask (length t) b ≡ refuse code
-      → Requested ask c c d d t t b b (record { code = code; count = 0 })
+      → Requested ask c c d d t t b b (answered code 0)
   unfolding step result
   stays ask b code v e = record { steps = ap (result paperLimits s b) e; kept = λ n. (refl, refl, refl, refl); valid = v }
 
@@ -61,7 +64,7 @@ module _ (c : Controller) (d : Device) (t : List Place) where
 
   module _ (v : length t ≡ paperLimits .places → Valid c d t) where
     -- a call with a wrong table is refused
-    wrong : (ask : Ask) → Tabled ask → (b : List ℕ) → (length t ≡ paperLimits .places → ⊥) → Requested ask c c d d t t b b (record { code = 14; count = 0 })
+    wrong : (ask : Ask) → Tabled ask → (b : List ℕ) → (length t ≡ paperLimits .places → ⊥) → Requested ask c c d d t t b b (answered 14 0)
     wrong ask tabled b w = wrong-promises c d t b w ask tabled
 
     -- the next state of an accepted call is that of a host
@@ -73,25 +76,25 @@ module _ (c : Controller) (d : Device) (t : List Place) where
 
     accepts : (ask : Ask) (b : List ℕ) (count : ℕ) (next : State) (written : List ℕ) (k : Represents next) → written ≡ []
         → outcome paperLimits s ask (length t) b ≡ accept count next written
-        → Steps ask c (k .host .ctl) d (k .host .dev) t (k .host .tab) b b (record { code = 0; count = count })
+        → Steps ask c (k .host .ctl) d (k .host .dev) t (k .host .tab) b b (answered 0 count)
     unfolding step result
     accepts ask b count next written k w f =
         ap (result paperLimits s b) f
-        ∙ (λ i. record { code = 0; count = count; next = (sym (k .state)) i; buffer = ap (λ (l : List ℕ). l ++ drop (length l) b) w i })
+        ∙ (λ i. tell 0 count ((sym (k .state)) i) (ap (λ (l : List ℕ). l ++ drop (length l) b) w i))
 
     pub get-to : (ask : Ask) (b : List ℕ) → Gets s (outcome paperLimits s ask (length t) b) → GetTo ask b
     unfolding step result
     get-to ask b h = go (outcome paperLimits s ask (length t) b) refl h
       where
         go : (o : Outcome) → outcome paperLimits s ask (length t) b ≡ o → Gets s o → GetTo ask b
-        go (refuse code) e g = record { b′ = b; r = record { code = code; count = 0 }; said = stays ask b code v e }
+        go (refuse code) e g = record { b′ = b; r = answered code 0; said = stays ask b code v e }
         go (accept count next written) e g =
             record {
               b′ = written ++ drop (length written) b;
-              r = record { code = 0; count = count };
+              r = answered 0 count;
               said =
                   record {
-                    steps = ap (result paperLimits s b) e ∙ (λ i. record { code = 0; count = count; next = g .0 i; buffer = written ++ drop (length written) b });
+                    steps = ap (result paperLimits s b) e ∙ (λ i. tell 0 count (g .0 i) (written ++ drop (length written) b));
                     kept = λ n. absurd (n refl);
                     valid = v;
                   };
@@ -102,17 +105,17 @@ module _ (c : Controller) (d : Device) (t : List Place) where
     set-to group attr b =
         by-length (length t)
         (λ n. go n (outcome paperLimits s (setAttr group attr) (length t) b) refl (set-shape paperLimits s group attr (length t) b))
-        (λ w. record { c′ = c; d′ = d; t′ = t; r = record { code = 14; count = 0 }; said = wrong (setAttr group attr) tt b w })
+        (λ w. record { c′ = c; d′ = d; t′ = t; r = answered 14 0; said = wrong (setAttr group attr) tt b w })
       where
         go : length t ≡ paperLimits .places → (o : Outcome) → outcome paperLimits s (setAttr group attr) (length t) b ≡ o → Sets o → SetTo group attr b
-        go n (refuse code) e g = record { c′ = c; d′ = d; t′ = t; r = record { code = code; count = 0 }; said = stays (setAttr group attr) b code v e }
+        go n (refuse code) e g = record { c′ = c; d′ = d; t′ = t; r = answered code 0; said = stays (setAttr group attr) b code v e }
         go n (accept count next written) e g =
             let k = next-host (setAttr group attr) b count next written n e in
             record {
               c′ = k .host .ctl;
               d′ = k .host .dev;
               t′ = k .host .tab;
-              r = record { code = 0; count = count };
+              r = answered 0 count;
               said = record { steps = accepts (setAttr group attr) b count next written k (g .1) e; kept = λ n. absurd (n refl); valid = λ n. k .good };
             }
         go n (reset code place) e g = absurd g
@@ -130,7 +133,7 @@ module _ (c : Controller) (d : Device) (t : List Place) where
               c′ = c;
               d′ = d;
               t′ = t;
-              r = record { code = code; count = 0 };
+              r = answered code 0;
               said = record { steps = ap (result paperLimits s b) e; kept = λ _ _. (refl, refl, refl); valid = v };
             }
 
@@ -142,7 +145,7 @@ module _ (c : Controller) (d : Device) (t : List Place) where
               c′ = k .host .ctl;
               d′ = k .host .dev;
               t′ = k .host .tab;
-              r = record { code = 0; count = count };
+              r = answered 0 count;
               said = record { steps = accepts playList b count next written k (g .1) e; kept = λ code f. absurd (true≢false (let z : true ≡ false = cc in z)); valid = λ n. k .good };
             }
         go n (reset code place) e g =
@@ -151,10 +154,10 @@ module _ (c : Controller) (d : Device) (t : List Place) where
               c′ = k .host .ctl;
               d′ = k .host .dev;
               t′ = k .host .tab;
-              r = record { code = code; count = place };
+              r = answered code place;
               said =
                   record {
-                    steps = ap (result paperLimits s b) e ∙ (λ i. record { code = code; count = place; next = (sym (k .state)) i; buffer = b });
+                    steps = ap (result paperLimits s b) e ∙ (λ i. tell code place ((sym (k .state)) i) b);
                     kept = λ code f. absurd (true≢false (let z : true ≡ false = cc in z));
                     valid = λ n. k .good;
                   };
@@ -182,7 +185,7 @@ take-to h g subclasses external mcheck b = short (leb recordBytes (length b)) re
         record {
           c′ = h .ctl;
           b′ = b;
-          r = record { code = 0; count = 0 };
+          r = answered 0 0;
           said =
               record {
                 steps = λ d t. ap (result paperLimits (stateOf (h .ctl) d t) b) (passes _ _ _ f ∙ ap (handsOut (stateOf (h .ctl) d t)) e);
@@ -197,16 +200,11 @@ take-to h g subclasses external mcheck b = short (leb recordBytes (length b)) re
         record {
           c′ = k .ctl;
           b′ = x .given ++ drop (length (x .given)) b;
-          r = record { code = 0; count = 1 };
+          r = answered 0 1;
           said =
               record {
                 steps = λ d t. ap (result paperLimits (stateOf (h .ctl) d t) b) (passes _ _ _ f ∙ ap (handsOut (stateOf (h .ctl) d t)) e)
-                    ∙ (λ i. record {
-                      code = 0;
-                      count = 1;
-                      next = record { ais = (sym (k .same-ais)) i; adapters = map placeOf t; pending = (sym (k .pending)) i; device = deviceOf d };
-                      buffer = x .given ++ drop (length (x .given)) b;
-                    });
+                    ∙ (λ i. tell 0 1 (record { ais = (sym (k .same-ais)) i; adapters = map placeOf t; pending = (sym (k .pending)) i; device = deviceOf d }) (x .given ++ drop (length (x .given)) b));
                 kept = λ n. absurd (n refl);
                 ready = k .ready;
               };
@@ -218,7 +216,7 @@ take-to h g subclasses external mcheck b = short (leb recordBytes (length b)) re
         record {
           c′ = h .ctl;
           b′ = b;
-          r = record { code = 14; count = 0 };
+          r = answered 14 0;
           said = record { steps = λ d t. ap (result paperLimits (stateOf (h .ctl) d t) b) (fails _ _ _ f); kept = λ n. (refl, refl); ready = g .ready };
         }
 
@@ -289,17 +287,6 @@ runs [] h g = record { seen = []; last = h; ran = end }
 runs (c ∷ cs) h g = one-more cs (runs cs) h g (c .ask) (c .buffer) (c .tableLength)
 
 -- ---- every call of a chain meets its function's premise
-abbrev pub LentPremise : Host → List Place → Type 0
-LentPremise h t = Premise (h .ctl) (h .dev) t
-
-abbrev pub Premises : {h e : Host} {cs : List Call} {ss : List Seen} → Ran h cs ss e → Type 0
-Premises end = Unit {0}
-Premises (set {h} group attr b c′ d′ t t′ u r l f rest) = LentPremise h t × Premises rest
-Premises (get {h} group attr b b′ t u r l f rest) = LentPremise h t × Premises rest
-Premises (take {h} subclasses external mcheck b b′ c′ n r f rest) = Ready (h .ctl) × Premises rest
-Premises (write {h} b b′ t u r l f rest) = LentPremise h t × Premises rest
-Premises (play {h} b c′ d′ t t′ u r l f rest) = LentPremise h t × Premises rest
-
 lent-premise : {h : Host} → Good h → {t t′ u : List Place} → Lends (h .tab) t t′ u → LentPremise h t
 lent-premise {h} g (its-own e) n = subst (λ (x : List Place). Valid (h .ctl) (h .dev) x) (sym e) g
 lent-premise g (another w) n = absurd (w n)
@@ -328,7 +315,7 @@ make-to ais = record {
     dev = k .host .dev;
     tab = k .host .tab;
     right = n;
-    answer = record { code = 0; count = 0 };
+    answer = answered 0 0;
     made = record { right = λ e. (refl, k .state, k .good); wrong = λ w. absurd (w n) };
   };
 }

@@ -22,11 +22,11 @@ use denote.Triple.Entry.{Args, Res}
 use denote.Triple.Clauses.{Ended, AtExit, Clauses}
 use Rattle.rules.specs.Bytes.{choose}
 use Rattle.rules.specs.State.{State, paperLimits, free, fresh}
-use Rattle.rules.specs.Outcome.{Outcome, refuse, accept, reset, result}
+use Rattle.rules.specs.Outcome.{Outcome, refuse, accept, reset, result, tell}
 use Rattle.rules.specs.Outcome.{Answer as Told}
 use Rattle.rules.specs.Machine.{Ask, setAttr, getAttr, guestTake, writeList, playList, outcome, step}
-use Rattle.rules.proofs.Lists.{All}
-use Rattle.rules.proofs.Outcomes.{Plays, plays-fresh, Answered, answered}
+use Rattle.rules.specs.Invariant.{All}
+use Rattle.rules.proofs.Outcomes.{Plays, plays-fresh, Answered, every-answer}
 use Rattle.answers.specs.declared.Answer.{Answer}
 use Rattle.adapters.specs.declared.Device.{Device}
 use Rattle.adapters.specs.declared.Place.{Place}
@@ -43,16 +43,17 @@ use Rattle.flic.proofs.flic_get as flic-get
 use Rattle.flic.proofs.flic_take as flic-take
 use Rattle.flic.proofs.flic_write_list as flic-write
 use Rattle.flic.proofs.flic_play_list as flic-play
+use Rattle.answers.specs.Answers.{answered}
 
 -- ---- from the machine's step
 module _ (ask : Ask) (c c′ : Controller) (d d′ : Device) (t t′ : List Place) (b b′ : List ℕ) (r : Answer)
     (f : Steps ask c c′ d d′ t t′ b b′ r) where
   abbrev left : Told
-  left = record { code = r .code; count = r .count; next = stateOf c′ d′ t′; buffer = b′ }
+  left = tell (r .code) (r .count) (stateOf c′ d′ t′) b′
 
   -- what holds of every answer of the machine
   says : Answered ask (stateOf c d t) left
-  says = subst (Answered ask (stateOf c d t)) f (answered paperLimits (stateOf c d t) (asked ask b (length t)))
+  says = subst (Answered ask (stateOf c d t)) f (every-answer paperLimits (stateOf c d t) (asked ask b (length t)))
 
   same-ais : c′ .ais ≡ c .ais
   unfolding stateOf
@@ -66,14 +67,14 @@ module _ (ask : Ask) (c c′ : Controller) (d d′ : Device) (t t′ : List Plac
 
   answer-is : (code count : ℕ) (o : Outcome) → outcome paperLimits (stateOf c d t) ask (length t) b ≡ o
       → result paperLimits (stateOf c d t) b o .code ≡ code → result paperLimits (stateOf c d t) b o .count ≡ count
-      → r ≡ record { code = code; count = count }
+      → r ≡ answered code count
   answer-is code count o e p q =
       λ i. record {
         code = (ap (λ (a : Told). a .code) (by-outcome o e) ∙ p) i;
         count = (ap (λ (a : Told). a .count) (by-outcome o e) ∙ q) i;
       }
 
-  wrong-answer : Tabled ask → (length t ≡ paperLimits .places → ⊥) → r ≡ record { code = 14; count = 0 }
+  wrong-answer : Tabled ask → (length t ≡ paperLimits .places → ⊥) → r ≡ answered 14 0
   unfolding result
   wrong-answer tabled w = answer-is 14 0 (refuse 14) (refused-table (stateOf c d t) ask (length t) b tabled w) refl refl
 
@@ -154,7 +155,7 @@ module _ (c c′ : Controller) (d d′ : Device) (t t′ : List Place) (b : List
   -- the answer and the next state, from that outcome
   answers : (code count : ℕ) (o : Outcome) → outcome paperLimits (stateOf c d t) playList (length t) b ≡ o
       → result paperLimits (stateOf c d t) b o .code ≡ code → result paperLimits (stateOf c d t) b o .count ≡ count
-      → r ≡ record { code = code; count = count }
+      → r ≡ answered code count
   answers = answer-is playList c c′ d d′ t t′ b b r (f .steps)
 
   becomes : (o : Outcome) → outcome paperLimits (stateOf c d t) playList (length t) b ≡ o

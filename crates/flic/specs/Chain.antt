@@ -10,7 +10,7 @@ use Rattle.answers.specs.declared.Answer.{Answer}
 use Rattle.adapters.specs.declared.Device.{Device}
 use Rattle.adapters.specs.declared.Place.{Place}
 use Rattle.controller.specs.declared.Controller.{Controller}
-use Rattle.flic.specs.Surface.{Requested, Taken, Played}
+use Rattle.flic.specs.Surface.{Ready, Premise, Requested, Taken, Played}
 
 -- A controller with its device record and its own table, as the calls before returned or left them.
 pub record Host : Type 0 where
@@ -49,3 +49,15 @@ pub data Ran : Host → List Call → List Seen → Host → Type 0 where
   play : {h e : Host} {cs : List Call} {ss : List Seen} (b : List ℕ) (c′ : Controller) (d′ : Device) (t t′ u : List Place) (r : Answer)
       → Lends (h .tab) t t′ u → Played (h .ctl) c′ (h .dev) d′ t t′ b r
       → Ran (record { ctl = c′; dev = d′; tab = u }) cs ss e → Ran h (asked playList b (length t) ∷ cs) (saw r b ∷ ss) e
+
+-- The premise of each call of a chain, at the host and the table that it is lent.
+abbrev pub LentPremise : Host → List Place → Type 0
+LentPremise h t = Premise (h .ctl) (h .dev) t
+
+abbrev pub Premises : {h e : Host} {cs : List Call} {ss : List Seen} → Ran h cs ss e → Type 0
+Premises end = Unit {0}
+Premises (set {h} group attr b c′ d′ t t′ u r l f rest) = LentPremise h t × Premises rest
+Premises (get {h} group attr b b′ t u r l f rest) = LentPremise h t × Premises rest
+Premises (take {h} subclasses external mcheck b b′ c′ n r f rest) = Ready (h .ctl) × Premises rest
+Premises (write {h} b b′ t u r l f rest) = LentPremise h t × Premises rest
+Premises (play {h} b c′ d′ t t′ u r l f rest) = LentPremise h t × Premises rest

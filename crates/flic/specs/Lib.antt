@@ -1,3 +1,4 @@
 pub mod Surface
 pub mod Chain
+pub mod Claim
 pub mod Safety

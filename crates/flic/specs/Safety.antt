@@ -16,6 +16,7 @@ use Rattle.adapters.specs.declared.Place.{Place}
 use Rattle.adapters.specs.Values.{unused}
 use Rattle.records.specs.Memory.{pendingOf}
 use Rattle.controller.specs.declared.Controller.{Controller}
+use Rattle.answers.specs.Answers.{answered}
 
 -- 01, 'Codes and the order of checks': the code is 0 or one of the six.
 abbrev pub Coded : Answer → Type 0
@@ -30,7 +31,7 @@ pub record SafeRequest (c c′ : Controller) (d d′ : Device) (t t′ : List Pl
   pub refused : (r .code ≡ 0 → ⊥) → (r .count ≡ 0) × (c′ ≡ c) × (d′ ≡ d) × (t′ ≡ t) × (b′ ≡ b)
   -- with a table not of 64 places: 14, and everything stays
   pub wrong-table : (length t ≡ paperLimits .places → ⊥)
-      → (r ≡ record { code = 14; count = 0 }) × (c′ ≡ c) × (d′ ≡ d) × (t′ ≡ t) × (b′ ≡ b)
+      → (r ≡ answered 14 0) × (c′ ≡ c) × (d′ ≡ d) × (t′ ≡ t) × (b′ ≡ b)
   -- accepted, or refused with one of the six
   pub code : Coded r
   pub capability : c′ .ais ≡ c .ais
@@ -55,23 +56,23 @@ playing c b = plays paperLimits (fresh paperLimits (c .ais)) b
 -- `flic_play_list`. The list's bytes are borrowed shared.
 pub record SafePlay (c c′ : Controller) (d d′ : Device) (t t′ : List Place) (b : List ℕ) (r : Answer) : Type 0 where
   pub wrong-table : (length t ≡ paperLimits .places → ⊥)
-      → (r ≡ record { code = 14; count = 0 }) × (c′ ≡ c) × (d′ ≡ d) × (t′ ≡ t)
+      → (r ≡ answered 14 0) × (c′ ≡ c) × (d′ ≡ d) × (t′ ≡ t)
   -- a list refused before a request is applied: its code, count 0, and everything stays
   pub refused : length t ≡ paperLimits .places → (code : ℕ) → playing c b ≡ refuse code
-      → (r ≡ record { code = code; count = 0 }) × (c′ ≡ c) × (d′ ≡ d) × (t′ ≡ t)
+      → (r ≡ answered code 0) × (c′ ≡ c) × (d′ ≡ d) × (t′ ≡ t)
   -- a list refused part-way: the refused request's code, its place from 0 as count, and everything but the capability
   -- is fresh
   pub part-way : length t ≡ paperLimits .places → (code place : ℕ) → playing c b ≡ reset code place
-      → (r ≡ record { code = code; count = place }) × IsFresh c′ d′ t′
+      → (r ≡ answered code place) × IsFresh c′ d′ t′
   -- a list played to its end is not refused
   pub played : length t ≡ paperLimits .places → (count : ℕ) (next : State) (written : List ℕ)
-      → playing c b ≡ accept count next written → r ≡ record { code = 0; count = count }
+      → playing c b ≡ accept count next written → r ≡ answered 0 count
   pub code : Coded r
   pub capability : c′ .ais ≡ c .ais
 
 -- `flic_make`: accepted exactly with a table of 64 places; else 14, and everything stays
 pub record SafeMake (c c′ : Controller) (d d′ : Device) (t t′ : List Place) (r : Answer) : Type 0 where
-  pub accepted : length t ≡ paperLimits .places → r ≡ record { code = 0; count = 0 }
+  pub accepted : length t ≡ paperLimits .places → r ≡ answered 0 0
   pub wrong-table : (length t ≡ paperLimits .places → ⊥)
-      → (r ≡ record { code = 14; count = 0 }) × (c′ ≡ c) × (d′ ≡ d) × (t′ ≡ t)
+      → (r ≡ answered 14 0) × (c′ ≡ c) × (d′ ≡ d) × (t′ ≡ t)
   pub code : Coded r

@@ -5,10 +5,9 @@ use mathlib.Core.Bool.{Bool}
 use mathlib.Core.List.{List, map}
 use lib.ListN.{length}
 use Rattle.rules.specs.State.{State, paperLimits, fresh}
-use Rattle.rules.specs.Outcome.{refuse}
+use Rattle.rules.specs.Outcome.{refuse, tell}
 use Rattle.rules.specs.Machine.{Ask, guestTake, playList, outcome, step}
-use Rattle.rules.proofs.Lists.{All}
-use Rattle.rules.proofs.Reachable.{Sound}
+use Rattle.rules.specs.Invariant.{All, Sound}
 use Rattle.answers.specs.declared.Answer.{Answer}
 use Rattle.adapters.specs.declared.Device.{Device}
 use Rattle.adapters.specs.declared.Place.{Place}
@@ -16,6 +15,7 @@ use Rattle.adapters.specs.Values.{placeOf, deviceOf, Canonical}
 use Rattle.queues.specs.Queues.{Held}
 use Rattle.records.specs.Memory.{pendingOf}
 use Rattle.controller.specs.declared.Controller.{Controller}
+use Rattle.answers.specs.Answers.{answered}
 
 -- 01, 'What it holds': the plain machine's state.
 unfoldable pub stateOf : Controller → Device → List Place → State
@@ -48,7 +48,7 @@ Premise c d t = length t ≡ paperLimits .places → Valid c d t
 abbrev pub Steps : Ask → (c c′ : Controller) (d d′ : Device) (t t′ : List Place) (b b′ : List ℕ) → Answer → Type 0
 Steps ask c c′ d d′ t t′ b b′ r =
     step paperLimits (stateOf c d t) (record { ask = ask; buffer = b; tableLength = length t })
-    ≡ record { code = r .code; count = r .count; next = stateOf c′ d′ t′; buffer = b′ }
+    ≡ tell (r .code) (r .count) (stateOf c′ d′ t′) b′
 
 -- What a request promises of the controller, the device record, the table, the buffer before and after it, and its answer. A refusal leaves each
 -- lent value equal, not only what it stands for.
@@ -65,8 +65,8 @@ pub record Taken (subclasses : ℕ) (external mcheck : Bool) (c c′ : Controlle
 
 -- What making a fresh controller promises: with the right table it is the fresh one of that capability; with another, 14, and everything stays.
 pub record Made (ais : Bool) (c c′ : Controller) (d d′ : Device) (t t′ : List Place) (r : Answer) : Type 0 where
-  pub right : length t ≡ paperLimits .places → (r ≡ record { code = 0; count = 0 }) × (stateOf c′ d′ t′ ≡ fresh paperLimits ais) × Valid c′ d′ t′
-  pub wrong : (length t ≡ paperLimits .places → ⊥) → (r ≡ record { code = 14; count = 0 }) × (c′ ≡ c) × (d′ ≡ d) × (t′ ≡ t)
+  pub right : length t ≡ paperLimits .places → (r ≡ answered 0 0) × (stateOf c′ d′ t′ ≡ fresh paperLimits ais) × Valid c′ d′ t′
+  pub wrong : (length t ≡ paperLimits .places → ⊥) → (r ≡ answered 14 0) × (c′ ≡ c) × (d′ ≡ d) × (t′ ≡ t)
 
 -- What playing a move list promises. A refusal of form leaves each lent value equal; one part-way leaves a fresh controller, by the machine's step.
 pub record Played (c c′ : Controller) (d d′ : Device) (t t′ : List Place) (b : List ℕ) (r : Answer) : Type 0 where

@@ -8,7 +8,7 @@ use borrow.Author.Tests.{lt-ltb, le-ltb, eq-eqb, ne-eqb}
 use lib.Dec.{eqb, ltb}
 use Rattle.rules.specs.Bytes.{choose}
 use Rattle.rules.specs.MoveList.{oneIf}
-use Rattle.rules.proofs.Lists.{All}
+use Rattle.rules.specs.Invariant.{All}
 use Rattle.rules.proofs.Decode.{flag-le}
 use Rattle.adapters.specs.declared.Place.{Place}
 use Rattle.adapters.specs.Values.{unused, Canonical}

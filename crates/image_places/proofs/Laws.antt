@@ -7,7 +7,8 @@ use lib.ListN.{getD, set, take, replicate, length-take, List·getD-map, List·ge
 use lib.Seq.{set-out, take-set-lt, getD-take}
 use Rattle.rules.specs.Bytes.{choose}
 use Rattle.rules.specs.State as rules
-use Rattle.rules.proofs.Lists.{All, all-set, all-get, all-replicate}
+use Rattle.rules.specs.Invariant.{All}
+use Rattle.rules.proofs.Lists.{all-set, all-get, all-replicate}
 use Rattle.adapters.specs.declared.Place.{Place}
 use Rattle.adapters.specs.Values.{placeOf, unused, Canonical}
 use Rattle.image.specs.Image.{packed, unpacked}

@@ -11,15 +11,16 @@ use Rattle.answers.proofs.refuse.Symbol.{name as #refuse}
 use Rattle.answers.proofs.accept as accept
 use Rattle.answers.proofs.accept.Symbol.{name as #accept}
 use Rattle.table.proofs.Gives.{gives}
+use Rattle.answers.specs.Answers.{answered}
 
 abbrev pub FitsAnswer : Answer → Type 0
 FitsAnswer r = Is An.the-row r (An′.lowered r ∷ [])
 
 abbrev pub refused : ℕ → Answer
-refused code = record { code = code; count = 0 }
+refused code = answered code 0
 
 abbrev pub accepted : ℕ → Answer
-accepted count = record { code = 0; count = count }
+accepted count = answered 0 count
 
 module _ {M : Type 1} (𝓤 : URA M) (H : Heap 𝓤) (A : Atoms 𝓤) (mem′ : Memory → SProp 𝓤) (run : Routine → Fun 𝓤) where
   abbrev pub Refuse : Contract 𝓤

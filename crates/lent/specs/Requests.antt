@@ -7,7 +7,7 @@ use lib.ListN.{length}
 use Rattle.rules.specs.State.{Limits, State, withDevice}
 use Rattle.rules.specs.State as rules
 use Rattle.rules.specs.Requests.{setRequest, request}
-use Rattle.rules.proofs.Lists.{All}
+use Rattle.rules.specs.Invariant.{All}
 use Rattle.answers.specs.declared.Answer.{Answer}
 use Rattle.answers.specs.Answers.{Answers}
 use Rattle.adapters.specs.declared.Device.{Device}

@@ -17,7 +17,7 @@ use Rattle.rules.specs.Requests.{isZero, isFor, withoutFirst, request, clearIoI
 use Rattle.rules.specs.Take.{firstAllowed, orElse, handMchk, handService, handDone, handIo, handed, handsOut, takes}
 use Rattle.rules.proofs.Checks.{passes, fails}
 use Rattle.rules.proofs.Lists.{flatten-append}
-use Rattle.answers.specs.Answers.{Answers}
+use Rattle.answers.specs.Answers.{Answers, answered}
 use Rattle.answers.proofs.Laws.{same-state, accepted}
 use Rattle.answers.specs.declared.Answer.{Answer}
 use Rattle.slots.specs.Slots.{removeAt}
@@ -313,12 +313,12 @@ module _ (o c b g : List ℕ) (m : ℕ) (e k : Bool) where
 -- from what is handed out to the answer
 module _ (L : Limits) (s : State) (p : Pending) (m : ℕ) (e k : Bool) (b : List ℕ) (a : Answer) (x : s .pending ≡ p) (h : 72 ≤ length b) where
   pub hands : (d r : List ℕ) (q : Pending) → length r ≡ 72 → handed p m e k ≡ some (record { given = r; left = q })
-      → (a ≡ record { code = 0; count = 1 }) × (d ≡ r ++ drop 72 b) → Answers L s b (takes s m e k b) a (withPending q s) d
+      → (a ≡ answered 0 1) × (d ≡ r ++ drop 72 b) → Answers L s b (takes s m e k b) a (withPending q s) d
   unfolding takes handsOut
   hands d r q l f w =
       accepted L s b _ a 1 (withPending q s) r d (passes _ _ _ (le-leb 72 (length b) h) ∙ rw (x, f)) (w .0) (rw l (w .1))
 
-  pub hands-none : handed p m e k ≡ none → a ≡ record { code = 0; count = 0 } → Answers L s b (takes s m e k b) a (withPending p s) b
+  pub hands-none : handed p m e k ≡ none → a ≡ answered 0 0 → Answers L s b (takes s m e k b) a (withPending p s) b
   unfolding takes handsOut
   hands-none f w =
       accepted L s b _ a 0 (withPending p s) [] b (passes _ _ _ (le-leb 72 (length b) h) ∙ rw (x, f)) w refl

@@ -11,7 +11,7 @@ ghost use Rattle.rules.specs.Take.{takes};
 ghost use Rattle.slots.specs.Slots.{slotCount, removeAt};
 ghost use Rattle.queues.specs.Queues.{sum, queues, withoutAt, InQueue, Held};
 ghost use Rattle.singles.specs.Singles.{serviceOf, mchkOf};
-ghost use Rattle.answers.specs.Answers.{Answers};
+ghost use Rattle.answers.specs.Answers.{Answers, answered};
 ghost use Rattle.records.specs.Memory.{pendingOf};
 use answers::Answer;
 use answers::EFAULT;
@@ -152,7 +152,7 @@ pub fn clear_io(
 // Writes a record to the buffer's start.
 fn hand(out: &mut [u8], r: [u8; 72]) -> Answer
     requires { ⌜ 72 ≤ length (now out) ⌝ }
-    ensures { λ a. ⌜ (a ≡ record { code = 0; count = 1 }) × (now (out .exit) ≡ r ++ drop 72 (now (out .entry))) ⌝ }
+    ensures { λ a. ⌜ (a ≡ answered 0 1) × (now (out .exit) ≡ r ++ drop 72 (now (out .entry))) ⌝ }
 {
     words::save(out, 0, r);
     answers::accept(1) // one record

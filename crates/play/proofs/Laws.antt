@@ -12,13 +12,13 @@ use borrow.Author.Tests.{eq-eqb, ne-eqb}
 use Rattle.rules.specs.Bytes.{choose, part}
 use Rattle.rules.specs.State as rules
 use Rattle.rules.specs.State.{Limits, Pending, State, nothing, fresh}
-use Rattle.rules.specs.Outcome.{Outcome, refuse, accept, reset, result}
+use Rattle.rules.specs.Outcome.{Outcome, refuse, accept, reset, result, tell}
 use Rattle.rules.specs.Outcome as told
 use Rattle.rules.specs.Requests.{setRequest, request}
 use Rattle.rules.specs.MoveList.{ListRequest, TableEntry, onward, applies, requestsIn, plays}
 use Rattle.rules.proofs.Checks.{chosen, passed}
 use Rattle.answers.specs.declared.Answer.{Answer}
-use Rattle.answers.specs.Answers.{Answers}
+use Rattle.answers.specs.Answers.{Answers, answered}
 use Rattle.adapters.specs.declared.Device.{Device}
 use Rattle.adapters.specs.declared.Place.{Place}
 use Rattle.adapters.specs.Values.{placeOf, deviceOf}
@@ -41,12 +41,7 @@ pub as-state : (places room : ℕ) (ais : Bool) (device : Device) (place : Place
     (stateOf ais places image′ p₁ d) b
 as-state places room ais device place id image image′ b o p₀ p₁ r a d h ea ed f g =
     h (limitsOf places room) (stateOf ais places image p₀ device) refl refl refl refl refl (sym f)
-    ∙ (λ i. record {
-      code = (sym ea) i .code;
-      count = (sym ea) i .count;
-      next = record { ais = ais; adapters = (sym g) i; pending = p₁; device = deviceOf ((sym ed) i) };
-      buffer = b;
-    })
+    ∙ (λ i. tell ((sym ea) i .code) ((sym ea) i .count) (record { ais = ais; adapters = (sym g) i; pending = p₁; device = deviceOf ((sym ed) i) }) b)
 
 -- the request of a table entry, by the numbers that were read of it
 pub as-slot : (L : Limits) (s t : State) (b : List ℕ) (e : TableEntry) (a : Answer) (at size group attr : ℕ) → at ≡ e .at → size ≡ e .size → group ≡ e .group
@@ -140,7 +135,7 @@ fresh-is places room ais device p h e d =
     }
 
 -- ---- the answer of a played list
-pub not-played : (L : Limits) (s t : State) (b : List ℕ) (code : ℕ) (a : Answer) → plays L s b ≡ refuse code → a ≡ record { code = code; count = 0 }
+pub not-played : (L : Limits) (s t : State) (b : List ℕ) (code : ℕ) (a : Answer) → plays L s b ≡ refuse code → a ≡ answered code 0
     → Answers L s b (plays L s b) a (choose (eqb 0 0) s t) b
 unfolding result choose
 not-played L s t b code a p e = ap (result L s b) p ∙ rw e
@@ -159,15 +154,10 @@ module _ (places room : ℕ) (ais : Bool) (b : List ℕ) (es : List ListRequest)
   pub played-all : a .code ≡ 0 → Answers L s b (plays L s b) a (choose (eqb places 0) s next) b
   unfolding result
   played-all z =
-      ap (result L s b) (comes-to ∙ ran-all a next z) ∙ (λ i. record { code = sym z i; count = a .count; next = restored-is next i; buffer = b })
+      ap (result L s b) (comes-to ∙ ran-all a next z) ∙ (λ i. tell (sym z i) (a .count) (restored-is next i) b)
 
   pub played-part : (t : State) → fresh (limitsOf places room) ais ≡ t → (a .code ≡ 0 → ⊥) → Answers L s b (plays L s b) a (choose (eqb places 0) s t) b
   unfolding result
   played-part t g n =
       ap (result L s b) (comes-to ∙ ran-part a next n)
-      ∙ (λ i. record {
-        code = a .code;
-        count = a .count;
-        next = ((λ j. let K : Limits = record { places = e1 j; room = e2 j } in fresh K (e3 j)) ∙ g ∙ restored-is t) i;
-        buffer = b;
-      })
+      ∙ (λ i. tell (a .code) (a .count) (((λ j. let K : Limits = record { places = e1 j; room = e2 j } in fresh K (e3 j)) ∙ g ∙ restored-is t) i) b)

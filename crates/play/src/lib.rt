@@ -9,7 +9,7 @@ ghost use Rattle.rules.specs.State.{Limits, State};
 ghost use Rattle.rules.specs.Outcome.{refuse};
 ghost use Rattle.rules.specs.Requests.{setRequest, request};
 ghost use Rattle.rules.specs.MoveList.{countIn, movable, requestsIn, applies, plays};
-ghost use Rattle.answers.specs.Answers.{Answers};
+ghost use Rattle.answers.specs.Answers.{Answers, answered};
 ghost use Rattle.queues.specs.Queues.{Held};
 ghost use Rattle.records.specs.Memory.{pendingOf};
 ghost use Rattle.adapters.specs.Values.{deviceOf};
@@ -170,7 +170,7 @@ pub struct Played {
 
 // A refusal of form: nothing has changed.
 fn not_played(code: u32) -> Played
-    ensures { λ r. ⌜ r ≡ record { answer = record { code = code; count = 0 }; device = record { simm = 0; nimm = 0; apf = false }; restored = 0; image = replicate imageSize 0 } ⌝ }
+    ensures { λ r. ⌜ r ≡ record { answer = answered code 0; device = record { simm = 0; nimm = 0; apf = false }; restored = 0; image = replicate imageSize 0 } ⌝ }
 {
     let answer = answers::refuse(code);
     let image = image::empty();

@@ -10,7 +10,7 @@ use lib.ListN.{length, take, drop, getD, set, replicate, length-drop, length-app
 use lib.Seq.{take-all, take-length, take-suc, append-snoc, length-take-le, take-at, drop-at, drop-drop, take-append-add, drop-append-add, take-append-le, drop-append-le, getD-append-add, paste}
 use Rattle.rules.specs.Bytes.{choose}
 use Rattle.rules.specs.State.{Record}
-use Rattle.rules.proofs.Lists.{All, flatten-append}
+use Rattle.rules.proofs.Lists.{flatten-append}
 use Rattle.slots.specs.Slots.{slotCount, insertAt, removeAt, listed, Apart}
 use Rattle.slots.proofs.Laws.{length-removeAt, length-listed}
 use Rattle.queues.specs.Queues.{sum, cut, queues, withoutAt, InQueue, Held}

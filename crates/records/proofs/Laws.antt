@@ -25,7 +25,7 @@ use Rattle.queues.proofs.Laws.{length-queues, length-flatten-queues}
 use Rattle.singles.specs.Singles.{serviceOf, mchkOf}
 use Rattle.words.specs.declared.Subclass.{Subclass}
 use Rattle.answers.specs.declared.Answer.{Answer}
-use Rattle.answers.specs.Answers.{Answers}
+use Rattle.answers.specs.Answers.{Answers, answered}
 use Rattle.answers.proofs.Laws.{refused, accepted}
 use Rattle.records.specs.declared.Kind.{Kind}
 use Rattle.records.specs.declared.Kind.the-variants.{Io, Done, Service, MachineCheck, Other}
@@ -143,44 +143,44 @@ check-bad (r ∷ rs) place n j e =
 -- what the answer to checked records tells
 module _ (rs : List Record) (n q room : ℕ) (a : Answer) where
   pub answer-good : a ≡ answerTo (checkFrom 0 0 rs) n q room → a .code ≡ 0
-      → (a ≡ record { code = 0; count = n }) × (allAccepted rs ≡ true) × (q + allWant rs ≤ room)
+      → (a ≡ answered 0 n) × (allAccepted rs ≡ true) × (q + allWant rs ≤ room)
   unfolding choose answerTo
   answer-good e h = go (checkFrom 0 0 rs) refl e
     where
       roomy : (w : ℕ) → Good w ≡ checkFrom 0 0 rs → (t : Bool) → leb (q + w) room ≡ t
-          → a ≡ choose t (record { code = 0; count = n }) (record { code = 16; count = 0 })
-          → (a ≡ record { code = 0; count = n }) × (allAccepted rs ≡ true) × (q + allWant rs ≤ room)
+          → a ≡ choose t (answered 0 n) (answered 16 0)
+          → (a ≡ answered 0 n) × (allAccepted rs ≡ true) × (q + allWant rs ≤ room)
       roomy w c true r e =
           let g = check-good rs 0 0 w c in
           (e, g .0, omega (arith, g .1, leb-true (q + w) room r))
       roomy w c false r e = let z : ⊥ = omega (arith, h, ap (λ (x : Answer). x .code) e) in absurd z
 
       go : (x : Checked) → x ≡ checkFrom 0 0 rs → a ≡ answerTo x n q room
-          → (a ≡ record { code = 0; count = n }) × (allAccepted rs ≡ true) × (q + allWant rs ≤ room)
+          → (a ≡ answered 0 n) × (allAccepted rs ≡ true) × (q + allWant rs ≤ room)
       go (Good w) c e = roomy w c (leb (q + w) room) refl e
       go (BadAt j) c e = let z : ⊥ = omega (arith, h, ap (λ (x : Answer). x .code) e) in absurd z
 
   pub answer-bad : a ≡ answerTo (checkFrom 0 0 rs) n q room → (a .code ≡ 0 → ⊥) → (L : Limits) (s : State) → queued (s .pending) ≡ q → L .room ≡ room
-      → (a ≡ record { code = a .code; count = 0 }) × (enqueues L s rs ≡ refuse (a .code))
+      → (a ≡ answered (a .code) 0) × (enqueues L s rs ≡ refuse (a .code))
   unfolding choose answerTo enqueues
   answer-bad e h L s eq er = go (checkFrom 0 0 rs) refl e
     where
-      with-code : (k : ℕ) → a ≡ record { code = k; count = 0 } → enqueues L s rs ≡ refuse k
-          → (a ≡ record { code = a .code; count = 0 }) × (enqueues L s rs ≡ refuse (a .code))
+      with-code : (k : ℕ) → a ≡ answered k 0 → enqueues L s rs ≡ refuse k
+          → (a ≡ answered (a .code) 0) × (enqueues L s rs ≡ refuse (a .code))
       with-code k e f =
           let c : a .code ≡ k = ap (λ (x : Answer). x .code) e in
-          (e ∙ (λ i. record { code = sym c i; count = 0 }), f ∙ ap refuse (sym c))
+          (e ∙ (λ i. answered (sym c i) 0), f ∙ ap refuse (sym c))
 
       full : (w : ℕ) → Good w ≡ checkFrom 0 0 rs → (t : Bool) → leb (q + w) room ≡ t
-          → a ≡ choose t (record { code = 0; count = n }) (record { code = 16; count = 0 })
-          → (a ≡ record { code = a .code; count = 0 }) × (enqueues L s rs ≡ refuse (a .code))
+          → a ≡ choose t (answered 0 n) (answered 16 0)
+          → (a ≡ answered (a .code) 0) × (enqueues L s rs ≡ refuse (a .code))
       full w c true r e = absurd (h (ap (λ (x : Answer). x .code) e))
       full w c false r e =
           let g = check-good rs 0 0 w c in
           with-code 16 e (passes _ _ _ (g .0) ∙ fails _ _ _ (lt-leb _ (L .room) (omega (arith, eq, er, g .1, leb-false (q + w) room r))))
 
       go : (x : Checked) → x ≡ checkFrom 0 0 rs → a ≡ answerTo x n q room
-          → (a ≡ record { code = a .code; count = 0 }) × (enqueues L s rs ≡ refuse (a .code))
+          → (a ≡ answered (a .code) 0) × (enqueues L s rs ≡ refuse (a .code))
       go (Good w) c e = full w c (leb (q + w) room) refl e
       go (BadAt j) c e = with-code 22 e (fails _ _ _ (check-bad rs 0 0 j c))
 

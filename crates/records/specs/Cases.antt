@@ -12,6 +12,7 @@ use Rattle.records.specs.declared.Kind.{Kind}
 use Rattle.records.specs.declared.Kind.the-variants.{Io, Done, Service, MachineCheck, Other}
 use Rattle.records.specs.declared.Checked.{Checked}
 use Rattle.records.specs.declared.Checked.the-variants.{Good, BadAt}
+use Rattle.answers.specs.Answers.{answered}
 
 -- 01, 'What it holds': a record's kind, with the subclass of an I/O record
 unfoldable pub asCase : rules.Kind → ℕ → Kind
@@ -31,6 +32,6 @@ checkFrom place n (r ∷ rs) = choose (kindAccepted (kind r)) (checkFrom (suc pl
 
 -- 01, group 2 and 'Codes and the order of checks': the answer to n checked records, by the types, then by the room
 unfoldable pub answerTo : Checked → (n queued room : ℕ) → Answer
-answerTo (BadAt place) n queued room = record { code = EINVAL; count = 0 }
+answerTo (BadAt place) n queued room = answered EINVAL 0
 answerTo (Good wanted) n queued room =
-    choose (leb (queued + wanted) room) (record { code = 0; count = n }) (record { code = EBUSY; count = 0 })
+    choose (leb (queued + wanted) room) (answered 0 n) (answered EBUSY 0)

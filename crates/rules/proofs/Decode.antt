@@ -11,7 +11,7 @@ use Rattle.rules.specs.Bytes.{bytes, part, field}
 use Rattle.rules.specs.State.{Limits, State, fresh}
 use Rattle.rules.specs.MoveList.{ListRequest, oneIf, headerBytes, tableEntryBytes, payloads, writtenTable, payloadOffset, total, moveList, totalIn, countIn, tableOffsetIn, payloadOffsetIn, aisFlagIn, TableEntry, tableEntryIn, tableEntriesIn, movable, formed, requestsIn, applies, mostRequests, plays}
 use Rattle.rules.proofs.Checks.{passes, both}
-use Rattle.rules.proofs.Lists.{All}
+use Rattle.rules.specs.Invariant.{All}
 use Rattle.rules.proofs.Codec.{length-bytes, field-here, field-past}
 
 -- Four words, a number of w bytes and the rest. The header is such a list with w = 4, a table entry with w = 8.

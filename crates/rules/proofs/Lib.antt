@@ -5,6 +5,7 @@ pub mod Decode
 pub mod Reachable
 pub mod Replay
 pub mod Move
+pub mod Premise
 pub mod Shapes
 pub mod Outcomes
 pub mod Unread

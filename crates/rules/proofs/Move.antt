@@ -15,9 +15,10 @@ use Rattle.rules.specs.MoveList.{ListRequest, oneIf, byRisingId, registe
 use Rattle.rules.specs.Machine.{Call, setAttr, writeList, playList, outcome, step, answers, after}
 use Rattle.rules.proofs.Checks.{passes}
 use Rattle.rules.proofs.Computes.{computes}
-use Rattle.rules.proofs.Lists.{All, all-append}
+use Rattle.rules.specs.Invariant.{All, Whole, Sound}
+use Rattle.rules.proofs.Lists.{all-append}
 use Rattle.rules.proofs.Decode.{Fits, flag-le, length-moveList, count-written, reads-back}
-use Rattle.rules.proofs.Reachable.{Whole, Sound, listing-sendable, listing-length, length-records, reachable, fresh-ais}
+use Rattle.rules.proofs.Reachable.{listing-sendable, listing-length, length-records, reachable, fresh-ais}
 use Rattle.rules.proofs.Replay.{Movable, replays}
 
 -- ---- how long a list is
@@ -130,7 +131,7 @@ module _ (L : Limits) (fits : Movable L) (s : State) (h : Sound L s) where
   unfolding outcome writes
   writes-list b k = passes _ _ _ (eq-eqb (L .places) (L .places) refl) ∙ passes _ _ _ (le-leb _ _ k)
 
-  plays-list : (t : State) → t .ais ≡ s .ais → outcome L t playList (L .places) (moveList (s .ais) (listRequests s)) ≡ accept (length (listRequests s)) s []
+  pub plays-list : (t : State) → t .ais ≡ s .ais → outcome L t playList (L .places) (moveList (s .ais) (listRequests s)) ≡ accept (length (listRequests s)) s []
   unfolding outcome
   plays-list t e =
       passes _ _ _ (eq-eqb (L .places) (L .places) refl)

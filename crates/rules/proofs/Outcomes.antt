@@ -175,6 +175,6 @@ answer-to L ask s b (accept count next written) k =
 answer-to L ask s b (reset code place) k =
     record { code = List·Memᴰ·tail (k .1); same-ais = refl; no-count = λ p n. absurd (p (k .0)) }
 
-pub answered : (L : Limits) (s : State) (c : Call) → Answered (c .ask) s (step L s c)
+pub every-answer : (L : Limits) (s : State) (c : Call) → Answered (c .ask) s (step L s c)
 unfolding step
-answered L s c = answer-to L (c .ask) s (c .buffer) _ (known-outcome L s (c .ask) (c .tableLength) (c .buffer))
+every-answer L s c = answer-to L (c .ask) s (c .buffer) _ (known-outcome L s (c .ask) (c .tableLength) (c .buffer))

@@ -20,48 +20,8 @@ use Rattle.rules.specs.MoveList.{ListRequest, writes, requestsIn, tableE
 use Rattle.rules.specs.Machine.{Ask, setAttr, getAttr, guestTake, writeList, playList, Call, outcome, step, after}
 use Rattle.rules.proofs.Checks.{left}
 use Rattle.rules.proofs.Decode.{length-moveList}
-use Rattle.rules.proofs.Lists.{All, Maybe, all-append, all-set, all-get, all-replicate, flatten-more}
-
--- ---- the facts
-
-pub record SoundAdapter (x : Adapter) : Type 0 where
-  pub subclass-small : x .isc ≤ 7
-  pub masked-maskable : x .masked ≡ true → x .maskable ≡ true
-
-abbrev pub SoundPlace : Place → Type 0
-SoundPlace free = Unit {0}
-SoundPlace (holds x) = SoundAdapter x
-
-abbrev pub Whole : Record → Type 0
-Whole r = length r ≡ recordBytes
-
-pub record IsKind (k : Kind) (r : Record) : Type 0 where
-  pub whole : Whole r
-  pub is-kind : kind r ≡ k
-
-pub record IsIo (isc : ℕ) (r : Record) : Type 0 where
-  pub whole : Whole r
-  pub is-io : kind r ≡ Kind.io
-  pub is-subclass : subclass r ≡ isc
-
--- the first of the queues is that of subclass isc
-abbrev pub IoQueues : ℕ → List (List Record) → Type 0
-IoQueues isc [] = Unit {0}
-IoQueues isc (q ∷ qs) = All (IsIo isc) q × IoQueues (suc isc) qs
-
-pub record SoundPending (p : Pending) : Type 0 where
-  pub eight : length (p .io) ≡ 8
-  pub in-io : IoQueues 0 (p .io)
-  pub in-done : All (IsKind Kind.done) (p .done)
-  pub in-service : Maybe (IsKind Kind.service) (p .service)
-  pub in-mchk : Maybe (IsKind Kind.mchk) (p .mchk)
-
-pub record Sound (L : Limits) (s : State) : Type 0 where
-  pub table : length (s .adapters) ≡ L .places
-  pub adapters : All SoundPlace (s .adapters)
-  pub pending : SoundPending (s .pending)
-  pub within : queued (s .pending) ≤ L .room
-  pub no-masks : s .ais ≡ false → (s .device .simm ≡ 0) × (s .device .nimm ≡ 0)
+use Rattle.rules.specs.Invariant.{All, Maybe, SoundAdapter, SoundPlace, Whole, IsKind, IsIo, IoQueues, SoundPending, Sound}
+use Rattle.rules.proofs.Lists.{all-append, all-set, all-get, all-replicate, flatten-more}
 
 -- ---- records that come
 

@@ -17,9 +17,9 @@ use Rattle.rules.specs.Outcome.{accept}
 use Rattle.rules.specs.Requests.{enqueue, setRequest, enqueueBytes, nonZero, recordsIn, allWant, enqueues, setsApf, isFree, registers, adapterIn, withMask, modifies, withMasks, request}
 use Rattle.rules.specs.MoveList.{ListRequest, oneIf, byRisingId, registerRequest, modifyRequest, enqueueRequest, aismAllRequest, apfRequest, listRequests, onward, applies, mostRequests}
 use Rattle.rules.proofs.Checks.{passes, found, both, left}
-use Rattle.rules.proofs.Lists.{All, Maybe}
+use Rattle.rules.specs.Invariant.{All, Maybe, Whole, SoundAdapter, SoundPlace, IsKind, IsIo, IoQueues, SoundPending, Sound}
 use Rattle.rules.proofs.Codec.{field-here}
-use Rattle.rules.proofs.Reachable.{Whole, SoundAdapter, SoundPlace, IsKind, IsIo, IoQueues, SoundPending, Sound, Sendable, listing-sendable, listing-length, length-records}
+use Rattle.rules.proofs.Reachable.{Sendable, listing-sendable, listing-length, length-records}
 
 -- ---- requests in turn
 

@@ -37,3 +37,4 @@ pub mod Take
 pub mod MoveList
 pub mod Machine
 pub mod Listing
+pub mod Invariant

@@ -52,9 +52,13 @@ pub record Answer : Type 0 where
   pub next : State
   pub buffer : List ℕ
 
+-- An answer is written out here alone.
+abbrev pub tell : (code count : ℕ) (next : State) (buffer : List ℕ) → Answer
+tell code count next buffer = record { code = code; count = count; next = next; buffer = buffer }
+
 -- `refuse` has count 0 and changes nothing. `accept` writes at the buffer's start, and the bytes after that stay.
 -- `reset` has the place of the refused request as count, and leaves the controller fresh and the buffer as it was.
 unfoldable pub result : Limits → State → List ℕ → Outcome → Answer
-result L s b (refuse code) = record { code = code; count = 0; next = s; buffer = b }
-result L s b (accept count next written) = record { code = 0; count = count; next = next; buffer = written ++ drop (length written) b }
-result L s b (reset code place) = record { code = code; count = place; next = fresh L (s .ais); buffer = b }
+result L s b (refuse code) = tell code 0 s b
+result L s b (accept count next written) = tell 0 count next (written ++ drop (length written) b)
+result L s b (reset code place) = tell code place (fresh L (s .ais)) b

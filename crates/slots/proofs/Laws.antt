@@ -12,7 +12,7 @@ use lib.ListN.{length, take, drop, getD, set, take-append-drop, length-drop, len
 use lib.Seq.{split-at, drop-cons, take-at, take-take, set-at, getD-take, getD-drop, length-take-le, length-paste-head, paste}
 use borrow.Author.Tests.{eqb-false, eq-eqb}
 use Rattle.rules.specs.Bytes.{choose}
-use Rattle.rules.proofs.Lists.{All}
+use Rattle.rules.specs.Invariant.{All}
 use Rattle.words.proofs.Laws.{drop-take, paste-more, paste-front, take-before, drop-past, part-same, part-before}
 use Rattle.slots.specs.Slots.{insertAt, removeAt, slot, listed, occurs, Apart}
 

@@ -8,11 +8,9 @@ use borrow.Author.Tests.{eqb-true, eqb-false}
 use lib.Dec.{eqb}
 use lib.ListN.{length, getD, set, take, replicate, length-set, length-replicate, length-map, List·getD-map}
 use lib.Seq.{getD-set-same, getD-set-other, getD-take, length-take-le, take-all, ext-getD}
-use Rattle.rules.proofs.Lists.{All}
 use Rattle.adapters.specs.declared.Place.{Place}
-use Rattle.adapters.specs.Values.{unused, Canonical}
+use Rattle.adapters.specs.Values.{unused}
 use Rattle.image.specs.Image.{imageSize, packed, unpacked}
-use Rattle.image.proofs.Laws.{unpacked-table}
 use Rattle.table.specs.Table.{snapTo, restored}
 
 pub one-more : (i : ℕ) → suc i ≡ i + 1

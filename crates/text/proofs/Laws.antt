@@ -14,7 +14,8 @@ use Rattle.rules.specs.Bytes.{choose, byte, part, field}
 use Rattle.rules.specs.State.{Record, Kind, kind, subclass, interruptionWord, single, listing}
 use Rattle.rules.specs.Requests.{recordsIn}
 use Rattle.rules.specs.Listing.{ascii, digit, digits, digitCount, decimal, hex8, line, name, ofIo, recordLine, linesFrom}
-use Rattle.rules.proofs.Lists.{All, all-append}
+use Rattle.rules.specs.Invariant.{All}
+use Rattle.rules.proofs.Lists.{all-append}
 use Rattle.words.proofs.Laws.{paste-front}
 use Rattle.slots.specs.Slots.{slot, listed}
 use Rattle.queues.specs.Queues.{sum}

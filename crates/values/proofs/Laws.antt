@@ -13,13 +13,14 @@ use Rattle.rules.specs.Requests.{setRequest, noRequest, adapterRegister, adapte
 use Rattle.rules.proofs.Checks.{passes, chosen, passed}
 use Rattle.rules.specs.State as rules
 use Rattle.rules.specs.State.{Limits, Pending, State}
-use Rattle.rules.specs.Outcome.{Outcome, refuse, accept, holder_else_⨾_, result}
+use Rattle.rules.specs.Outcome.{Outcome, refuse, accept, holder_else_⨾_, result, tell}
 use Rattle.adapters.specs.declared.Device.{Device}
 use Rattle.adapters.specs.declared.Place.{Place}
 use Rattle.adapters.specs.Values.{placeOf, deviceOf, Canonical, maskedAs, modeSet}
 use Rattle.answers.specs.declared.Answer.{Answer}
 use Rattle.values.specs.declared.Reply.{Reply}
 use Rattle.values.specs.States.{payloadId, onPlace, aboutOf, decided, withPlace, modesAfter, stateWith, Replied, Change, keeps, masks, enters, Within, changeOf}
+use Rattle.answers.specs.Answers.{answered}
 
 -- the state that the values stand for is the state itself
 pub as-it-was : (s : State) (id : ℕ) (device : Device) (place : Place) → s .device ≡ deviceOf device → getD (s .adapters) id rules.free ≡ placeOf place
@@ -46,28 +47,23 @@ module _ (places room : ℕ) (ais : Bool) (device : Device) (place : Place) (id 
 
   refuses : (code : ℕ) → Gives (λ L s. refuse code) → (p : Pending) (L : Limits) (s : State) → L .places ≡ places → s .ais ≡ ais → s .pending ≡ p
       → s .device ≡ deviceOf device → getD (s .adapters) id rules.free ≡ placeOf place
-      → result L s b (o L s) ≡ record { code = code; count = 0; next = stateWith s id (placeOf place) p (deviceOf device); buffer = b }
+      → result L s b (o L s) ≡ tell code 0 (stateWith s id (placeOf place) p (deviceOf device)) b
   unfolding result
   refuses code f p L s e1 e3 e4 e5 e6 =
       ap (result L s b) (f L s e1 e3 e5 e6)
-      ∙ (λ i. record {
-        code = code;
-        count = 0;
-        next = (as-it-was s id device place e5 e6 ∙ ap (λ (q : Pending). stateWith s id (placeOf place) q (deviceOf device)) e4) i;
-        buffer = b;
-      })
+      ∙ (λ i. tell code 0 ((as-it-was s id device place e5 e6 ∙ ap (λ (q : Pending). stateWith s id (placeOf place) q (deviceOf device)) e4) i) b)
 
   accepts : (device′ : Device) (place′ : Place) → Gives (λ L s. accept 0 (stateWith s id (placeOf place′) (s .pending) (deviceOf device′)) [])
       → (p : Pending) (L : Limits) (s : State) → L .places ≡ places → s .ais ≡ ais → s .pending ≡ p
       → s .device ≡ deviceOf device → getD (s .adapters) id rules.free ≡ placeOf place
-      → result L s b (o L s) ≡ record { code = 0; count = 0; next = stateWith s id (placeOf place′) p (deviceOf device′); buffer = b }
+      → result L s b (o L s) ≡ tell 0 0 (stateWith s id (placeOf place′) p (deviceOf device′)) b
   unfolding result
   accepts device′ place′ f p L s e1 e3 e4 e5 e6 =
       ap (result L s b) (f L s e1 e3 e5 e6)
-      ∙ (λ i. record { code = 0; count = 0; next = stateWith s id (placeOf place′) (e4 i) (deviceOf device′); buffer = b })
+      ∙ (λ i. tell 0 0 (stateWith s id (placeOf place′) (e4 i) (deviceOf device′)) b)
 
   -- from what the calls that make a reply ensure
-  pub refused : (code : ℕ) {change : Change} {a : Answer} {r : Reply} → a ≡ record { code = code; count = 0 } → r ≡ record { answer = a; device = device; place = place }
+  pub refused : (code : ℕ) {change : Change} {a : Answer} {r : Reply} → a ≡ answered code 0 → r ≡ record { answer = a; device = device; place = place }
       → Gives (λ L s. refuse code) → Replied places room ais device place id b o change r
   refused code {change} ea er f =
       subst (Replied places room ais device place id b o change)
@@ -79,7 +75,7 @@ module _ (places room : ℕ) (ais : Bool) (device : Device) (place : Place) (id 
         within = within-same change place;
       })
 
-  pub accepted : {change : Change} {device′ : Device} {place′ : Place} {a : Answer} {r : Reply} → a ≡ record { code = 0; count = 0 }
+  pub accepted : {change : Change} {device′ : Device} {place′ : Place} {a : Answer} {r : Reply} → a ≡ answered 0 0
       → r ≡ record { answer = a; device = device′; place = place′ } → (Canonical place → Canonical place′)
       → Within change place place′
       → Gives (λ L s. accept 0 (stateWith s id (placeOf place′) (s .pending) (deviceOf device′)) []) → Replied places room ais device place id b o change r

@@ -15,12 +15,13 @@ use Rattle.rules.specs.Outcome.{result}
 use Rattle.rules.specs.Requests.{nonZero}
 use Rattle.rules.specs.MoveList.{ListRequest, oneIf, byRisingId, registerRequest, modifyRequest, enqueueRequest, aismAllRequest, apfRequest, listRequests, payloads, writtenTable, total, moveList, writes}
 use Rattle.rules.proofs.Checks.{passes, fails}
-use Rattle.rules.proofs.Lists.{All, all-append}
+use Rattle.rules.specs.Invariant.{All}
+use Rattle.rules.proofs.Lists.{all-append}
 use Rattle.rules.proofs.Decode.{length-table}
 use Rattle.rules.proofs.Reachable.{length-records}
-use Rattle.rules.proofs.Reachable as reachable
+use Rattle.rules.specs.Invariant as invariant
 use Rattle.answers.specs.declared.Answer.{Answer}
-use Rattle.answers.specs.Answers.{Answers}
+use Rattle.answers.specs.Answers.{Answers, answered}
 use Rattle.slots.specs.Slots.{slotCount, listed}
 use Rattle.slots.proofs.Laws.{every-record}
 use Rattle.queues.specs.Queues.{sum}
@@ -146,7 +147,7 @@ module _ (image : List ℕ) (p : Parts) (k : Counted image p) where
         rw (payloads-append (adapterEntries image) (otherEntries rs (p .masks) simm nimm (p .apf)), length-append, adapters-size, others-size) (omega arith)
 
 -- ---- the listing: its records are whole, and where it is put
-one-whole : (n : ℕ) (r : Record) → length r ≡ 72 → All reachable.Whole (single (ifThere n r))
+one-whole : (n : ℕ) (r : Record) → length r ≡ 72 → All invariant.Whole (single (ifThere n r))
 unfolding ifThere
 one-whole zero r h = tt
 one-whole (suc n) r h = (h, tt)
@@ -158,10 +159,10 @@ pub whole-listing : (o c b g : List ℕ) (n : ℕ) → length c ≡ 9 → sum c 
     → n ≡ length (listing (pendingOf o c b g)) → Whole (listing (pendingOf o c b g)) n
 unfolding serviceOf mchkOf
 whole-listing o c b g n h k f m q e =
-    let every : All reachable.Whole (listing (pendingOf o c b g)) =
+    let every : All invariant.Whole (listing (pendingOf o c b g)) =
     rw (listing-is o c b g h, flatten-queues o c b k)
-    (all-append reachable.Whole (listed 72 o (sum c) b ++ single (serviceOf g)) (single (mchkOf g))
-    (all-append reachable.Whole (listed 72 o (sum c) b) (single (serviceOf g)) (every-record 72 slotCount o (sum c) b f m) (one-whole (byte 144 g) (part 0 72 g) (length-part 0 g (omega arith))))
+    (all-append invariant.Whole (listed 72 o (sum c) b ++ single (serviceOf g)) (single (mchkOf g))
+    (all-append invariant.Whole (listed 72 o (sum c) b) (single (serviceOf g)) (every-record 72 slotCount o (sum c) b f m) (one-whole (byte 144 g) (part 0 72 g) (length-part 0 g (omega arith))))
     (one-whole (byte 145 g) (part 72 72 g) (length-part 72 g (omega arith)))) in
     record { count = sym e; size = length-records _ every ∙ ap (λ (x : ℕ). 72 * x) (sym e) }
 
@@ -208,11 +209,11 @@ module _ (ais : Bool) (es : List ListRequest) (o₀ o₁ o₂ o₃ : List ℕ) (
 
 -- the answer where the list does not fit, and where it does
 module _ (L : Limits) (s : State) (b : List ℕ) (a : Answer) (t : ℕ) (es : List ListRequest) (e : es ≡ listRequests s) (et : t ≡ total es) where
-  pub too-short : length b < t → a ≡ record { code = 12; count = 0 } → Answers L s b (writes s b) a s b
+  pub too-short : length b < t → a ≡ answered 12 0 → Answers L s b (writes s b) a s b
   unfolding writes result
   too-short h f = ap (result L s b) (fails _ _ _ (lt-leb (total (listRequests s)) (length b) (rw (← e, ← et) h))) ∙ rw f
 
-  pub written : (out : List ℕ) (ais : Bool) → s .ais ≡ ais → t ≤ length b → a ≡ record { code = 0; count = t }
+  pub written : (out : List ℕ) (ais : Bool) → s .ais ≡ ais → t ≤ length b → a ≡ answered 0 t
       → out ≡ moveList ais es ++ drop (length (moveList ais es)) b → Answers L s b (writes s b) a s out
   unfolding writes result
   written out ais ea h f g =

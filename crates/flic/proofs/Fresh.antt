@@ -31,7 +31,7 @@ use Rattle.controller.proofs.Controller as C
 use Rattle.controller.proofs.Controller.Laws as C′
 use Rattle.controller.proofs.Started as St
 use Rattle.controller.proofs.Started.Laws as St′
-use Rattle.table.proofs.Locals.{Content, blank, holds, since, locals, frees-all, swaps, not-holds, not-not}
+use Rattle.table.proofs.Locals.{Content, blank, holds, since, locals, frees-all, swaps, holds-false, not-not}
 use Rattle.lent.proofs.Answered.{FitsAnswer, refused, Refuse, refuses}
 use Rattle.answers.proofs.refuse.Symbol.{name as #refuse}
 use Rattle.flic.proofs.Opened.{Has}
@@ -101,7 +101,7 @@ module _ {M : Type 1} (𝓤 : URA M) (H : Heap 𝓤) (A : Atoms 𝓤) (W : Given
     starts rest k =
         assigns ! (of-opd ! (load ! (from ! (fld ! refl (stop !))) (look-in ! 12 (sub ! 1 refl (whole !))))) (from ! (stop !)) (init ! 18 refl (tt, record { fits = room .0 })) $
         assigns ! (bin ! (load ! (from ! (stop !)) (look ! 18 refl)) (lit ! tt) tt) (from ! (stop !)) (init ! 20 refl (tt, tt)) $
-        first ! $ branches ! (load ! (from ! (stop !)) (look ! 20 refl)) (λ t. refuses-it rest (not-holds (eqb (length (a .t)) 64) t))
+        first ! $ branches ! (load ! (from ! (stop !)) (look ! 20 refl)) (λ t. refuses-it rest (holds-false (eqb (length (a .t)) 64) t))
         (λ t. skips ! $ exec ! C′ Λ Ls (operands rest) (atRet Ls Post) $ opens-all ! tt a (λ gc gd.
         assigns ! (addr ! (from ! (hop ! (look ! 19 refl) (fld ! refl (stop !))))) (from ! (stop !)) (init ! 33 refl (tt, tt)) $
         assigns ! (addr ! (from ! (hop ! (look ! 19 refl) (fld ! refl (stop !))))) (from ! (stop !)) (init ! 35 refl (tt, tt)) $

@@ -1,5 +1,5 @@
 -- Paper 01, 'What the controller is': all multi-byte fields are big-endian. A byte is a number, and bytes are a list
--- of numbers. The numbers are not bounded by 256; no law needs such a bound.
+-- of numbers. The numbers are not bounded by 256: no call looks at the bound (`Invariant.IsByte` says it).
 use Prim.Native.Nat.{ℕ, zero, suc, _+_, _*_, _/_, _%_, _^_}
 use mathlib.Core.Bool.{Bool, true, false}
 use mathlib.Core.List.{List, [], _∷_}

@@ -19,9 +19,6 @@ pub holds-false : (b : Bool) → Holds (not b) → b ≡ false
 holds-false true t = absurd t
 holds-false false t = refl
 
-pub not-holds : (b : Bool) → Holds (not b) → b ≡ false
-not-holds = holds-false
-
 pub not-not : (b : Bool) → Holds (not (not b)) → b ≡ true
 not-not true t = refl
 not-not false t = absurd t

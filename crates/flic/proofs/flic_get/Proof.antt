@@ -24,7 +24,7 @@ use Rattle.flic.specs.Surface.{Valid, Requested}
 use Rattle.controller.specs.Inner.{Got}
 use Rattle.controller.proofs.Controller as C
 use Rattle.flic.proofs.Promises.{get-promises, wrong-promises}
-use Rattle.table.proofs.Locals.{Content, blank, holds, since, locals, frees-all, swaps, not-holds, not-not}
+use Rattle.table.proofs.Locals.{Content, blank, holds, since, locals, frees-all, swaps, holds-false, not-not}
 use Rattle.flic.proofs.Opened.{Has, Cells, looks-ctl, shuts-ctl}
 use Rattle.flic.proofs.Four.{shared, at-array, Loan, Toks, Lent, lent-lfts, lent-shares, lent-args, lent-vals, calls-four}
 use Rattle.flic.proofs.Calls.{gives-up, reads-passed}
@@ -180,7 +180,7 @@ module _ {M : Type 1} (𝓤 : URA M) (H : Heap 𝓤) (A : Atoms 𝓤) (W : Given
     starts =
         assigns ! (of-opd ! (load ! (from ! (fld ! refl (stop !))) (look-in ! 13 (sub ! 1 refl (whole !))))) (from ! (stop !)) (init ! 23 refl (tt, record { fits = room .0 })) $
         assigns ! (bin ! (load ! (from ! (stop !)) (look ! 23 refl)) (lit ! tt) tt) (from ! (stop !)) (init ! 25 refl (tt, tt)) $
-        first ! $ branches ! (load ! (from ! (stop !)) (look ! 25 refl)) (λ t. refuses-it (not-holds (eqb (length ys) 64) t))
+        first ! $ branches ! (load ! (from ! (stop !)) (look ! 25 refl)) (λ t. refuses-it (holds-false (eqb (length ys) 64) t))
         (λ t. skips ! $ exec ! C′ Λ E mir.t-4 (atRet E Post) $ reads-it (eqb-true (length ys) 64 (not-not (eqb (length ys) 64) t)))
 
   walk : (C′ : Calls 𝓤 H) (Λ : Loops 𝓤 H) (fm : FmC 𝓤 H (W .laws) C′) → Triple 𝓤 (C′ refuse-def.name) (Refuse 𝓤 H A mem′ run) → Triple 𝓤 (C′ read-device-def.name) (ReadDevice 𝓤 H A mem′ run) → Triple 𝓤 (C′ answer-get-def.name) (AnswerGet 𝓤 H A mem′ run)

@@ -27,7 +27,7 @@ use Rattle.flic.specs.Surface.{Valid, Requested}
 use Rattle.controller.specs.Inner.{Wrote}
 use Rattle.controller.proofs.Controller as C
 use Rattle.flic.proofs.Promises.{write-promises, wrong-promises}
-use Rattle.table.proofs.Locals.{Content, blank, holds, since, locals, frees-all, swaps, not-holds, not-not}
+use Rattle.table.proofs.Locals.{Content, blank, holds, since, locals, frees-all, swaps, holds-false, not-not}
 use Rattle.flic.proofs.Opened.{Has, Cells, looks-ctl, shuts-ctl}
 use Rattle.flic.proofs.All.{Refs, refs, at-ctl, at-dev, at-tab, table, Tokens}
 use Rattle.flic.proofs.Four.{shared, at-array, Loan, Toks, Lent, lent-lfts, lent-shares, lent-args, lent-vals, calls-four}
@@ -191,7 +191,7 @@ module _ {M : Type 1} (𝓤 : URA M) (H : Heap 𝓤) (A : Atoms 𝓤) (W : Given
     starts =
         assigns ! (of-opd ! (load ! (from ! (fld ! refl (stop !))) (look-in ! 14 (sub ! 1 refl (whole !))))) (from ! (stop !)) (init ! 22 refl (tt, record { fits = room .0 })) $
         assigns ! (bin ! (load ! (from ! (stop !)) (look ! 22 refl)) (lit ! tt) tt) (from ! (stop !)) (init ! 24 refl (tt, tt)) $
-        first ! $ branches ! (load ! (from ! (stop !)) (look ! 24 refl)) (λ t. refuses-it (not-holds (eqb (length (a .t)) 64) t))
+        first ! $ branches ! (load ! (from ! (stop !)) (look ! 24 refl)) (λ t. refuses-it (holds-false (eqb (length (a .t)) 64) t))
         (λ t. skips ! $ exec ! C′ Λ E mir.t-4 (atRet E Post) $ reads-it (eqb-true (length (a .t)) 64 (not-not (eqb (length (a .t)) 64) t)))
 
   walk : (C′ : Calls 𝓤 H) (Λ : Loops 𝓤 H) (fm : FmC 𝓤 H (W .laws) C′) → Known 𝓤 H A mem′ run C′ → ent 𝓤 (onEntry 𝓤 H A f.signature (bound .0 .0) (bound .0 .1) x at) (WpFn 𝓤 H C′ Λ code.function (vptr (a .bc) (a .oc) ∷ vptr (a .bd) (a .od) ∷ table a ∷ out ∷ []) Post)

@@ -15,7 +15,7 @@ use Rattle.answers.proofs.accept.Symbol as accept-def
 use Rattle.answers.proofs.accept.Met as accept-thm
 use Rattle.table.proofs.Count.{taken}
 use Rattle.table.proofs.Gives.{at-list, LentCell}
-use Rattle.table.proofs.Locals.{Content, blank, holds, locals, frees-all, swaps, not-holds, not-not, zero-fits, unit-typed}
+use Rattle.table.proofs.Locals.{Content, blank, holds, locals, frees-all, swaps, holds-false, not-not, zero-fits, unit-typed}
 use Rattle.lent.proofs.Answered.{FitsAnswer, refused, accepted, Refuse, Accept, refuses, accepts}
 use Rattle.adapters.specs.declared.Device.{Device}
 use Rattle.adapters.proofs.Device as D
@@ -156,7 +156,7 @@ module _ {M : Type 1} (𝓤 : URA M) (H : Heap 𝓤) (A : Atoms 𝓤) (W : Given
         (λ i j. (and-then ! (load ! (from ! (stop !)) (look ! 9 refl)) (and-then ! (load ! (from ! (stop !)) (look ! 11 refl)) (and-then ! (load ! (from ! (stop !)) (look ! 13 refl)) (and-then ! (load ! (from ! (stop !)) (look ! 15 refl)) (no-more !))))))
         (λ n v w φ is. land ! (from ! (stop !)) (init ! 17 refl (uint-lawful 𝓤 H A W w32 .typed n _ is .0)) $ rewrite ! 17 (λ (u : Val). ‵ (fat fullShare (tyInt w32) l₆ 0 u)) (ap only (uint-tells w32 n (v ∷ []) is)) refl $
         move ! (2 ∷ 3 ∷ 4 ∷ []) $ assigns ! (bin ! (load ! (from ! (stop !)) (look ! 17 refl)) (lit ! tt) tt) (from ! (stop !)) (init ! 19 refl (tt, tt)) $
-        first ! $ branches ! (load ! (from ! (stop !)) (look ! 19 refl)) (λ t. refuses-it n (is .1) (φ .0) (φ .1) (not-holds (eqb n 0) t))
+        first ! $ branches ! (load ! (from ! (stop !)) (look ! 19 refl)) (λ t. refuses-it n (is .1) (φ .0) (φ .1) (holds-false (eqb n 0) t))
         (λ t. skips ! $ exec ! C Λ E mir.t-4 (atRet E Post) $ changes-it n (is .1) (φ .0) (φ .1) (not-not (eqb n 0) t)))
 
   walk : (C : Calls 𝓤 H) (Λ : Loops 𝓤 H) → FmC 𝓤 H (W .laws) C → Known 𝓤 H A mem′ run C

@@ -16,7 +16,7 @@ use Rattle.answers.proofs.accept.Symbol as accept-def
 use Rattle.answers.proofs.accept.Met as accept-thm
 use Rattle.table.proofs.Count.{taken}
 use Rattle.table.proofs.Gives.{at-list, changes-row, Lent}
-use Rattle.table.proofs.Locals.{Content, blank, holds, locals, frees-all, swaps, not-holds, not-not, zero-fits}
+use Rattle.table.proofs.Locals.{Content, blank, holds, locals, frees-all, swaps, holds-false, not-not, zero-fits}
 use Rattle.lent.proofs.Answered.{FitsAnswer, refused, accepted, Refuse, Accept, refuses, accepts}
 use Rattle.words.specs.declared.AdapterId.{AdapterId}
 use Rattle.words.proofs.AdapterId as I
@@ -230,7 +230,7 @@ module _ {M : Type 1} (𝓤 : URA M) (H : Heap 𝓤) (A : Atoms 𝓤) (W : Given
           (λ i j. (and-then ! (lit ! tt) (and-then ! (load ! (from ! (stop !)) (look ! 18 refl)) (and-then ! (load ! (from ! (stop !)) (look ! 10 refl)) (and-then ! (load ! (from ! (stop !)) (look ! 12 refl)) (and-then ! (load ! (from ! (stop !)) (look ! 14 refl)) (no-more !)))))))
           (λ n v w φ is. land ! (from ! (stop !)) (init ! 20 refl (uint-lawful 𝓤 H A W w32 .typed n _ is .0)) $ rewrite ! 20 (λ (u : Val). ‵ (fat fullShare (tyInt w32) l₇ 0 u)) (ap only (uint-tells w32 n (v ∷ []) is)) refl $
           move ! (2 ∷ 3 ∷ 4 ∷ 5 ∷ []) $ assigns ! (bin ! (load ! (from ! (stop !)) (look ! 20 refl)) (lit ! tt) tt) (from ! (stop !)) (init ! 28 refl (tt, tt)) $
-          first ! $ branches ! (load ! (from ! (stop !)) (look ! 28 refl)) (λ t. refuses-it go n (is .1) (at-id n (φ .0)) (φ .1) (not-holds (eqb n 0) t))
+          first ! $ branches ! (load ! (from ! (stop !)) (look ! 28 refl)) (λ t. refuses-it go n (is .1) (at-id n (φ .0)) (φ .1) (holds-false (eqb n 0) t))
           (λ t. skips ! $ exec ! C Λ E mir.t-8 (atRet E Post) $ leaves-it go n (is .1) (at-id n (φ .0)) (φ .1) (not-not (eqb n 0) t)))
 
       looks-it : Sq W (Open ys (held blank (holds (I′.lowered id)) blank blank blank blank blank blank blank blank blank)) (runs C Λ E mir.t-2 (atRet E Post))

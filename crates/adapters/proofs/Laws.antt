@@ -5,7 +5,7 @@ use mathlib.Core.Bool.{Bool, true, false}
 use native.Mathlib.Omega.{arith}
 use borrow.Author.Tests.{eqb-true, eqb-false}
 use Rattle.rules.specs.Bytes.{choose}
-use Rattle.rules.specs.State.{Adapter, free, holds, bit, hasBit}
+use Rattle.rules.specs.State.{free, holds, bit, hasBit}
 use Rattle.adapters.specs.declared.Place.{Place}
 use Rattle.adapters.specs.Values.{adapterOf, placeOf}
 

@@ -6,17 +6,18 @@ use lib.ListN.{length, drop}
 use Rattle.rules.specs.State.{Limits, Pending, State, withPending}
 use Rattle.rules.specs.Outcome.{Outcome, refuse, accept, result, tell}
 use Rattle.rules.specs.Requests.{setRequest, request}
+use Rattle.rules.specs.Machine.{answerOf}
 use Rattle.answers.specs.declared.Answer.{Answer}
 use Rattle.answers.specs.Answers.{Answers, answered}
 
 pub same-state : (s : State) (p : Pending) → s .pending ≡ p → withPending p s ≡ s
 same-state s p e = ap (λ (q : Pending). withPending q s) (sym e)
 
-module _ (L : Limits) (s : State) (b : List ℕ) (o : Outcome) (a : Answer) (n : ℕ) where
+module _ (L : Limits) (s : State) (b : List ℕ) (o : Outcome State) (a : Answer) (n : ℕ) where
   -- a refusal leaves the state, whatever form it is given in
   pub refused-as : (t : State) → s ≡ t → o ≡ refuse n → a ≡ answered n 0 → Answers L s b o a t b
   unfolding result
-  refused-as t e f k = ap (result L s b) f ∙ (λ i. tell (sym k i .code) (sym k i .count) (e i) b)
+  refused-as t e f k = ap (answerOf L s b) f ∙ (λ i. tell (sym k i .code) (sym k i .count) (e i) b)
 
   pub refused : (p : Pending) → s .pending ≡ p → o ≡ refuse n → a ≡ answered n 0 → Answers L s b o a (withPending p s) b
   refused p e = refused-as (withPending p s) (sym (same-state s p e))

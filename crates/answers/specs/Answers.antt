@@ -3,12 +3,17 @@ use Prim.Native.Nat.{ℕ}
 use mathlib.Core.Path.{_≡_}
 use mathlib.Core.List.{List}
 use Rattle.rules.specs.State.{Limits, State}
-use Rattle.rules.specs.Outcome.{Outcome, result, tell}
+use Rattle.rules.specs.Outcome.{Outcome, Seen, sees, answering}
+use Rattle.rules.specs.Machine.{answerOf}
 use Rattle.answers.specs.declared.Answer.{Answer}
 
 -- A code and a count, as the code answers them.
 abbrev pub answered : (code count : ℕ) → Answer
 answered code count = record { code = code; count = count }
 
-abbrev pub Answers : Limits → State → List ℕ → Outcome → Answer → State → List ℕ → Type 0
-Answers L s b o a next left = result L s b o ≡ tell (a .code) (a .count) next left
+-- What a caller sees of an answer and of the buffer that the call left.
+abbrev pub saw : Answer → List ℕ → Seen
+saw a b = sees (a .code) (a .count) b
+
+abbrev pub Answers : Limits → State → List ℕ → Outcome State → Answer → State → List ℕ → Type 0
+Answers L s b o a next left = answerOf L s b o ≡ answering (saw a left) next

@@ -6,9 +6,9 @@ use mathlib.Core.List.{List, map}
 use lib.ListN.{take, replicate}
 use lib.Dec.{eqb}
 use Rattle.rules.specs.Bytes.{choose}
-use Rattle.rules.specs.State.{State, Pending, nothing, withPending, paperLimits}
+use Rattle.rules.specs.State.{State, Pending, nothing, withPending}
 use Rattle.rules.specs.Requests.{airqInject, setRequest, getRequest, request}
-use Rattle.rules.specs.Outcome.{refuse}
+use Rattle.rules.specs.Outcome.{refuseWith}
 use Rattle.rules.specs.Take.{takes}
 use Rattle.rules.specs.MoveList.{writes, plays}
 use Rattle.rules.specs.Invariant.{All}
@@ -17,11 +17,12 @@ use Rattle.answers.specs.Answers.{Answers, answered}
 use Rattle.adapters.specs.declared.Device.{Device}
 use Rattle.adapters.specs.declared.Place.{Place}
 use Rattle.adapters.specs.Values.{placeOf, deviceOf, Canonical, injectedDevice}
-use Rattle.image.specs.Image.{unpacked}
+use Rattle.image.specs.Image.{imageSize, unpacked}
 use Rattle.records.specs.Memory.{pendingOf}
 use Rattle.values.specs.States.{Replies}
 use Rattle.controller.specs.declared.Controller.{Controller}
 use Rattle.controller.specs.declared.Started.{Started}
+use Rattle.controller.specs.Limits.{limitsOf}
 use Rattle.queues.specs.Queues.{Held}
 
 -- a controller from its arrays and its capability
@@ -38,18 +39,18 @@ pub record Began (ais : Bool) (c′ : Controller) (r : Started) : Type 0 where
     answer = answered 0 0;
     ais = ais;
     device = record { simm = 0; nimm = 0; apf = false };
-    restored = paperLimits .places;
-    image = replicate (paperLimits .places) 0;
+    restored = limitsOf c′ .places;
+    image = replicate imageSize 0;
   }
   pub pending : pendingIn c′ ≡ nothing
   pub held : Held (c′ .order) (c′ .counts)
 
--- the state that a controller's arrays and an image stand for
-abbrev pub playedState : Controller → Started → State
-playedState c r =
+-- the state that a controller's arrays and the first places of an image stand for
+abbrev pub playedState : (places : ℕ) → Controller → Started → State
+playedState places c r =
     record {
       ais = c .ais;
-      adapters = map placeOf (map unpacked (take (paperLimits .places) (r .image)));
+      adapters = map placeOf (map unpacked (take places (r .image)));
       pending = pendingIn c;
       device = deviceOf (r .device);
     }
@@ -57,23 +58,23 @@ playedState c r =
 -- Playing a list. Where the controller was made fresh, the image has its places.
 pub record Replayed (c c′ : Controller) (b : List ℕ) (r : Started) : Type 0 where
   pub same : r .restored ≡ 0 → c′ ≡ c
-  pub whole : (r .restored ≡ 0 → ⊥) → r .restored ≡ paperLimits .places
+  pub whole : (r .restored ≡ 0 → ⊥) → r .restored ≡ limitsOf c .places
   pub held : Held (c′ .order) (c′ .counts)
-  pub canonical : All Canonical (map unpacked (take (paperLimits .places) (r .image)))
+  pub canonical : All Canonical (map unpacked (take (limitsOf c .places) (r .image)))
   pub answer : (s : State) → s .ais ≡ c .ais
-      → Answers paperLimits s b (plays paperLimits s b) (r .answer) (choose (eqb (r .restored) 0) s (playedState c′ r)) b
-  pub form : (s : State) → s .ais ≡ c .ais → (code : ℕ) → plays paperLimits s b ≡ refuse code → r .restored ≡ 0
+      → Answers (limitsOf c) s b (plays (limitsOf c) s b) (r .answer) (choose (eqb (r .restored) 0) s (playedState (limitsOf c .places) c′ r)) b
+  pub form : (s : State) → s .ais ≡ c .ais → (code count : ℕ) → plays (limitsOf c) s b ≡ refuseWith code count → r .restored ≡ 0
 
 -- Writing a list, from an image of the table.
 pub record Wrote (c : Controller) (d : Device) (image b b′ : List ℕ) (r : Answer) : Type 0 where
   pub answer : (s : State) → s .ais ≡ c .ais → s .adapters ≡ map placeOf (map unpacked image) → s .pending ≡ pendingIn c → s .device ≡ deviceOf d
-      → Answers paperLimits s b (writes s b) r s b′
+      → Answers (limitsOf c) s b (writes s b) r s b′
   pub kept : (r .code ≡ 0 → ⊥) → b′ ≡ b
 
 -- A set request about pending records alone.
 pub record Recorded (group attr : ℕ) (c c′ : Controller) (b : List ℕ) (r : Answer) : Type 0 where
   pub answer : (s : State) → s .pending ≡ pendingIn c
-      → Answers paperLimits s b (request paperLimits s (setRequest group) attr b) r (withPending (pendingIn c′) s) b
+      → Answers (limitsOf c) s b (request (limitsOf c) s (setRequest group) attr b) r (withPending (pendingIn c′) s) b
   pub kept : (r .code ≡ 0 → ⊥) → c′ ≡ c
   pub held : Held (c′ .order) (c′ .counts)
 
@@ -84,7 +85,7 @@ notedIn ais d p r = choose (eqb (r .count) 1) (injectedDevice ais d p) d
 -- INJECT, of an adapter id with the place p.
 pub record Injected (id : ℕ) (c c′ : Controller) (d : Device) (p : Place) (r : Answer) : Type 0 where
   pub answer : (b : List ℕ)
-      → Replies (paperLimits .places) (paperLimits .room) (c .ais) d p id b (λ L s. request L s airqInject id b) (pendingIn c) (pendingIn c′)
+      → Replies (limitsOf c .places) (limitsOf c .room) (c .ais) d p id b (λ L s. request L s airqInject id b) (pendingIn c) (pendingIn c′)
       (record { answer = r; device = notedIn (c .ais) d p r; place = p })
   pub kept : (r .code ≡ 0 → ⊥) → (c′ ≡ c) × (notedIn (c .ais) d p r ≡ d)
   pub held : Held (c′ .order) (c′ .counts)
@@ -92,11 +93,11 @@ pub record Injected (id : ℕ) (c c′ : Controller) (d : Device) (p : Place) (r
 -- A get request.
 pub record Got (group attr : ℕ) (c : Controller) (d : Device) (b b′ : List ℕ) (r : Answer) : Type 0 where
   pub answer : (s : State) → s .ais ≡ c .ais → s .pending ≡ pendingIn c → s .device ≡ deviceOf d
-      → Answers paperLimits s b (request paperLimits s (getRequest group) attr b) r s b′
+      → Answers (limitsOf c) s b (request (limitsOf c) s (getRequest group) attr b) r s b′
   pub kept : (r .code ≡ 0 → ⊥) → b′ ≡ b
 
 -- A take.
 pub record Handed (subclasses : ℕ) (external mcheck : Bool) (c c′ : Controller) (b b′ : List ℕ) (r : Answer) : Type 0 where
-  pub answer : (s : State) → s .pending ≡ pendingIn c → Answers paperLimits s b (takes s subclasses external mcheck b) r (withPending (pendingIn c′) s) b′
+  pub answer : (s : State) → s .pending ≡ pendingIn c → Answers (limitsOf c) s b (takes s subclasses external mcheck b) r (withPending (pendingIn c′) s) b′
   pub kept : (r .code ≡ 0 → ⊥) → (c′ ≡ c) × (b′ ≡ b)
   pub held : Held (c′ .order) (c′ .counts)

@@ -11,9 +11,9 @@ use Rattle.rules.specs.Bytes.{choose}
 use Rattle.rules.specs.State as rules
 use Rattle.rules.specs.State.{Limits, Pending, State, withPending, addIo, queued}
 use Rattle.rules.specs.Outcome.{Outcome, refuse, accept, need_else_⨾_}
-use Rattle.rules.specs.Requests.{noRequest, airqInject, setRequest, getRequest, injected, injects, adapterInterrupt, request}
+use Rattle.rules.specs.Requests.{holding, noRequest, airqInject, setRequest, getRequest, injected, injects, adapterInterrupt, request}
 use Rattle.rules.specs.Requests.{underAis as rules-underAis}
-use Rattle.rules.proofs.Checks.{passes, fails, found, chosen, passed}
+use Rattle.rules.proofs.Checks.{passes, fails, found, missing, chosen, passed}
 use Rattle.answers.specs.declared.Answer.{Answer}
 use Rattle.answers.specs.Answers.{Answers, answered}
 use Rattle.adapters.specs.declared.Device.{Device}
@@ -24,7 +24,7 @@ use Rattle.adapters.specs.Values.{placeOf, deviceOf, adapterOf, underAis, injec
 use Rattle.adapters.proofs.Laws.{place-used, place-free}
 use Rattle.values.specs.declared.Reply.{Reply}
 use Rattle.values.specs.States.{aboutOf, stateWith, Replies}
-use Rattle.values.proofs.Laws.{unheld, as-it-was as held-values}
+use Rattle.values.proofs.Laws.{as-it-was as held-values}
 use Rattle.words.specs.declared.Subclass.{Subclass}
 use Rattle.core.specs.Cases.{onRecords}
 
@@ -39,7 +39,7 @@ pub as-it-was : (s : State) (id : ℕ) (device : Device) (place : Place) (p : Pe
 as-it-was s id device place p q d e =
     (λ i. record { ais = s .ais; adapters = s .adapters; pending = q i; device = s .device }) ∙ with-values s id device place p d e
 
-module _ (places room : ℕ) (ais : Bool) (device : Device) (place : Place) (id : ℕ) (b : List ℕ) (o : Limits → State → Outcome) (p₀ p₁ : Pending) where
+module _ (places room : ℕ) (ais : Bool) (device : Device) (place : Place) (id : ℕ) (b : List ℕ) (o : Limits → State → Outcome State) (p₀ p₁ : Pending) where
   -- a reply from its answer and its device record, the place as it was
   pub replies : {a : Answer} {r : Reply} {device′ : Device} → r ≡ record { answer = a; device = device′; place = place }
       → ((L : Limits) (s : State) → L .places ≡ places → L .room ≡ room → s .ais ≡ ais → s .pending ≡ p₀ → s .device ≡ deviceOf device
@@ -89,14 +89,14 @@ module _ (L : Limits) (s : State) (ais : Bool) (device : Device) (place : Place)
   module _ (h : id < L .places) (e6 : getD (s .adapters) id rules.free ≡ placeOf place) where
     pub nobody-there : place .used ≡ false → request L s airqInject id b ≡ refuse 22
     unfolding request injects
-    nobody-there u = passes _ _ _ (lt-ltb id (L .places) h) ∙ unheld _ _ _ (e6 ∙ place-free place u)
+    nobody-there u = passes _ _ _ (lt-ltb id (L .places) h) ∙ missing _ _ _ (ap holding (e6 ∙ place-free place u))
 
     module _ (u : place .used ≡ true) (e3 : s .ais ≡ ais) (e5 : s .device ≡ deviceOf device) where
       looked-up : request L s airqInject id b
           ≡ choose (place .masked || rules-underAis s (adapterOf place) (s .device .nimm)) (accept 0 s [])
           (need ltb (queued (s .pending)) (L .room) else 16 ⨾ accept 1 (injected s (adapterOf place)) [])
       unfolding request injects
-      looked-up = passes _ _ _ (lt-ltb id (L .places) h) ∙ found _ (adapterOf place) _ _ (e6 ∙ place-used place u)
+      looked-up = passes _ _ _ (lt-ltb id (L .places) h) ∙ found _ (adapterOf place) _ _ (ap holding (e6 ∙ place-used place u))
 
       same-test : (place .masked || rules-underAis s (adapterOf place) (s .device .nimm)) ≡ (place .masked || underAis ais place (device .nimm))
       same-test = λ i. place .masked || (e3 i && (place .suppressible && rules.hasBit (place .isc) (e5 i .nimm)))

@@ -7,7 +7,7 @@ use mathlib.Core.Bool.{not}
 use lib.Dec.{eqb}
 use native.Mathlib.Omega.{arith}
 use borrow.Author.Tests.{eqb-true, eqb-false}
-use Rattle.rules.specs.State.{paperLimits}
+use Rattle.image.specs.Image.{imageSize}
 use mir.Syntax.{place as local, deref, field, copy, int, op2, ne, addrOf, aggregate, rvOpd, Body as Code, seq, assign, cond, call, skip, return}
 use denote.Struct.Laws as LL
 use Rattle.answers.proofs.Answer as An
@@ -74,7 +74,7 @@ held a v v₀ v₅ v₇ n = v₀ ∷ holds (vptr (a .bc) (a .oc)) ∷ holds (vpt
 
 -- whether the length is wrong
 abbrev pub wrong : Refs → Bool
-wrong a = not (eqb (length (a .t)) 64)
+wrong a = not (eqb (length (a .t)) imageSize)
 
 -- X is what is held besides
 module _ {M : Type 1} (𝓤 : URA M) (H : Heap 𝓤) (A : Atoms 𝓤) (W : Given 𝓤 H A) (mem′ : Memory → SProp 𝓤) (run : Routine → Fun 𝓤) (a : Refs) (room : Room P.the-row (length (a .t))) (τ : Ty) (v : Val) (Post : Val → SProp 𝓤)
@@ -86,28 +86,28 @@ module _ {M : Type 1} (𝓤 : URA M) (H : Heap 𝓤) (A : Atoms 𝓤) (W : Given
   Then rest = anyQ (afterSeq 𝓤 H (Wp 𝓤 H C′ Λ Ls (operands rest) (atReturn 𝓤 H Ls Post)) (atReturn 𝓤 H Ls Post))
 
   -- a wrong table
-  module _ (exits : (length (a .t) ≡ paperLimits .places → ⊥) → FitsAnswer (refused 14) → ent 𝓤 (⋆ 𝓤 H A (X ++ Closed a (a .t) (a .d) (a .c) [])) (Post (An′.lowered (refused 14)))) where
-    refuses-it : (rest : Code) → eqb (length (a .t)) 64 ≡ false → Sq W (Passed a (locals Ls (held a v blank blank (holds (vbool (wrong a))) 1) X)) (runs C′ Λ Ls refusing (Then rest))
+  module _ (exits : (length (a .t) ≡ imageSize → ⊥) → FitsAnswer (refused 14) → ent 𝓤 (⋆ 𝓤 H A (X ++ Closed a (a .t) (a .d) (a .c) [])) (Post (An′.lowered (refused 14)))) where
+    refuses-it : (rest : Code) → eqb (length (a .t)) imageSize ≡ false → Sq W (Passed a (locals Ls (held a v blank blank (holds (vbool (wrong a))) 1) X)) (runs C′ Λ Ls refusing (Then rest))
     refuses-it rest e =
         refuses ! mem′ run fm (known .refuse) 14 (omega arith) (λ i. (and-then ! (lit ! tt) (no-more !))) (λ g.
         land ! (from ! (stop !)) (init ! 6 refl (LL.lawful An.the-type An′.the-laws 𝓤 H A W .typed (refused 14) _ g .0)) $
         opens-all ! tt a (λ gc gd. closes-all ! tt a (a .t) (a .d) (a .c) refl gd gc $ returns-within ! Post refl (look ! 9 refl) $
         swaps ! (Closed a (a .t) (a .d) (a .c) []) (locals Ls (held a v (holds (An′.lowered (refused 14))) blank (holds (vbool (wrong a))) 1) X) $ frees-all ! Ls (held a v (holds (An′.lowered (refused 14))) blank (holds (vbool (wrong a))) 1) $
-        by ! (exits (eqb-false (length (a .t)) 64 e) g)))
+        by ! (exits (eqb-false (length (a .t)) imageSize e) g)))
 
     -- the length is looked at, all is opened, and the operands of the call are taken
-    pub starts : (rest : Code) → (length (a .t) ≡ paperLimits .places → Has (a .c) → Is D.the-row (a .d) (D′.lowered (a .d) ∷ []) → Sq W (Open H a (a .t) (a .d) (a .c) (locals Ls (held a v blank blank (holds (vbool (wrong a))) 5) X)) (runs C′ Λ Ls rest (atRet Ls Post)))
+    pub starts : (rest : Code) → (length (a .t) ≡ imageSize → Has (a .c) → Is D.the-row (a .d) (D′.lowered (a .d) ∷ []) → Sq W (Open H a (a .t) (a .d) (a .c) (locals Ls (held a v blank blank (holds (vbool (wrong a))) 5) X)) (runs C′ Λ Ls rest (atRet Ls Post)))
         → Sq W (Passed a (locals Ls (held a v blank blank blank 0) X)) (runs C′ Λ Ls (before rest) (atRet Ls Post))
     starts rest k =
         assigns ! (of-opd ! (load ! (from ! (fld ! refl (stop !))) (look-in ! 12 (sub ! 1 refl (whole !))))) (from ! (stop !)) (init ! 18 refl (tt, record { fits = room .0 })) $
         assigns ! (bin ! (load ! (from ! (stop !)) (look ! 18 refl)) (lit ! tt) tt) (from ! (stop !)) (init ! 20 refl (tt, tt)) $
-        first ! $ branches ! (load ! (from ! (stop !)) (look ! 20 refl)) (λ t. refuses-it rest (holds-false (eqb (length (a .t)) 64) t))
+        first ! $ branches ! (load ! (from ! (stop !)) (look ! 20 refl)) (λ t. refuses-it rest (holds-false (eqb (length (a .t)) imageSize) t))
         (λ t. skips ! $ exec ! C′ Λ Ls (operands rest) (atRet Ls Post) $ opens-all ! tt a (λ gc gd.
         assigns ! (addr ! (from ! (hop ! (look ! 19 refl) (fld ! refl (stop !))))) (from ! (stop !)) (init ! 33 refl (tt, tt)) $
         assigns ! (addr ! (from ! (hop ! (look ! 19 refl) (fld ! refl (stop !))))) (from ! (stop !)) (init ! 35 refl (tt, tt)) $
         assigns ! (addr ! (from ! (hop ! (look ! 19 refl) (fld ! refl (stop !))))) (from ! (stop !)) (init ! 37 refl (tt, tt)) $
         assigns ! (addr ! (from ! (hop ! (look ! 19 refl) (fld ! refl (stop !))))) (from ! (stop !)) (init ! 39 refl (tt, tt)) $
-        k (eqb-true (length (a .t)) 64 (not-not (eqb (length (a .t)) 64) t)) gc gd))
+        k (eqb-true (length (a .t)) imageSize (not-not (eqb (length (a .t)) imageSize) t)) gc gd))
 
   -- the callee gave r, and the controller is c′; the flag is on or off
   module _ (r : Started) (c′ : Controller) (flag : Bool) (gd : Is D.the-row (a .d) (D′.lowered (a .d) ∷ [])) (gc′ : Has c′) (gr : Is St.the-row r (St′.lowered r ∷ [])) where

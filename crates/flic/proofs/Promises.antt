@@ -9,14 +9,15 @@ use lib.Seq.{set-getD}
 use lib.Dec.{eqb}
 use borrow.Author.Tests.{eq-eqb, ne-eqb, eqb-true, eqb-false}
 use Rattle.rules.specs.Bytes.{choose}
-use Rattle.rules.specs.State.{State, free, fresh, paperLimits}
-use Rattle.rules.specs.Outcome.{Outcome, refuse, need_else_⨾_, result, tell}
+use Rattle.rules.specs.State.{Limits, State, free, fresh, paperLimits}
+use Rattle.rules.specs.Outcome.{Outcome, refuseWith, refuse, need_else_⨾_, result, tell, Seen}
 use Rattle.rules.specs.Outcome.{Answer as Told}
 use Rattle.rules.specs.Requests.{setRequest, request}
-use Rattle.rules.specs.Machine.{Ask, setAttr, getAttr, guestTake, writeList, playList, outcome, step}
+use Rattle.rules.specs.Machine.{Ask, setAttr, getAttr, guestTake, writeList, playList, outcome, step, answerOf}
 use Rattle.rules.proofs.Checks.{passes, fails, chosen, passed}
 use Rattle.rules.specs.Invariant.{All, Sound}
 use Rattle.rules.proofs.Lists.{all-replicate}
+use Rattle.rules.proofs.Outcomes.{Known, Plays, known-outcome, never-zero}
 use Rattle.rules.proofs.Reachable.{kept-step, fresh-sound}
 use Rattle.answers.specs.declared.Answer.{Answer}
 use Rattle.adapters.specs.declared.Device.{Device}
@@ -31,30 +32,41 @@ use Rattle.lent.proofs.Maps.{map-replicate}
 use Rattle.lent.proofs.Laws.{canonical-unused}
 use Rattle.controller.specs.declared.Controller.{Controller}
 use Rattle.controller.specs.declared.Started.{Started}
-use Rattle.flic.specs.Surface.{stateOf, Valid, Steps, Made, Requested, Taken, Played}
+use Rattle.controller.specs.Limits.{limitsOf}
+use Rattle.controller.proofs.Limits.{limits-sized, limits-made, limits-kept}
+use Rattle.flic.specs.Surface.{stateOf, Valid, Steps, Made, Requested, Taken}
 use Rattle.controller.specs.Inner.{pendingIn, Began, playedState, Replayed, Wrote, Recorded, notedIn, Injected, Got, Handed}
-use Rattle.answers.specs.Answers.{answered}
+use Rattle.answers.specs.Answers.{answered, saw}
 
 -- a state that a step leads to is sound
-pub next-sound : (ask : Ask) (c c′ : Controller) (d d′ : Device) (t t′ : List Place) (b b′ : List ℕ) (r : Answer) → Valid c d t
-    → Steps ask c c′ d d′ t t′ b b′ r → Sound paperLimits (stateOf c′ d′ t′)
-next-sound ask c c′ d d′ t t′ b b′ r h e =
-    subst (Sound paperLimits) (ap (λ (a : Told). a .next) e) (kept-step paperLimits (stateOf c d t) (h .sound) _ .sound)
+pub next-sound : (ask : Ask) (c c′ : Controller) (d d′ : Device) (t t′ : List Place) (b : List ℕ) (x : Seen) → limitsOf c′ ≡ limitsOf c
+    → Valid c d t → Steps ask c c′ d d′ t t′ b x → Sound (limitsOf c′) (stateOf c′ d′ t′)
+next-sound ask c c′ d d′ t t′ b x l h e =
+    subst (λ (L : Limits). Sound L (stateOf c′ d′ t′)) (sym l)
+    (subst (Sound (limitsOf c)) (ap (λ (a : Told State). a .next) e) (kept-step (limitsOf c) (stateOf c d t) (h .sound) _ .sound))
+
+-- a refusal that changes nothing has a code that is not 0
+pub refused-code : (ask : Ask) (c c′ : Controller) (d d′ : Device) (t t′ : List Place) (b : List ℕ) (x : Seen) → Steps ask c c′ d d′ t t′ b x
+    → (code count : ℕ) → outcome (limitsOf c) (stateOf c d t) ask (length t) b ≡ refuseWith code count → x .code ≡ 0 → ⊥
+unfolding step result
+refused-code ask c c′ d d′ t t′ b x f code count o z =
+    let k = subst (Known (stateOf c d t .ais) (Plays ask)) o (known-outcome (limitsOf c) (stateOf c d t) ask (length t) b) in
+    never-zero code (k .0) (sym (ap (λ (u : Outcome State). answerOf (limitsOf c) (stateOf c d t) b u .code) o) ∙ ap (λ (a : Told State). a .code) f ∙ z)
 
 -- a table that is checked first: its length is right, or not
-module _ (n : ℕ) (code : ℕ) (o : Outcome) where
-  pub right-table : n ≡ paperLimits .places → (need eqb n (paperLimits .places) else code ⨾ o) ≡ o
-  right-table e = passes _ _ _ (eq-eqb n (paperLimits .places) e)
+module _ (L : Limits) (n : ℕ) (code : ℕ) (o : Outcome State) where
+  pub right-table : n ≡ L .places → (need eqb n (L .places) else code ⨾ o) ≡ o
+  right-table e = passes _ _ _ (eq-eqb n (L .places) e)
 
-  pub wrong-table : (n ≡ paperLimits .places → ⊥) → (need eqb n (paperLimits .places) else code ⨾ o) ≡ refuse code
-  wrong-table e = fails _ _ _ (ne-eqb n (paperLimits .places) e)
+  pub wrong-table : (n ≡ L .places → ⊥) → (need eqb n (L .places) else code ⨾ o) ≡ refuse code
+  wrong-table e = fails _ _ _ (ne-eqb n (L .places) e)
 
-pub by-length {ℓ} : {A : Type ℓ} (n : ℕ) → (n ≡ paperLimits .places → A) → ((n ≡ paperLimits .places → ⊥) → A) → A
-by-length {A = A} n f g = go (eqb n (paperLimits .places)) refl
+pub by-length {ℓ} : {A : Type ℓ} (L : Limits) (n : ℕ) → (n ≡ L .places → A) → ((n ≡ L .places → ⊥) → A) → A
+by-length {A = A} L n f g = go (eqb n (L .places)) refl
   where
-    go : (t : Bool) → eqb n (paperLimits .places) ≡ t → A
-    go true e = f (eqb-true n (paperLimits .places) e)
-    go false e = g (eqb-false n (paperLimits .places) e)
+    go : (t : Bool) → eqb n (L .places) ≡ t → A
+    go true e = f (eqb-true n (L .places) e)
+    go false e = g (eqb-false n (L .places) e)
 
 -- every call but the take is lent a table
 abbrev pub Tabled : Ask → Type 0
@@ -65,122 +77,122 @@ Tabled writeList = Unit {0}
 Tabled playList = Unit {0}
 
 -- a call that is lent a wrong table is refused, whatever the state
-pub refused-table : (s : State) (ask : Ask) (n : ℕ) (b : List ℕ) → Tabled ask → (n ≡ paperLimits .places → ⊥) → outcome paperLimits s ask n b ≡ refuse 14
+pub refused-table : (L : Limits) (s : State) (ask : Ask) (n : ℕ) (b : List ℕ) → Tabled ask → (n ≡ L .places → ⊥) → outcome L s ask n b ≡ refuse 14
 unfolding outcome
-refused-table s (setAttr group attr) n b t w = wrong-table n 14 _ w
-refused-table s (getAttr group attr) n b t w = wrong-table n 14 _ w
-refused-table s (guestTake subclasses external mcheck) n b t w = absurd t
-refused-table s writeList n b t w = wrong-table n 14 _ w
-refused-table s playList n b t w = wrong-table n 14 _ w
-
-pub not-zero : {a : Answer} → a ≡ answered 14 0 → a .code ≡ 0 → ⊥
-not-zero e z = let y : _≡_ {A = ℕ} 14 0 = sym (ap (λ (x : Answer). x .code) e) ∙ z in omega (arith, y)
+refused-table L s (setAttr group attr) n b t w = wrong-table L n 14 _ w
+refused-table L s (getAttr group attr) n b t w = wrong-table L n 14 _ w
+refused-table L s (guestTake subclasses external mcheck) n b t w = absurd t
+refused-table L s writeList n b t w = wrong-table L n 14 _ w
+refused-table L s playList n b t w = wrong-table L n 14 _ w
 
 -- ---- a wrong table: 14, and everything stays
-module _ (c : Controller) (d : Device) (t : List Place) (b : List ℕ) (w : length t ≡ paperLimits .places → ⊥) where
-  wrong-steps : (ask : Ask) → Tabled ask → Steps ask c c d d t t b b (answered 14 0)
+module _ (c : Controller) (d : Device) (t : List Place) (b : List ℕ) (w : length t ≡ limitsOf c .places → ⊥) where
+  wrong-steps : (ask : Ask) → Tabled ask → Steps ask c c d d t t b (saw (answered 14 0) b)
   unfolding step result
-  wrong-steps ask tabled = ap (result paperLimits (stateOf c d t) b) (refused-table (stateOf c d t) ask (length t) b tabled w)
+  wrong-steps ask tabled = ap (answerOf (limitsOf c) (stateOf c d t) b) (refused-table (limitsOf c) (stateOf c d t) ask (length t) b tabled w)
 
-  pub wrong-promises : (ask : Ask) → Tabled ask → Requested ask c c d d t t b b (answered 14 0)
-  wrong-promises ask tabled = record { steps = wrong-steps ask tabled; kept = λ n. (refl, refl, refl, refl); valid = λ e. absurd (w e) }
+  pub wrong-promises : (ask : Ask) → Tabled ask → Requested ask c c d d t t b (saw (answered 14 0) b)
+  wrong-promises ask tabled =
+      record { steps = wrong-steps ask tabled; kept = λ code count o. (refl, refl, refl, refl); valid = λ e. absurd (w e); limits = refl }
 
-  pub wrong-plays : Played c c d d t t b (answered 14 0)
-  wrong-plays = record { steps = wrong-steps playList tt; kept = λ code o. (refl, refl, refl); valid = λ e. absurd (w e) }
-
-  pub wrong-makes : (ais : Bool) → Made ais c c d d t t (answered 14 0)
-  wrong-makes ais = record { right = λ e. absurd (w e); wrong = λ _. (refl, refl, refl, refl) }
+pub wrong-makes : (L : Limits) (ais : Bool) (c : Controller) (d : Device) (t : List Place) → (length t ≡ L .places → ⊥) → Made L ais c c d d t t (answered 14 0)
+wrong-makes L ais c d t w = record { right = λ e. absurd (w e); wrong = λ _. (refl, refl, refl, refl) }
 
 -- ---- set requests, with the right table
-module _ (group attr : ℕ) (c c′ : Controller) (d : Device) (t : List Place) (b : List ℕ) (r : Answer) (e : length t ≡ paperLimits .places) (h : Valid c d t) where
+module _ (group attr : ℕ) (c c′ : Controller) (d : Device) (t : List Place) (b : List ℕ) (r : Answer) (e : length t ≡ limitsOf c .places) (h : Valid c d t) where
   -- the request's answer is the step's
-  as-step : (d′ : Device) (t′ : List Place) → result paperLimits (stateOf c d t) b (request paperLimits (stateOf c d t) (setRequest group) attr b)
-      ≡ tell (r .code) (r .count) (stateOf c′ d′ t′) b → Steps (setAttr group attr) c c′ d d′ t t′ b b r
+  as-step : (d′ : Device) (t′ : List Place) → answerOf (limitsOf c) (stateOf c d t) b (request (limitsOf c) (stateOf c d t) (setRequest group) attr b)
+      ≡ tell (r .code) (r .count) (stateOf c′ d′ t′) b → Steps (setAttr group attr) c c′ d d′ t t′ b (saw r b)
   unfolding step outcome
-  as-step d′ t′ f = ap (result paperLimits (stateOf c d t) b) (right-table (length t) 14 _ e) ∙ f
+  as-step d′ t′ f = ap (answerOf (limitsOf c) (stateOf c d t) b) (right-table (limitsOf c) (length t) 14 _ e) ∙ f
 
   -- about pending records alone: the device record and the table are as they were
-  record-steps : c′ .ais ≡ c .ais → Recorded group attr c c′ b r → Steps (setAttr group attr) c c′ d d t t b b r
+  record-steps : c′ .ais ≡ c .ais → Recorded group attr c c′ b r → Steps (setAttr group attr) c c′ d d t t b (saw r b)
   unfolding stateOf
   record-steps a f =
       as-step d t (f .answer (stateOf c d t) refl
       ∙ (λ i. tell (r .code) (r .count) (record { ais = (sym a) i; adapters = map placeOf t; pending = pendingIn c′; device = deviceOf d }) b))
 
-  pub record-promises : c′ .ais ≡ c .ais → Recorded group attr c c′ b r → Requested (setAttr group attr) c c′ d d t t b b r
+  pub record-promises : c′ .ais ≡ c .ais → Recorded group attr c c′ b r → Requested (setAttr group attr) c c′ d d t t b (saw r b)
   record-promises a f =
       record {
         steps = record-steps a f;
-        kept = λ n. (f .kept n, refl, refl, refl);
-        valid = λ _. record { ready = f .held; places = h .places; sound = next-sound (setAttr group attr) c c′ d d t t b b r h (record-steps a f) };
+        kept = λ code count o. (f .kept (refused-code (setAttr group attr) c c′ d d t t b (saw r b) (record-steps a f) code count o), refl, refl, refl);
+        valid = λ _. record { ready = f .held; places = h .places; sound = next-sound (setAttr group attr) c c′ d d t t b (saw r b) (limits-kept c c′) h (record-steps a f) };
+        limits = limits-kept c c′;
       }
 
 -- an injection: the table is as it was
-module _ (attr : ℕ) (c c′ : Controller) (d : Device) (t : List Place) (b : List ℕ) (r : Answer) (e : length t ≡ paperLimits .places) (h : Valid c d t) (a : c′ .ais ≡ c .ais) (f : Injected attr c c′ d (getD t attr unused) r) where
+module _ (attr : ℕ) (c c′ : Controller) (d : Device) (t : List Place) (b : List ℕ) (r : Answer) (e : length t ≡ limitsOf c .places) (h : Valid c d t) (a : c′ .ais ≡ c .ais) (f : Injected attr c c′ d (getD t attr unused) r) where
   abbrev noted : Device
   noted = notedIn (c .ais) d (getD t attr unused) r
 
-  inject-steps : Steps (setAttr 10 attr) c c′ d noted t t b b r
+  inject-steps : Steps (setAttr 10 attr) c c′ d noted t t b (saw r b)
   unfolding stateOf placeOf choose
   inject-steps =
-      as-step 10 attr c c′ d t b r e h noted t (f .answer b paperLimits (stateOf c d t) refl refl refl refl refl (List·getD-map placeOf t attr unused)
-      ∙ (λ i. record {
-        code = r .code;
-        count = r .count;
-        next = record {
-          ais = (sym a) i;
-          adapters = (ap (set (map placeOf t) attr) (sym (List·getD-map placeOf t attr unused)) ∙ set-getD (map placeOf t) attr free) i;
-          pending = pendingIn c′;
-          device = deviceOf noted;
-        };
-        buffer = b;
-      }))
+      as-step 10 attr c c′ d t b r e h noted t (f .answer b (limitsOf c) (stateOf c d t) refl refl refl refl refl (List·getD-map placeOf t attr unused)
+      ∙ (λ i. tell (r .code) (r .count) (record {
+        ais = (sym a) i;
+        adapters = (ap (set (map placeOf t) attr) (sym (List·getD-map placeOf t attr unused)) ∙ set-getD (map placeOf t) attr free) i;
+        pending = pendingIn c′;
+        device = deviceOf noted;
+      }) b))
 
-  pub inject-promises : Requested (setAttr 10 attr) c c′ d noted t t b b r
+  pub inject-promises : Requested (setAttr 10 attr) c c′ d noted t t b (saw r b)
   inject-promises =
       record {
         steps = inject-steps;
-        kept = λ n. let k = f .kept n in (k .0, k .1, refl, refl);
-        valid = λ _. record { ready = f .held; places = h .places; sound = next-sound (setAttr 10 attr) c c′ d noted t t b b r h inject-steps };
+        kept = λ code count o. let k = f .kept (refused-code (setAttr 10 attr) c c′ d noted t t b (saw r b) inject-steps code count o) in (k .0, k .1, refl, refl);
+        valid = λ _. record { ready = f .held; places = h .places; sound = next-sound (setAttr 10 attr) c c′ d noted t t b (saw r b) (limits-kept c c′) h inject-steps };
+        limits = limits-kept c c′;
       }
 
 -- about an adapter's place, and about the device record: nothing else changes
-module _ (group attr : ℕ) (c : Controller) (d : Device) (t : List Place) (b : List ℕ) (r : Answer) (e : length t ≡ paperLimits .places) (h : Valid c d t) where
-  place-steps : (t′ : List Place) → PlaceSet group attr t t′ b r → Steps (setAttr group attr) c c d d t t′ b b r
+module _ (group attr : ℕ) (c : Controller) (d : Device) (t : List Place) (b : List ℕ) (r : Answer) (e : length t ≡ limitsOf c .places) (h : Valid c d t) where
+  place-steps : (t′ : List Place) → PlaceSet group attr t t′ b r → Steps (setAttr group attr) c c d d t t′ b (saw r b)
   unfolding stateOf
-  place-steps t′ f = as-step group attr c c d t b r e h d t′ (f .answer paperLimits (stateOf c d t) refl refl)
+  place-steps t′ f = as-step group attr c c d t b r e h d t′ (f .answer (limitsOf c) (stateOf c d t) (limits-sized c .places) refl)
 
-  pub place-promises : (t′ : List Place) → PlaceSet group attr t t′ b r → Requested (setAttr group attr) c c d d t t′ b b r
+  pub place-promises : (t′ : List Place) → PlaceSet group attr t t′ b r → Requested (setAttr group attr) c c d d t t′ b (saw r b)
   place-promises t′ f =
       record {
         steps = place-steps t′ f;
-        kept = λ n. (refl, refl, f .kept n, refl);
-        valid = λ _. record { ready = h .ready; places = f .canonical (h .places); sound = next-sound (setAttr group attr) c c d d t t′ b b r h (place-steps t′ f) };
+        kept = λ code count o. (refl, refl, f .kept (refused-code (setAttr group attr) c c d d t t′ b (saw r b) (place-steps t′ f) code count o), refl);
+        valid = λ _. record { ready = h .ready; places = f .canonical (h .places); sound = next-sound (setAttr group attr) c c d d t t′ b (saw r b) (limits-kept c c) h (place-steps t′ f) };
+        limits = refl;
       }
 
-  modes-steps : (d′ : Device) → ModesSet (c .ais) group attr d d′ b r → Steps (setAttr group attr) c c d d′ t t b b r
+  modes-steps : (d′ : Device) → ModesSet (c .ais) group attr d d′ b r → Steps (setAttr group attr) c c d d′ t t b (saw r b)
   unfolding stateOf
-  modes-steps d′ f = as-step group attr c c d t b r e h d′ t (f .answer paperLimits (stateOf c d t) refl refl)
+  modes-steps d′ f = as-step group attr c c d t b r e h d′ t (f .answer (limitsOf c) (stateOf c d t) refl refl)
 
-  pub modes-promises : (d′ : Device) → ModesSet (c .ais) group attr d d′ b r → Requested (setAttr group attr) c c d d′ t t b b r
+  pub modes-promises : (d′ : Device) → ModesSet (c .ais) group attr d d′ b r → Requested (setAttr group attr) c c d d′ t t b (saw r b)
   modes-promises d′ f =
       record {
         steps = modes-steps d′ f;
-        kept = λ n. (refl, f .kept n, refl, refl);
-        valid = λ _. record { ready = h .ready; places = h .places; sound = next-sound (setAttr group attr) c c d d′ t t b b r h (modes-steps d′ f) };
+        kept = λ code count o. (refl, f .kept (refused-code (setAttr group attr) c c d d′ t t b (saw r b) (modes-steps d′ f) code count o), refl, refl);
+        valid = λ _. record { ready = h .ready; places = h .places; sound = next-sound (setAttr group attr) c c d d′ t t b (saw r b) (limits-kept c c) h (modes-steps d′ f) };
+        limits = refl;
       }
 
 -- ---- get requests, with the right table
-module _ (group attr : ℕ) (c : Controller) (d : Device) (t : List Place) (b b′ : List ℕ) (r : Answer) (e : length t ≡ paperLimits .places) (h : Valid c d t) (f : Got group attr c d b b′ r) where
-  get-steps : Steps (getAttr group attr) c c d d t t b b′ r
+module _ (group attr : ℕ) (c : Controller) (d : Device) (t : List Place) (b b′ : List ℕ) (r : Answer) (e : length t ≡ limitsOf c .places) (h : Valid c d t) (f : Got group attr c d b b′ r) where
+  get-steps : Steps (getAttr group attr) c c d d t t b (saw r b′)
   unfolding step outcome stateOf
-  get-steps = ap (result paperLimits (stateOf c d t) b) (right-table (length t) 14 _ e) ∙ f .answer (stateOf c d t) refl refl refl
+  get-steps = ap (answerOf (limitsOf c) (stateOf c d t) b) (right-table (limitsOf c) (length t) 14 _ e) ∙ f .answer (stateOf c d t) refl refl refl
 
-  pub get-promises : Requested (getAttr group attr) c c d d t t b b′ r
-  get-promises = record { steps = get-steps; kept = λ n. (refl, refl, refl, f .kept n); valid = λ _. h }
+  pub get-promises : Requested (getAttr group attr) c c d d t t b (saw r b′)
+  get-promises =
+      record {
+        steps = get-steps;
+        kept = λ code count o. (refl, refl, refl, f .kept (refused-code (getAttr group attr) c c d d t t b (saw r b′) get-steps code count o));
+        valid = λ _. h;
+        limits = refl;
+      }
 
 -- ---- a take: for every device record and every table
 pub take-promises : (subclasses : ℕ) (external mcheck : Bool) (c c′ : Controller) (b b′ : List ℕ) (r : Answer) → c′ .ais ≡ c .ais → Handed subclasses external mcheck c c′ b b′ r
-    → Taken subclasses external mcheck c c′ b b′ r
+    → Taken subclasses external mcheck c c′ b (saw r b′)
 unfolding step outcome stateOf
 take-promises subclasses external mcheck c c′ b b′ r a f =
     record {
@@ -188,16 +200,10 @@ take-promises subclasses external mcheck c c′ b b′ r a f =
           ∙ (λ i. tell (r .code) (r .count) (record { ais = (sym a) i; adapters = map placeOf t; pending = pendingIn c′; device = deviceOf d }) b′);
       kept = f .kept;
       ready = f .held;
+      limits = limits-kept c c′;
     }
 
 -- ---- a fresh controller, with the right table
--- a table that is restored from an image of zeros
-module _ (t : List Place) (e : length t ≡ paperLimits .places) where
-  cleared : restored t (replicate (paperLimits .places) 0) (paperLimits .places) ≡ replicate (paperLimits .places) unused
-  cleared =
-      restored-whole t (replicate (paperLimits .places) 0) (paperLimits .places) e (length-replicate {A = ℕ} (paperLimits .places) 0)
-      ∙ map-replicate unpacked (paperLimits .places) 0 ∙ ap (replicate (paperLimits .places)) unpacked-zero
-
 unused-free : placeOf unused ≡ free
 unfolding placeOf choose
 unused-free = refl
@@ -206,8 +212,13 @@ module _ (ais : Bool) (c c′ : Controller) (d : Device) (t : List Place) (r : S
   abbrev pub started : List Place
   started = restored t (r .image) (r .restored)
 
+  -- a table that is restored from an image of zeros
   table-cleared : started ≡ replicate (paperLimits .places) unused
-  table-cleared = (λ i. restored t (f .started i .image) (f .started i .restored)) ∙ cleared t e
+  table-cleared =
+      (λ i. restored t (f .started i .image) ((ap (λ (x : Started). x .restored) (f .started) ∙ ap (λ (L : Limits). L .places) (limits-made c′)) i))
+      ∙ restored-whole t (replicate imageSize 0) (paperLimits .places) e
+      (length-replicate {A = ℕ} imageSize 0 ∙ sym (limits-sized c′ .places) ∙ ap (λ (L : Limits). L .places) (limits-made c′))
+      ∙ map-replicate unpacked imageSize 0 ∙ (λ i. replicate ((sym (limits-sized c′ .places) ∙ ap (λ (L : Limits). L .places) (limits-made c′)) i) (unpacked-zero i))
 
   started-fresh : stateOf c′ (r .device) started ≡ fresh paperLimits ais
   unfolding stateOf fresh
@@ -219,67 +230,71 @@ module _ (ais : Bool) (c c′ : Controller) (d : Device) (t : List Place) (r : S
         device = deviceOf (f .started i .device);
       }
 
-  pub make-promises : Made ais c c′ d (r .device) t started (r .answer)
+  pub make-promises : Made paperLimits ais c c′ d (r .device) t started (r .answer)
   make-promises =
       record {
         right = λ _. (
           ap (λ (x : Started). x .answer) (f .started),
+          limits-made c′,
           started-fresh,
           record {
             ready = f .held;
             places = subst (All Canonical) (sym table-cleared) (all-replicate Canonical (paperLimits .places) unused canonical-unused);
-            sound = subst (Sound paperLimits) (sym started-fresh) (fresh-sound paperLimits ais);
+            sound = subst (λ (L : Limits). Sound L (stateOf c′ (r .device) started)) (sym (limits-made c′)) (subst (Sound paperLimits) (sym started-fresh) (fresh-sound paperLimits ais));
           },
         );
         wrong = λ w. absurd (w e);
       }
 
 -- ---- move lists, with the right table
-module _ (c : Controller) (d : Device) (t : List Place) (b b′ : List ℕ) (r : Answer) (e : length t ≡ paperLimits .places) (h : Valid c d t) (f : Wrote c d (snapTo t imageSize) b b′ r) where
+module _ (c : Controller) (d : Device) (t : List Place) (b b′ : List ℕ) (r : Answer) (e : length t ≡ limitsOf c .places) (h : Valid c d t) (f : Wrote c d (snapTo t imageSize) b b′ r) where
   imaged : map placeOf t ≡ map placeOf (map unpacked (snapTo t imageSize))
-  imaged = sym (ap (λ (l : List ℕ). map placeOf (map unpacked l)) (snap-all t e) ∙ ap (map placeOf) (unpacked-table t (h .places)))
+  imaged = sym (ap (λ (l : List ℕ). map placeOf (map unpacked l)) (snap-all t (e ∙ limits-sized c .places)) ∙ ap (map placeOf) (unpacked-table t (h .places)))
 
-  write-steps : Steps writeList c c d d t t b b′ r
+  write-steps : Steps writeList c c d d t t b (saw r b′)
   unfolding step outcome stateOf
-  write-steps = ap (result paperLimits (stateOf c d t) b) (right-table (length t) 14 _ e) ∙ f .answer (stateOf c d t) refl imaged refl refl
+  write-steps = ap (answerOf (limitsOf c) (stateOf c d t) b) (right-table (limitsOf c) (length t) 14 _ e) ∙ f .answer (stateOf c d t) refl imaged refl refl
 
-  pub write-promises : Requested writeList c c d d t t b b′ r
-  write-promises = record { steps = write-steps; kept = λ n. (refl, refl, refl, f .kept n); valid = λ _. h }
+  pub write-promises : Requested writeList c c d d t t b (saw r b′)
+  write-promises =
+      record {
+        steps = write-steps;
+        kept = λ code count o. (refl, refl, refl, f .kept (refused-code writeList c c d d t t b (saw r b′) write-steps code count o));
+        valid = λ _. h;
+        limits = refl;
+      }
 
-module _ (c c′ : Controller) (d : Device) (t : List Place) (b : List ℕ) (r : Started) (a : c′ .ais ≡ c .ais) (e : length t ≡ paperLimits .places) (h : Valid c d t) (f : Replayed c c′ b r) where
+module _ (c c′ : Controller) (d : Device) (t : List Place) (b : List ℕ) (r : Started) (a : c′ .ais ≡ c .ais) (e : length t ≡ limitsOf c .places) (h : Valid c d t) (f : Replayed c c′ b r) where
   -- the machine's next state, whether the controller was made fresh or not
   next : State
-  next = choose (eqb (r .restored) 0) (stateOf c d t) (playedState c′ r)
+  next = choose (eqb (r .restored) 0) (stateOf c d t) (playedState (limitsOf c .places) c′ r)
 
-  told : step paperLimits (stateOf c d t) (record { ask = playList; buffer = b; tableLength = length t })
+  told : step (limitsOf c) (stateOf c d t) (record { ask = playList; buffer = b; tableLength = length t })
       ≡ tell (r .answer .code) (r .answer .count) next b
   unfolding step outcome stateOf next
-  told = ap (result paperLimits (stateOf c d t) b) (right-table (length t) 14 _ e) ∙ f .answer (stateOf c d t) refl
+  told = ap (answerOf (limitsOf c) (stateOf c d t) b) (right-table (limitsOf c) (length t) 14 _ e) ∙ f .answer (stateOf c d t) refl
 
   -- a refusal of form
-  form : (code : ℕ) → outcome paperLimits (stateOf c d t) playList (length t) b ≡ refuse code → r .restored ≡ 0
+  form : (code count : ℕ) → outcome (limitsOf c) (stateOf c d t) playList (length t) b ≡ refuseWith code count → r .restored ≡ 0
   unfolding outcome stateOf
-  form code o = f .form (stateOf c d t) refl code (sym (right-table (length t) 14 _ e) ∙ o)
+  form code count o = f .form (stateOf c d t) refl code count (sym (right-table (limitsOf c) (length t) 14 _ e) ∙ o)
 
   -- nothing was changed
   module _ (z : r .restored ≡ 0) where
-    same-steps : Steps playList c c′ d d t t b b (r .answer)
+    same-steps : Steps playList c c′ d d t t b (saw (r .answer) b)
     unfolding next
     same-steps =
         told
-        ∙ (λ i. record {
-          code = r .answer .code;
-          count = r .answer .count;
-          next = (chosen _ (stateOf c d t) (playedState c′ r) (eq-eqb (r .restored) 0 z) ∙ (λ j. stateOf ((sym (f .same z)) j) d t)) i;
-          buffer = b;
-        })
+        ∙ (λ i. tell (r .answer .code) (r .answer .count)
+        ((chosen _ (stateOf c d t) (playedState (limitsOf c .places) c′ r) (eq-eqb (r .restored) 0 z) ∙ (λ j. stateOf ((sym (f .same z)) j) d t)) i) b)
 
-    pub same-promises : Played c c′ d d t t b (r .answer)
+    pub same-promises : Requested playList c c′ d d t t b (saw (r .answer) b)
     same-promises =
         record {
           steps = same-steps;
-          kept = λ code o. (f .same z, refl, refl);
-          valid = λ _. record { ready = f .held; places = h .places; sound = next-sound playList c c′ d d t t b b (r .answer) h same-steps };
+          kept = λ code count o. (f .same z, refl, refl, refl);
+          valid = λ _. record { ready = f .held; places = h .places; sound = next-sound playList c c′ d d t t b (saw (r .answer) b) (limits-kept c c′) h same-steps };
+          limits = limits-kept c c′;
         }
 
   -- made fresh: the image has all places, since the next state is sound
@@ -287,38 +302,34 @@ module _ (c c′ : Controller) (d : Device) (t : List Place) (b : List ℕ) (r :
     abbrev after : List Place
     after = restored t (r .image) (r .restored)
 
-    next-played : next ≡ playedState c′ r
+    next-played : next ≡ playedState (limitsOf c .places) c′ r
     unfolding next
     next-played = passed _ _ _ (ne-eqb (r .restored) 0 n)
 
-    long : paperLimits .places ≤ length (r .image)
+    long : limitsOf c .places ≤ length (r .image)
     long =
-        let k = subst (Sound paperLimits) (ap (λ (x : Told). x .next) told ∙ next-played) (kept-step paperLimits (stateOf c d t) (h .sound) _ .sound) in
-        let l = sym (length-map (take (paperLimits .places) (r .image)) unpacked) ∙ sym (length-map (map unpacked (take (paperLimits .places) (r .image))) placeOf) ∙ k .table in
-        omega (arith, l, length-take (paperLimits .places) (r .image))
+        let k = subst (Sound (limitsOf c)) (ap (λ (x : Told State). x .next) told ∙ next-played) (kept-step (limitsOf c) (stateOf c d t) (h .sound) _ .sound) in
+        let l = sym (length-map (take (limitsOf c .places) (r .image)) unpacked) ∙ sym (length-map (map unpacked (take (limitsOf c .places) (r .image))) placeOf) ∙ k .table in
+        omega (arith, l, length-take (limitsOf c .places) (r .image))
 
-    after-is : after ≡ map unpacked (take (paperLimits .places) (r .image))
-    after-is = ap (restored t (r .image)) (f .whole n) ∙ restored-all t (r .image) (paperLimits .places) e long
+    after-is : after ≡ map unpacked (take (limitsOf c .places) (r .image))
+    after-is = ap (restored t (r .image)) (f .whole n) ∙ restored-all t (r .image) (limitsOf c .places) e long
 
-    play-steps : Steps playList c c′ d (r .device) t after b b (r .answer)
+    play-steps : Steps playList c c′ d (r .device) t after b (saw (r .answer) b)
     unfolding stateOf
     play-steps =
         told
-        ∙ (λ i. record {
-          code = r .answer .code;
-          count = r .answer .count;
-          next = (next-played ∙ ap (λ (l : List Place). stateOf c′ (r .device) l) (sym after-is)) i;
-          buffer = b;
-        })
+        ∙ (λ i. tell (r .answer .code) (r .answer .count) ((next-played ∙ ap (λ (l : List Place). stateOf c′ (r .device) l) (sym after-is)) i) b)
 
-    pub play-promises : Played c c′ d (r .device) t after b (r .answer)
+    pub play-promises : Requested playList c c′ d (r .device) t after b (saw (r .answer) b)
     play-promises =
         record {
           steps = play-steps;
-          kept = λ code o. absurd (n (form code o));
+          kept = λ code count o. absurd (n (form code count o));
           valid = λ _. record {
             ready = f .held;
             places = subst (All Canonical) (sym after-is) (f .canonical);
-            sound = next-sound playList c c′ d (r .device) t after b b (r .answer) h play-steps;
+            sound = next-sound playList c c′ d (r .device) t after b (saw (r .answer) b) (limits-kept c c′) h play-steps;
           };
+          limits = limits-kept c c′;
         }

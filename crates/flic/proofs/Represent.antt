@@ -10,7 +10,7 @@ use lib.ListN.{length, getD, take, drop, replicate, length-append, length-replic
 use lib.Seq.{take-at, drop-at}
 use Rattle.rules.specs.Bytes.{choose}
 use Rattle.rules.specs.State as rules
-use Rattle.rules.specs.State.{State, Pending, Record, free, holds, queued, listing, paperLimits}
+use Rattle.rules.specs.State.{Limits, State, Pending, Record, free, holds, queued, listing}
 use Rattle.rules.specs.Invariant.{All, Maybe, SoundPlace, Whole, IsKind, SoundPending, Sound}
 use Rattle.rules.proofs.Lists.{flatten-append}
 use Rattle.rules.proofs.Reachable.{listing-sendable}
@@ -23,6 +23,8 @@ use Rattle.memory.specs.Order.{upFrom}
 use Rattle.memory.proofs.Laws.{up-apart}
 use Rattle.records.specs.Memory.{pendingOf}
 use Rattle.controller.specs.declared.Controller.{Controller}
+use Rattle.controller.specs.Limits.{limitsOf}
+use Rattle.controller.proofs.Limits.{limits-sized, limits-kept}
 use Rattle.flic.specs.Surface.{stateOf, Ready, Valid}
 use Rattle.flic.specs.Chain.{Host}
 
@@ -138,7 +140,7 @@ module _ (s m : Option Record) (hs : length (body s) ≡ 72) (hm : length (body 
       ∙ back m
 
 -- ---- a host for a state
-module _ (p : Pending) (h : SoundPending p) (few : queued p ≤ paperLimits .room) where
+module _ (p : Pending) (h : SoundPending p) (few : queued p ≤ slotCount) where
   qs : List (List Record)
   qs = p .io ++ (p .done ∷ [])
 
@@ -152,14 +154,14 @@ module _ (p : Pending) (h : SoundPending p) (few : queued p ≤ paperLimits .roo
       subst (All Whole) (sym all-records)
       (all-left Whole (flatten (p .io) ++ p .done) _ (subst (All Whole) (sym (append-assoc (flatten (p .io)) (p .done) _)) (listing-sendable p h .whole)))
 
-  fits : length (flatten qs) ≤ paperLimits .room
+  fits : length (flatten qs) ≤ slotCount
   fits = omega (arith, ap length all-records, length-append (flatten (p .io)) (p .done), few)
 
   controllerFor : Bool → Controller
   controllerFor ais =
       record {
         slots = flatten (flatten qs) ++ replicate (slotCount * 72 - length (flatten (flatten qs))) 0;
-        order = upFrom 0 (paperLimits .room);
+        order = upFrom 0 slotCount;
         counts = map length qs;
         singles = singlesFor (p .service) (p .mchk);
         ais = ais;
@@ -167,14 +169,14 @@ module _ (p : Pending) (h : SoundPending p) (few : queued p ≤ paperLimits .roo
 
   held : (ais : Bool) → Held (controllerFor ais .order) (controllerFor ais .counts)
   unfolding controllerFor
-  held ais = record { apart = up-apart (paperLimits .room); few = omega (arith, sum-lengths qs, fits) }
+  held ais = record { apart = up-apart slotCount; few = omega (arith, sum-lengths qs, fits) }
 
   queues-back : (ais : Bool) → queues (controllerFor ais .order) (controllerFor ais .counts) (controllerFor ais .slots) ≡ qs
   unfolding queues controllerFor
   queues-back ais =
       ap (cut (map length qs))
-      (ap (λ (n : ℕ). listed 72 (upFrom 0 (paperLimits .room)) n (flatten (flatten qs) ++ replicate (slotCount * 72 - length (flatten (flatten qs))) 0)) (sum-lengths qs)
-      ∙ listed-back (paperLimits .room) (flatten qs) _ fits whole)
+      (ap (λ (n : ℕ). listed 72 (upFrom 0 slotCount) n (flatten (flatten qs) ++ replicate (slotCount * 72 - length (flatten (flatten qs))) 0)) (sum-lengths qs)
+      ∙ listed-back slotCount (flatten qs) _ fits whole)
       ∙ cut-back qs
 
   pending-back : (ais : Bool) → pendingOf (controllerFor ais .order) (controllerFor ais .counts) (controllerFor ais .slots) (controllerFor ais .singles) ≡ p
@@ -194,27 +196,34 @@ pub record Keeps (p : Pending) (ais : Bool) : Type 0 where
   pub same-ais : ctl .ais ≡ ais
   pub ready : Ready ctl
 
-pub keep : (p : Pending) → SoundPending p → queued p ≤ paperLimits .room → (ais : Bool) → Keeps p ais
+pub keep : (p : Pending) → SoundPending p → queued p ≤ slotCount → (ais : Bool) → Keeps p ais
 unfolding controllerFor
 keep p h few ais = record { ctl = controllerFor p h few ais; pending = pending-back p h few ais; same-ais = refl; ready = held p h few ais }
 
--- a host for a state
-pub record Represents (s : State) : Type 0 where
+-- a host for a state, with the limits of a controller
+pub record Represents (c : Controller) (s : State) : Type 0 where
   pub host : Host
   pub state : stateOf (host .ctl) (host .dev) (host .tab) ≡ s
   pub good : Valid (host .ctl) (host .dev) (host .tab)
+  pub limits : limitsOf (host .ctl) ≡ limitsOf c
 
-pub represent : (s : State) → Sound paperLimits s → Represents s
+pub represent : (c : Controller) (s : State) → Sound (limitsOf c) s → Represents c s
 unfolding stateOf
-represent s h =
+represent c s h =
     record {
       host = host;
       state = is;
-      good = record { ready = k .ready; places = places-canonical (s .adapters) (h .adapters); sound = subst (Sound paperLimits) (sym is) h };
+      good =
+          record {
+            ready = k .ready;
+            places = places-canonical (s .adapters) (h .adapters);
+            sound = subst (λ (L : Limits). Sound L (stateOf (host .ctl) (host .dev) (host .tab))) (limits-kept (k .ctl) c) (subst (Sound (limitsOf c)) (sym is) h);
+          };
+      limits = limits-kept c (k .ctl);
     }
   where
     k : Keeps (s .pending) (s .ais)
-    k = keep (s .pending) (h .pending) (h .within) (s .ais)
+    k = keep (s .pending) (h .pending) (subst (λ (n : ℕ). queued (s .pending) ≤ n) (limits-sized c .room) (h .within)) (s .ais)
 
     host : Host
     host =

@@ -8,167 +8,153 @@ use mathlib.Core.List.{List, [], _∷_, _++_, map}
 use lib.ListN.{length, drop, replicate, length-replicate}
 use lib.ListN.{take as first}
 use lib.Dec.{leb}
-use Rattle.rules.specs.State.{State, Pending, recordBytes, paperLimits, fresh, withPending}
-use Rattle.rules.specs.Outcome.{Outcome, refuse, accept, reset, result, tell}
-use Rattle.rules.specs.Machine.{Ask, setAttr, getAttr, guestTake, writeList, playList, Call, Seen, outcome, step}
+use Rattle.rules.specs.State.{Limits, State, Pending, recordBytes, queued, paperLimits, fresh, withPending}
+use Rattle.rules.specs.Outcome.{Outcome, refuseWith, accept, resetWith, tellWith, tell, result, Seen, answering}
+use Rattle.rules.specs.Machine.{Ask, setAttr, getAttr, guestTake, writeList, playList, Call, outcome, step, answerOf}
 use Rattle.rules.specs.MoveList.{listRequests, total}
 use Rattle.rules.specs.Take.{Handed, handed, handsOut, takes}
 use Rattle.rules.proofs.Checks.{passes, fails}
 use Rattle.rules.specs.Invariant.{Sound}
 use Rattle.rules.proofs.Reachable.{kept-step, fresh-sound}
-use Rattle.rules.proofs.Shapes.{Shape, Any, None, Sets, Gets, set-shape, get-shape, write-shape, play-shape}
+use Rattle.rules.proofs.Shapes.{Sets, Gets, shaped}
+use Rattle.rules.proofs.Outcomes.{Known, Plays, known-outcome}
 use Rattle.answers.specs.declared.Answer.{Answer}
 use Rattle.adapters.specs.declared.Device.{Device}
 use Rattle.adapters.specs.declared.Place.{Place}
 use Rattle.adapters.specs.Values.{unused, placeOf, deviceOf}
 use Rattle.records.specs.Memory.{pendingOf}
 use Rattle.controller.specs.declared.Controller.{Controller}
-use Rattle.flic.specs.Surface.{stateOf, Valid, Steps, Requested, Taken, Played}
-use Rattle.flic.specs.Chain.{Host, Lends, its-own, another, asked, Ran, end, set, get, take, write, play, LentPremise, Premises}
-use Rattle.flic.proofs.Promises.{by-length, Tabled, refused-table, wrong-promises}
-use Rattle.flic.proofs.Follows.{hostState, Good, own-length, requested, taken, played, follows}
+use Rattle.controller.specs.Limits.{limitsOf}
+use Rattle.controller.proofs.Limits.{limits-sized, limits-made, limits-kept}
+use Rattle.flic.specs.Surface.{stateOf, Valid, Requested, Taken}
+use Rattle.flic.specs.Chain.{Host, Lends, its-own, another, asked, Leaves, Ran, end, asks, take, LentPremise, Premises}
+use Rattle.flic.proofs.Promises.{by-length, Tabled, refused-table}
+use Rattle.flic.proofs.Follows.{hostState, Good, own-length, tabled, requested, taken}
 use Rattle.flic.specs.Claim.{Fresh, machine, Moved}
-use Rattle.flic.proofs.Claim.{fresh-good, good₁, good-second}
+use Rattle.flic.proofs.Claim.{fresh-good, ran-good, good₁, good-second}
 use Rattle.flic.proofs.Represent.{keep, Represents, represent}
-use Rattle.answers.specs.Answers.{answered}
+use Rattle.answers.specs.Answers.{answered, saw}
 
 -- ---- every contract has an answer
 module _ (c : Controller) (d : Device) (t : List Place) where
+  abbrev L : Limits
+  L = limitsOf c
+
   abbrev s : State
   s = stateOf c d t
 
-  -- a refused call: everything stays
-  stays : (ask : Ask) (b : List ℕ) (code : ℕ) → (length t ≡ paperLimits .places → Valid c d t) → outcome paperLimits s ask (length t) b ≡ refuse code
-      → Requested ask c c d d t t b b (answered code 0)
-  unfolding step result
-  stays ask b code v e = record { steps = ap (result paperLimits s b) e; kept = λ n. (refl, refl, refl, refl); valid = v }
-
-  pub record SetTo (group attr : ℕ) (b : List ℕ) : Type 0 where
+  -- What a call that is lent a table can come to: its contract has this answer.
+  pub record AnswerTo (ask : Ask) (b : List ℕ) : Type 0 where
     pub c′ : Controller
     pub d′ : Device
     pub t′ : List Place
     pub r : Answer
-    pub said : Requested (setAttr group attr) c c′ d d′ t t′ b b r
-
-  pub record GetTo (ask : Ask) (b : List ℕ) : Type 0 where
     pub b′ : List ℕ
-    pub r : Answer
-    pub said : Requested ask c c d d t t b b′ r
+    pub leaves : Leaves ask c c′ d d′ t t′ b b′
+    pub said : Requested ask c c′ d d′ t t′ b (saw r b′)
 
-  pub record PlayTo (b : List ℕ) : Type 0 where
-    pub c′ : Controller
-    pub d′ : Device
-    pub t′ : List Place
-    pub r : Answer
-    pub said : Played c c′ d d′ t t′ b r
+  all-left : (ask : Ask) → Tabled ask → (b : List ℕ) → Leaves ask c c d d t t b b
+  all-left (setAttr group attr) k b = refl
+  all-left (getAttr group attr) k b = (refl, refl, refl)
+  all-left (guestTake subclasses external mcheck) k b = k
+  all-left writeList k b = (refl, refl, refl)
+  all-left playList k b = refl
 
-  module _ (v : length t ≡ paperLimits .places → Valid c d t) where
-    -- a call with a wrong table is refused
-    wrong : (ask : Ask) → Tabled ask → (b : List ℕ) → (length t ≡ paperLimits .places → ⊥) → Requested ask c c d d t t b b (answered 14 0)
-    wrong ask tabled b w = wrong-promises c d t b w ask tabled
-
-    -- the next state of an accepted call is that of a host
-    next-host : (ask : Ask) (b : List ℕ) (count : ℕ) (next : State) (written : List ℕ) → length t ≡ paperLimits .places
-        → outcome paperLimits s ask (length t) b ≡ accept count next written → Represents next
+  module _ (v : length t ≡ L .places → Valid c d t) (b : List ℕ) where
+    -- a refused call: everything stays
+    stays : (ask : Ask) → Tabled ask → (code count : ℕ) → outcome L s ask (length t) b ≡ refuseWith code count → AnswerTo ask b
     unfolding step result
-    next-host ask b count next written e f =
-        represent next (subst (Sound paperLimits) (ap (λ (o : Outcome). result paperLimits s b o .next) f) (kept-step paperLimits s (v e .sound) (asked ask b (length t)) .sound))
+    stays ask k code count e =
+        record {
+          c′ = c;
+          d′ = d;
+          t′ = t;
+          r = answered code count;
+          b′ = b;
+          leaves = all-left ask k b;
+          said = record { steps = ap (answerOf L s b) e; kept = λ code count o. (refl, refl, refl, refl); valid = v; limits = refl };
+        }
 
-    accepts : (ask : Ask) (b : List ℕ) (count : ℕ) (next : State) (written : List ℕ) (k : Represents next) → written ≡ []
-        → outcome paperLimits s ask (length t) b ≡ accept count next written
-        → Steps ask c (k .host .ctl) d (k .host .dev) t (k .host .tab) b b (answered 0 count)
+    -- a call that leaves the state, and writes: a get, the writing of a list
+    reads : (ask : Ask) → Tabled ask → (Plays ask → ⊥) → ((b′ : List ℕ) → Leaves ask c c d d t t b b′) → (o : Outcome State)
+        → outcome L s ask (length t) b ≡ o → Gets s o → Known (s .ais) (Plays ask) o → AnswerTo ask b
     unfolding step result
-    accepts ask b count next written k w f =
-        ap (result paperLimits s b) f
-        ∙ (λ i. tell 0 count ((sym (k .state)) i) (ap (λ (l : List ℕ). l ++ drop (length l) b) w i))
+    reads ask k other left (refuseWith code count) e g w = stays ask k code count e
+    reads ask k other left (accept count next written) e g w =
+        record {
+          c′ = c;
+          d′ = d;
+          t′ = t;
+          r = answered 0 count;
+          b′ = written ++ drop (length written) b;
+          leaves = left _;
+          said =
+              record {
+                steps = ap (answerOf L s b) e ∙ (λ i. tell 0 count (g .0 i) (written ++ drop (length written) b));
+                kept = λ code n o. absurd (true≢false (let z : true ≡ false = cc in z));
+                valid = v;
+                limits = refl;
+              };
+        }
+    reads ask k other left (resetWith code place further) e g w = absurd (other (w .0))
 
-    pub get-to : (ask : Ask) (b : List ℕ) → Gets s (outcome paperLimits s ask (length t) b) → GetTo ask b
+    -- a call that changes the state, and writes nothing: a set, the playing of a list. The next state is that of a host.
+    becomes : (ask : Ask) → ((c′ : Controller) (d′ : Device) (t′ : List Place) → Leaves ask c c′ d d′ t t′ b b) → (r : Answer) (next : State)
+        → Sound L next → step L s (asked ask b (length t)) ≡ answering (saw r b) next
+        → ((code count : ℕ) → outcome L s ask (length t) b ≡ refuseWith code count → ⊥) → AnswerTo ask b
+    becomes ask left r next h e not-refused =
+        let k = represent c next h in
+        record {
+          c′ = k .host .ctl;
+          d′ = k .host .dev;
+          t′ = k .host .tab;
+          r = r;
+          b′ = b;
+          leaves = left (k .host .ctl) (k .host .dev) (k .host .tab);
+          said =
+              record {
+                steps = e ∙ ap (answering (saw r b)) (sym (k .state));
+                kept = λ code count o. absurd (not-refused code count o);
+                valid = λ n. k .good;
+                limits = k .limits;
+              };
+        }
+
+    changes : (ask : Ask) → Tabled ask → ((c′ : Controller) (d′ : Device) (t′ : List Place) → Leaves ask c c′ d d′ t t′ b b) → length t ≡ L .places
+        → (o : Outcome State) → outcome L s ask (length t) b ≡ o → Sets o → Known (s .ais) (Plays ask) o → AnswerTo ask b
     unfolding step result
-    get-to ask b h = go (outcome paperLimits s ask (length t) b) refl h
-      where
-        go : (o : Outcome) → outcome paperLimits s ask (length t) b ≡ o → Gets s o → GetTo ask b
-        go (refuse code) e g = record { b′ = b; r = answered code 0; said = stays ask b code v e }
-        go (accept count next written) e g =
-            record {
-              b′ = written ++ drop (length written) b;
-              r = answered 0 count;
-              said =
-                  record {
-                    steps = ap (result paperLimits s b) e ∙ (λ i. tell 0 count (g .0 i) (written ++ drop (length written) b));
-                    kept = λ n. absurd (n refl);
-                    valid = v;
-                  };
-            }
-        go (reset code place) e g = absurd g
+    changes ask k left n (refuseWith code count) e g w = stays ask k code count e
+    changes ask k left n (accept count next written) e g w =
+        becomes ask left (answered 0 count) next
+        (subst (Sound L) (ap (λ (o : Outcome State). answerOf L s b o .next) e) (kept-step L s (v n .sound) (asked ask b (length t)) .sound))
+        (ap (answerOf L s b) e ∙ ap (λ (l : List ℕ). tell 0 count next (l ++ drop (length l) b)) (g .1))
+        (λ code n o. true≢false (let z : true ≡ false = cc in z))
+    changes ask k left n (resetWith code place further) e g w =
+        becomes ask left (answered code place) (fresh L (s .ais)) (fresh-sound L (s .ais))
+        (ap (answerOf L s b) e ∙ ap (λ (m : ℕ). tellWith code place m (fresh L (s .ais)) b) (w .2))
+        (λ code n o. true≢false (let z : true ≡ false = cc in z))
 
-    pub set-to : (group attr : ℕ) (b : List ℕ) → SetTo group attr b
-    set-to group attr b =
-        by-length (length t)
-        (λ n. go n (outcome paperLimits s (setAttr group attr) (length t) b) refl (set-shape paperLimits s group attr (length t) b))
-        (λ w. record { c′ = c; d′ = d; t′ = t; r = answered 14 0; said = wrong (setAttr group attr) tt b w })
-      where
-        go : length t ≡ paperLimits .places → (o : Outcome) → outcome paperLimits s (setAttr group attr) (length t) b ≡ o → Sets o → SetTo group attr b
-        go n (refuse code) e g = record { c′ = c; d′ = d; t′ = t; r = answered code 0; said = stays (setAttr group attr) b code v e }
-        go n (accept count next written) e g =
-            let k = next-host (setAttr group attr) b count next written n e in
-            record {
-              c′ = k .host .ctl;
-              d′ = k .host .dev;
-              t′ = k .host .tab;
-              r = answered 0 count;
-              said = record { steps = accepts (setAttr group attr) b count next written k (g .1) e; kept = λ n. absurd (n refl); valid = λ n. k .good };
-            }
-        go n (reset code place) e g = absurd g
-
-    pub play-to : (b : List ℕ) → PlayTo b
-    unfolding step result
-    play-to b =
-        by-length (length t)
-        (λ n. go n (outcome paperLimits s playList (length t) b) refl (play-shape paperLimits s (length t) b))
-        (λ w. same 14 (refused-table s playList (length t) b tt w))
-      where
-        same : (code : ℕ) → outcome paperLimits s playList (length t) b ≡ refuse code → PlayTo b
-        same code e =
-            record {
-              c′ = c;
-              d′ = d;
-              t′ = t;
-              r = answered code 0;
-              said = record { steps = ap (result paperLimits s b) e; kept = λ _ _. (refl, refl, refl); valid = v };
-            }
-
-        go : length t ≡ paperLimits .places → (o : Outcome) → outcome paperLimits s playList (length t) b ≡ o → Shape Any None (Unit {0}) o → PlayTo b
-        go n (refuse code) e g = same code e
-        go n (accept count next written) e g =
-            let k = next-host playList b count next written n e in
-            record {
-              c′ = k .host .ctl;
-              d′ = k .host .dev;
-              t′ = k .host .tab;
-              r = answered 0 count;
-              said = record { steps = accepts playList b count next written k (g .1) e; kept = λ code f. absurd (true≢false (let z : true ≡ false = cc in z)); valid = λ n. k .good };
-            }
-        go n (reset code place) e g =
-            let k = represent (fresh paperLimits (s .ais)) (fresh-sound paperLimits (s .ais)) in
-            record {
-              c′ = k .host .ctl;
-              d′ = k .host .dev;
-              t′ = k .host .tab;
-              r = answered code place;
-              said =
-                  record {
-                    steps = ap (result paperLimits s b) e ∙ (λ i. tell code place ((sym (k .state)) i) b);
-                    kept = λ code f. absurd (true≢false (let z : true ≡ false = cc in z));
-                    valid = λ n. k .good;
-                  };
-            }
+    pub answer-to : (ask : Ask) → Tabled ask → AnswerTo ask b
+    answer-to (setAttr group attr) k =
+        by-length L (length t)
+        (λ n. changes (setAttr group attr) k (λ _ _ _. refl) n _ refl (shaped L s (setAttr group attr) (length t) b) (known-outcome L s (setAttr group attr) (length t) b))
+        (λ w. stays (setAttr group attr) k 14 0 (refused-table L s (setAttr group attr) (length t) b k w))
+    answer-to (getAttr group attr) k =
+        reads (getAttr group attr) k (λ p. p) (λ _. (refl, refl, refl)) _ refl (shaped L s (getAttr group attr) (length t) b) (known-outcome L s (getAttr group attr) (length t) b)
+    answer-to (guestTake subclasses external mcheck) k = absurd k
+    answer-to writeList k =
+        reads writeList k (λ p. p) (λ _. (refl, refl, refl)) _ refl (shaped L s writeList (length t) b) (known-outcome L s writeList (length t) b)
+    answer-to playList k =
+        by-length L (length t)
+        (λ n. changes playList k (λ _ _ _. refl) n _ refl (shaped L s playList (length t) b) (known-outcome L s playList (length t) b))
+        (λ w. stays playList k 14 0 (refused-table L s playList (length t) b k w))
 
 -- ---- the take, which is lent no table
 pub record TakeTo (c : Controller) (subclasses : ℕ) (external mcheck : Bool) (b : List ℕ) : Type 0 where
   pub c′ : Controller
-  pub b′ : List ℕ
   pub r : Answer
-  pub said : Taken subclasses external mcheck c c′ b b′ r
+  pub b′ : List ℕ
+  pub said : Taken subclasses external mcheck c c′ b (saw r b′)
 
 pub take-to : (h : Host) → Good h → (subclasses : ℕ) (external mcheck : Bool) (b : List ℕ) → TakeTo (h .ctl) subclasses external mcheck b
 unfolding step outcome takes handsOut result stateOf
@@ -184,29 +170,31 @@ take-to h g subclasses external mcheck b = short (leb recordBytes (length b)) re
     hands none e f =
         record {
           c′ = h .ctl;
-          b′ = b;
           r = answered 0 0;
+          b′ = b;
           said =
               record {
-                steps = λ d t. ap (result paperLimits (stateOf (h .ctl) d t) b) (passes _ _ _ f ∙ ap (handsOut (stateOf (h .ctl) d t)) e);
+                steps = λ d t. ap (answerOf (limitsOf (h .ctl)) (stateOf (h .ctl) d t) b) (passes _ _ _ f ∙ ap (handsOut (stateOf (h .ctl) d t)) e);
                 kept = λ n. (refl, refl);
                 ready = g .ready;
+                limits = refl;
               };
         }
     hands (some x) e f =
-        let u = kept-step paperLimits (hostState h) (g .sound) (asked ask b 0) .sound in
-        let w : Sound paperLimits (withPending (x .left) (hostState h)) = subst (Sound paperLimits) (ap (λ (o : Outcome). result paperLimits (hostState h) b o .next) (passes _ _ _ f ∙ ap (handsOut (hostState h)) e)) u in
-        let k = keep (x .left) (w .pending) (w .within) (h .ctl .ais) in
+        let u = kept-step (limitsOf (h .ctl)) (hostState h) (g .sound) (asked ask b 0) .sound in
+        let w : Sound (limitsOf (h .ctl)) (withPending (x .left) (hostState h)) = subst (Sound (limitsOf (h .ctl))) (ap (λ (o : Outcome State). answerOf (limitsOf (h .ctl)) (hostState h) b o .next) (passes _ _ _ f ∙ ap (handsOut (hostState h)) e)) u in
+        let k = keep (x .left) (w .pending) (subst (λ (n : ℕ). queued (x .left) ≤ n) (limits-sized (h .ctl) .room) (w .within)) (h .ctl .ais) in
         record {
           c′ = k .ctl;
-          b′ = x .given ++ drop (length (x .given)) b;
           r = answered 0 1;
+          b′ = x .given ++ drop (length (x .given)) b;
           said =
               record {
-                steps = λ d t. ap (result paperLimits (stateOf (h .ctl) d t) b) (passes _ _ _ f ∙ ap (handsOut (stateOf (h .ctl) d t)) e)
+                steps = λ d t. ap (answerOf (limitsOf (h .ctl)) (stateOf (h .ctl) d t) b) (passes _ _ _ f ∙ ap (handsOut (stateOf (h .ctl) d t)) e)
                     ∙ (λ i. tell 0 1 (record { ais = (sym (k .same-ais)) i; adapters = map placeOf t; pending = (sym (k .pending)) i; device = deviceOf d }) (x .given ++ drop (length (x .given)) b));
                 kept = λ n. absurd (n refl);
                 ready = k .ready;
+                limits = limits-kept (h .ctl) (k .ctl);
               };
         }
 
@@ -215,9 +203,9 @@ take-to h g subclasses external mcheck b = short (leb recordBytes (length b)) re
     short false f =
         record {
           c′ = h .ctl;
-          b′ = b;
           r = answered 14 0;
-          said = record { steps = λ d t. ap (result paperLimits (stateOf (h .ctl) d t) b) (fails _ _ _ f); kept = λ n. (refl, refl); ready = g .ready };
+          b′ = b;
+          said = record { steps = λ d t. ap (answerOf (limitsOf (h .ctl)) (stateOf (h .ctl) d t) b) (fails _ _ _ f); kept = λ n. (refl, refl); ready = g .ready; limits = refl };
         }
 
 -- ---- every list of calls
@@ -225,13 +213,13 @@ take-to h g subclasses external mcheck b = short (leb recordBytes (length b)) re
 record Table (h : Host) (n : ℕ) : Type 0 where
   lent : List Place
   places : length lent ≡ n
-  valid : length lent ≡ paperLimits .places → Valid (h .ctl) (h .dev) lent
+  valid : length lent ≡ limitsOf (h .ctl) .places → Valid (h .ctl) (h .dev) lent
   own : List Place → List Place
-  lends : (left : List Place) → Lends (h .tab) lent left (own left)
+  lends : (left : List Place) → Lends (limitsOf (h .ctl)) (h .tab) lent left (own left)
 
 table : (h : Host) → Good h → (n : ℕ) → Table h n
 table h g n =
-    by-length n
+    by-length (limitsOf (h .ctl)) n
     (λ e. record { lent = h .tab; places = own-length h g ∙ sym e; valid = λ _. g; own = λ left. left; lends = λ left. its-own refl })
     (λ w. record {
       lent = replicate n unused;
@@ -249,63 +237,48 @@ pub record Chain (h : Host) (cs : List Call) : Type 0 where
 as-asked : (h : Host) (ask : Ask) (b : List ℕ) (cs : List Call) {m n : ℕ} → m ≡ n → Chain h (asked ask b m ∷ cs) → Chain h (asked ask b n ∷ cs)
 as-asked h ask b cs e k = subst (λ (i : ℕ). Chain h (asked ask b i ∷ cs)) e k
 
-one-more : (cs : List Call) → ((h : Host) → Good h → Chain h cs) → (h : Host) → Good h → (ask : Ask) (b : List ℕ) (n : ℕ) → Chain h (asked ask b n ∷ cs)
-one-more cs then h g (setAttr group attr) b n =
+-- one call more, that is lent a table
+lent-more : (cs : List Call) → ((h : Host) → Good h → Chain h cs) → (h : Host) → Good h → (ask : Ask) → Tabled ask → (b : List ℕ) (n : ℕ) → Chain h (asked ask b n ∷ cs)
+lent-more cs then h g ask lent b n =
     let x = table h g n in
-    let y = set-to (h .ctl) (h .dev) (x .lent) (x .valid) group attr b in
-    let f = requested h g (setAttr group attr) tt b b (y .c′) (y .d′) (x .lent) (y .t′) (x .own (y .t′)) (y .r) (x .lends (y .t′)) (y .said) in
+    let y = answer-to (h .ctl) (h .dev) (x .lent) (x .valid) b ask lent in
+    let f = requested h g ask lent b (y .c′) (y .d′) (x .lent) (y .t′) (saw (y .r) (y .b′)) (y .said) (x .own (y .t′)) (x .lends (y .t′)) in
     let k = then _ (f .good) in
-    as-asked h (setAttr group attr) b cs (x .places)
-    (record { seen = _; last = k .last; ran = set group attr b (y .c′) (y .d′) (x .lent) (y .t′) (x .own (y .t′)) (y .r) (x .lends (y .t′)) (y .said) (k .ran) })
-one-more cs then h g (getAttr group attr) b n =
-    let x = table h g n in
-    let y = get-to (h .ctl) (h .dev) (x .lent) (x .valid) (getAttr group attr) b (get-shape paperLimits _ group attr (length (x .lent)) b) in
-    let k = then h g in
-    as-asked h (getAttr group attr) b cs (x .places)
-    (record { seen = _; last = k .last; ran = get group attr b (y .b′) (x .lent) (x .own (x .lent)) (y .r) (x .lends (x .lent)) (y .said) (k .ran) })
+    as-asked h ask b cs (x .places)
+    (record { seen = _; last = k .last; ran = asks ask b (y .c′) (y .d′) (x .lent) (y .t′) (x .own (y .t′)) (saw (y .r) (y .b′)) (y .leaves) (x .lends (y .t′)) (y .said) (k .ran) })
+
+one-more : (cs : List Call) → ((h : Host) → Good h → Chain h cs) → (h : Host) → Good h → (ask : Ask) (b : List ℕ) (n : ℕ) → Chain h (asked ask b n ∷ cs)
+one-more cs then h g (setAttr group attr) b n = lent-more cs then h g (setAttr group attr) tt b n
+one-more cs then h g (getAttr group attr) b n = lent-more cs then h g (getAttr group attr) tt b n
 one-more cs then h g (guestTake subclasses external mcheck) b n =
     let y = take-to h g subclasses external mcheck b in
-    let f = taken h g subclasses external mcheck b (y .b′) (y .c′) n (y .r) (y .said) in
+    let f = taken h g subclasses external mcheck b (y .c′) n (saw (y .r) (y .b′)) (y .said) in
     let k = then _ (f .good) in
-    record { seen = _; last = k .last; ran = take subclasses external mcheck b (y .b′) (y .c′) n (y .r) (y .said) (k .ran) }
-one-more cs then h g writeList b n =
-    let x = table h g n in
-    let y = get-to (h .ctl) (h .dev) (x .lent) (x .valid) writeList b (write-shape paperLimits _ (length (x .lent)) b) in
-    let k = then h g in
-    as-asked h writeList b cs (x .places)
-    (record { seen = _; last = k .last; ran = write b (y .b′) (x .lent) (x .own (x .lent)) (y .r) (x .lends (x .lent)) (y .said) (k .ran) })
-one-more cs then h g playList b n =
-    let x = table h g n in
-    let y = play-to (h .ctl) (h .dev) (x .lent) (x .valid) b in
-    let f = played h g b (y .c′) (y .d′) (x .lent) (y .t′) (x .own (y .t′)) (y .r) (x .lends (y .t′)) (y .said) in
-    let k = then _ (f .good) in
-    as-asked h playList b cs (x .places)
-    (record { seen = _; last = k .last; ran = play b (y .c′) (y .d′) (x .lent) (y .t′) (x .own (y .t′)) (y .r) (x .lends (y .t′)) (y .said) (k .ran) })
+    record { seen = _; last = k .last; ran = take subclasses external mcheck b (y .c′) n (saw (y .r) (y .b′)) (y .said) (k .ran) }
+one-more cs then h g writeList b n = lent-more cs then h g writeList tt b n
+one-more cs then h g playList b n = lent-more cs then h g playList tt b n
 
 pub runs : (cs : List Call) (h : Host) → Good h → Chain h cs
 runs [] h g = record { seen = []; last = h; ran = end }
 runs (c ∷ cs) h g = one-more cs (runs cs) h g (c .ask) (c .buffer) (c .tableLength)
 
 -- ---- every call of a chain meets its function's premise
-lent-premise : {h : Host} → Good h → {t t′ u : List Place} → Lends (h .tab) t t′ u → LentPremise h t
+lent-premise : {h : Host} → Good h → {t t′ u : List Place} → Lends (limitsOf (h .ctl)) (h .tab) t t′ u → LentPremise h t
 lent-premise {h} g (its-own e) n = subst (λ (x : List Place). Valid (h .ctl) (h .dev) x) (sym e) g
 lent-premise g (another w) n = absurd (w n)
 
-pub premises : {h e : Host} {cs : List Call} {ss : List Seen} → Good h → (r : Ran h cs ss e) → Premises r
+pub premises : {h e : Host} {cs : List Call} {xs : List Seen} → Good h → (r : Ran h cs xs e) → Premises r
 premises g end = tt
-premises {h} g (set group attr b c′ d′ t t′ u r l f rest) =
-    (lent-premise g l, premises (requested h g (setAttr group attr) tt b b c′ d′ t t′ u r l f .good) rest)
-premises {h} g (get group attr b b′ t u r l f rest) = (lent-premise g l, premises g rest)
-premises {h} g (take subclasses external mcheck b b′ c′ n r f rest) =
-    (g .ready, premises (taken h g subclasses external mcheck b b′ c′ n r f .good) rest)
-premises {h} g (write b b′ t u r l f rest) = (lent-premise g l, premises g rest)
-premises {h} g (play b c′ d′ t t′ u r l f rest) = (lent-premise g l, premises (played h g b c′ d′ t t′ u r l f .good) rest)
+premises {h} g (asks ask b c′ d′ t t′ u x k l f rest) =
+    (lent-premise g l, premises (requested h g ask (tabled ask _ _ _ _ _ _ _ _ k) b c′ d′ t t′ x f u l .good) rest)
+premises {h} g (take subclasses external mcheck b c′ n x f rest) =
+    (g .ready, premises (taken h g subclasses external mcheck b c′ n x f .good) rest)
 
 -- ---- from the host that the code makes
 -- making one has an answer, for each capability
 pub record MadeTo (ais : Bool) : Type 0 where
   pub host : Host
-  pub made : Fresh ais host
+  pub made : Fresh paperLimits ais host
 
 pub make-to : (ais : Bool) → MadeTo ais
 make-to ais = record {
@@ -316,33 +289,49 @@ make-to ais = record {
     tab = k .host .tab;
     right = n;
     answer = answered 0 0;
-    made = record { right = λ e. (refl, k .state, k .good); wrong = λ w. absurd (w n) };
+    made = record { right = λ e. (refl, limits-made (k .host .ctl), k .state, k .good); wrong = λ w. absurd (w n) };
   };
 }
   where
-    k : Represents (fresh paperLimits ais)
-    k = represent (fresh paperLimits ais) (fresh-sound paperLimits ais)
+    -- any controller has the limits of one that is made
+    any : Controller
+    any = record { slots = []; order = []; counts = []; singles = []; ais = ais }
+
+    k : Represents any (fresh paperLimits ais)
+    k = represent any (fresh paperLimits ais) (subst (λ (L : Limits). Sound L (fresh paperLimits ais)) (sym (limits-made any)) (fresh-sound paperLimits ais))
 
     n : length (k .host .tab) ≡ paperLimits .places
-    n = own-length (k .host) (k .good)
+    n = own-length (k .host) (k .good) ∙ ap (λ (L : Limits). L .places) (limits-made (k .host .ctl))
 
-pub runs-fresh : {ais : Bool} {f : Host} → Fresh ais f → (cs : List Call) → Chain f cs
+pub runs-fresh : {L : Limits} {ais : Bool} {f : Host} → Fresh L ais f → (cs : List Call) → Chain f cs
 runs-fresh {f = f} h cs = runs cs f (fresh-good h)
 
-pub premises-fresh : {ais : Bool} {f e : Host} {cs : List Call} {ss : List Seen} → Fresh ais f → (r : Ran f cs ss e) → Premises r
+pub premises-fresh : {L : Limits} {ais : Bool} {f e : Host} {cs : List Call} {xs : List Seen} → Fresh L ais f → (r : Ran f cs xs e) → Premises r
 premises-fresh h r = premises (fresh-good h) r
 
--- for any two fresh hosts of a capability, any two lists of calls and any buffer that is long enough there is a move
-pub moved : (ais : Bool) (f₁ f₂ : Host) → Fresh ais f₁ → Fresh ais f₂ → (cs₁ cs₂ : List Call) (b : List ℕ)
-    → total (listRequests (machine ais cs₁)) ≤ length b → Moved
-moved ais f₁ f₂ h₁ h₂ cs₁ cs₂ b long =
+-- a writing leaves its host as it was
+same-host : {c c′ : Controller} {d d′ : Device} {t t′ : List Place} {b : List ℕ} {x : Seen} → (c′ ≡ c) × (d′ ≡ d) × (t′ ≡ t)
+    → Requested writeList c c′ d d′ t t′ b x → Requested writeList c c d d t t b x
+same-host {c} {c′} {d} {d′} {t} {t′} {b} {x} k f =
+    subst (λ (h : Host). Requested writeList c (h .ctl) d (h .dev) t (h .tab) b x) (λ i. record { ctl = k .0 i; dev = k .1 i; tab = k .2 i }) f
+
+-- and a playing its list
+left-list : {c c′ : Controller} {d d′ : Device} {t t′ : List Place} {b b′ : List ℕ} {r : Answer} → b′ ≡ b
+    → Requested playList c c′ d d′ t t′ b (saw r b′) → Requested playList c c′ d d′ t t′ b (saw r b)
+left-list {c} {c′} {d} {d′} {t} {t′} {b} {b′} {r} e f = subst (λ (l : List ℕ). Requested playList c c′ d d′ t t′ b (saw r l)) e f
+
+-- for any two fresh hosts of the same limits and capability, any two lists of calls and any buffer that is long enough there is a move
+pub moved : (L : Limits) (ais : Bool) (f₁ f₂ : Host) → Fresh L ais f₁ → Fresh L ais f₂ → (cs₁ cs₂ : List Call) (b : List ℕ)
+    → total (listRequests (machine L ais cs₁)) ≤ length b → Moved
+moved L ais f₁ f₂ h₁ h₂ cs₁ cs₂ b long =
     let x = runs-fresh h₁ cs₁ in
     let y = runs-fresh h₂ cs₂ in
-    let g = follows (fresh-good h₁) (x .ran) .good in
-    let k = follows (fresh-good h₂) (y .ran) .good in
-    let w = get-to (x .last .ctl) (x .last .dev) (x .last .tab) (λ _. g) writeList b (write-shape paperLimits _ (length (x .last .tab)) b) in
-    let p = play-to (y .last .ctl) (y .last .dev) (y .last .tab) (λ _. k) (first (w .r .count) (w .b′)) in
+    let g = ran-good h₁ (x .ran) in
+    let k = ran-good h₂ (y .ran) in
+    let w = answer-to (x .last .ctl) (x .last .dev) (x .last .tab) (λ _. g) b writeList tt in
+    let p = answer-to (y .last .ctl) (y .last .dev) (y .last .tab) (λ _. k) (first (w .r .count) (w .b′)) playList tt in
     record {
+      limits = L;
       ais = ais;
       start₁ = f₁;
       fresh₁ = h₁;
@@ -351,9 +340,8 @@ moved ais f₁ f₂ h₁ h₂ cs₁ cs₂ b long =
       first = x .last;
       ran₁ = x .ran;
       buffer = b;
-      left = w .b′;
-      wrote = w .r;
-      writes = w .said;
+      wrote = saw (w .r) (w .b′);
+      writes = same-host (w .leaves) (w .said);
       long = long;
       start₂ = f₂;
       fresh₂ = h₂;
@@ -362,13 +350,13 @@ moved ais f₁ f₂ h₁ h₂ cs₁ cs₂ b long =
       before = y .last;
       ran₂ = y .ran;
       second = record { ctl = p .c′; dev = p .d′; tab = p .t′ };
-      played = p .r;
-      plays = p .said;
+      played = saw (p .r) (first (w .r .count) (w .b′));
+      plays = left-list (p .leaves) (p .said);
     }
 
 -- and both of its calls meet their functions' premises
 pub moved-premises : (m : Moved) → LentPremise (m .first) (m .first .tab) × LentPremise (m .before) (m .before .tab)
-moved-premises m = (λ _. follows (fresh-good (m .fresh₁)) (m .ran₁) .good, λ _. follows (fresh-good (m .fresh₂)) (m .ran₂) .good)
+moved-premises m = (λ _. ran-good (m .fresh₁) (m .ran₁), λ _. ran-good (m .fresh₂) (m .ran₂))
 
 -- ---- after the move
 -- every further list of calls has a chain on both hosts, and every call of any such chain meets its function's premise

@@ -2,8 +2,8 @@
 -- follows what specs/Safety says of that call, for every input; and where the lent table has another length, the
 -- contract requires nothing. The theorem's statement names the contracts themselves and nothing of Surface. So a
 -- promise of demand 1 that is dropped or weakened, in Surface or in the source, is refused here, even where all other
--- proofs are adapted to that. The contracts have answers, so this is not about nothing: Runs (`set-to`, `get-to`,
--- `take-to`, `play-to`, `make-to`).
+-- proofs are adapted to that. The contracts have answers, so this is not about nothing: Runs (`answer-to`, `take-to`,
+-- `make-to`).
 use Prim.Native.Nat.{ℕ, zero, suc}
 use mathlib.Core.Path.{_≡_, refl, ap, sym, _∙_, subst}
 use mathlib.Core.Bool.{Bool, true, false, true≢false}
@@ -22,20 +22,21 @@ use denote.Triple.Entry.{Args, Res}
 use denote.Triple.Clauses.{Ended, AtExit, Clauses}
 use Rattle.rules.specs.Bytes.{choose}
 use Rattle.rules.specs.State.{State, paperLimits, free, fresh}
-use Rattle.rules.specs.Outcome.{Outcome, refuse, accept, reset, result, tell}
+use Rattle.rules.specs.Outcome.{Outcome, refuseWith, accept, resetWith, refuse, result, answering}
 use Rattle.rules.specs.Outcome.{Answer as Told}
-use Rattle.rules.specs.Machine.{Ask, setAttr, getAttr, guestTake, writeList, playList, outcome, step}
+use Rattle.rules.specs.Machine.{Ask, setAttr, getAttr, guestTake, writeList, playList, outcome, step, answerOf}
 use Rattle.rules.specs.Invariant.{All}
-use Rattle.rules.proofs.Outcomes.{Plays, plays-fresh, Answered, every-answer}
+use Rattle.rules.proofs.Outcomes.{Known, Plays, known-outcome, plays-fresh, Answered, every-answer}
 use Rattle.answers.specs.declared.Answer.{Answer}
 use Rattle.adapters.specs.declared.Device.{Device}
 use Rattle.adapters.specs.declared.Place.{Place}
 use Rattle.adapters.specs.Values.{placeOf, unused, Canonical}
 use Rattle.controller.specs.declared.Controller.{Controller}
-use Rattle.flic.specs.Surface.{stateOf, Steps, Requested, Taken, Made, Played}
+use Rattle.controller.specs.Limits.{limitsOf}
+use Rattle.flic.specs.Surface.{stateOf, Steps, Requested, Taken, Made}
 use Rattle.flic.specs.Chain.{asked}
 use Rattle.flic.specs.Safety.{SafeRequest, SafeTake, IsFresh, playing, SafePlay, SafeMake}
-use Rattle.flic.proofs.Promises.{right-table, by-length, not-zero}
+use Rattle.flic.proofs.Promises.{right-table, by-length}
 use Rattle.flic.proofs.Promises.{Tabled, refused-table}
 use Rattle.flic.proofs.flic_make as flic-make
 use Rattle.flic.proofs.flic_set as flic-set
@@ -43,60 +44,73 @@ use Rattle.flic.proofs.flic_get as flic-get
 use Rattle.flic.proofs.flic_take as flic-take
 use Rattle.flic.proofs.flic_write_list as flic-write
 use Rattle.flic.proofs.flic_play_list as flic-play
-use Rattle.answers.specs.Answers.{answered}
+use Rattle.answers.specs.Answers.{answered, saw}
 
 -- ---- from the machine's step
 module _ (ask : Ask) (c c′ : Controller) (d d′ : Device) (t t′ : List Place) (b b′ : List ℕ) (r : Answer)
-    (f : Steps ask c c′ d d′ t t′ b b′ r) where
-  abbrev left : Told
-  left = tell (r .code) (r .count) (stateOf c′ d′ t′) b′
+    (f : Steps ask c c′ d d′ t t′ b (saw r b′)) where
+  abbrev left : Told State
+  left = answering (saw r b′) (stateOf c′ d′ t′)
 
   -- what holds of every answer of the machine
   says : Answered ask (stateOf c d t) left
-  says = subst (Answered ask (stateOf c d t)) f (every-answer paperLimits (stateOf c d t) (asked ask b (length t)))
+  says = subst (Answered ask (stateOf c d t)) f (every-answer (limitsOf c) (stateOf c d t) (asked ask b (length t)))
 
   same-ais : c′ .ais ≡ c .ais
   unfolding stateOf
   same-ais = says .same-ais
 
   -- the answer, from what the rules make of the call
-  by-outcome : (o : Outcome) → outcome paperLimits (stateOf c d t) ask (length t) b ≡ o
-      → left ≡ result paperLimits (stateOf c d t) b o
+  by-outcome : (o : Outcome State) → outcome (limitsOf c) (stateOf c d t) ask (length t) b ≡ o
+      → left ≡ answerOf (limitsOf c) (stateOf c d t) b o
   unfolding step
-  by-outcome o e = sym f ∙ ap (result paperLimits (stateOf c d t) b) e
+  by-outcome o e = sym f ∙ ap (answerOf (limitsOf c) (stateOf c d t) b) e
 
-  answer-is : (code count : ℕ) (o : Outcome) → outcome paperLimits (stateOf c d t) ask (length t) b ≡ o
-      → result paperLimits (stateOf c d t) b o .code ≡ code → result paperLimits (stateOf c d t) b o .count ≡ count
+  answer-is : (code count : ℕ) (o : Outcome State) → outcome (limitsOf c) (stateOf c d t) ask (length t) b ≡ o
+      → answerOf (limitsOf c) (stateOf c d t) b o .code ≡ code → answerOf (limitsOf c) (stateOf c d t) b o .count ≡ count
       → r ≡ answered code count
   answer-is code count o e p q =
       λ i. record {
-        code = (ap (λ (a : Told). a .code) (by-outcome o e) ∙ p) i;
-        count = (ap (λ (a : Told). a .count) (by-outcome o e) ∙ q) i;
+        code = (ap (λ (a : Told State). a .code) (by-outcome o e) ∙ p) i;
+        count = (ap (λ (a : Told State). a .count) (by-outcome o e) ∙ q) i;
       }
 
-  wrong-answer : Tabled ask → (length t ≡ paperLimits .places → ⊥) → r ≡ answered 14 0
+  wrong-answer : Tabled ask → (length t ≡ limitsOf c .places → ⊥) → r ≡ answered 14 0
   unfolding result
-  wrong-answer tabled w = answer-is 14 0 (refuse 14) (refused-table (stateOf c d t) ask (length t) b tabled w) refl refl
+  wrong-answer tabled w = answer-is 14 0 (refuse 14) (refused-table (limitsOf c) (stateOf c d t) ask (length t) b tabled w) refl refl
+
+  -- a code that is not 0 is that of a refusal which changes nothing, unless a list is played
+  refusal-of : {X : Type 0} → (Plays ask → ⊥) → (r .code ≡ 0 → ⊥)
+      → ((code count : ℕ) → outcome (limitsOf c) (stateOf c d t) ask (length t) b ≡ refuseWith code count → X) → X
+  unfolding result
+  refusal-of {X} other n then = go _ refl (known-outcome (limitsOf c) (stateOf c d t) ask (length t) b)
+    where
+      go : (o : Outcome State) → outcome (limitsOf c) (stateOf c d t) ask (length t) b ≡ o → Known (stateOf c d t .ais) (Plays ask) o → X
+      go (refuseWith code count) e k = then code count e
+      go (accept count next written) e k = absurd (n (ap (λ (a : Told State). a .code) (by-outcome _ e)))
+      go (resetWith code place further) e k = absurd (other (k .0))
 
 -- ---- each call
 safe-request : (ask : Ask) → Tabled ask → (Plays ask → ⊥)
     → (c c′ : Controller) (d d′ : Device) (t t′ : List Place) (b b′ : List ℕ) (r : Answer)
-    → Requested ask c c′ d d′ t t′ b b′ r → SafeRequest c c′ d d′ t t′ b b′ r
+    → Requested ask c c′ d d′ t t′ b (saw r b′) → SafeRequest c c′ d d′ t t′ b b′ r
 safe-request ask tabled other c c′ d d′ t t′ b b′ r f =
     let s = says ask c c′ d d′ t t′ b b′ r (f .steps) in
     record {
-      refused = λ n. let k = f .kept n in (s .no-count other n, k .0, k .1, k .2, k .3);
+      refused = λ n.
+          refusal-of ask c c′ d d′ t t′ b b′ r (f .steps) other n
+          (λ code count o. let k = f .kept code count o in (s .no-count other n, k .0, k .1, k .2, k .3));
       wrong-table = λ w.
-          let a = wrong-answer ask c c′ d d′ t t′ b b′ r (f .steps) tabled w in
-          let k = f .kept (not-zero a) in
-          (a, k .0, k .1, k .2, k .3);
+          let k = f .kept 14 0 (refused-table (limitsOf c) (stateOf c d t) ask (length t) b tabled w) in
+          (wrong-answer ask c c′ d d′ t t′ b b′ r (f .steps) tabled w, k .0, k .1, k .2, k .3);
       code = s .code;
       capability = same-ais ask c c′ d d′ t t′ b b′ r (f .steps);
+      limits = f .limits;
     }
 
 -- a take promises its step for every device record and every table
 safe-take : (subclasses : ℕ) (external mcheck : Bool) (c c′ : Controller) (b b′ : List ℕ) (r : Answer)
-    → Taken subclasses external mcheck c c′ b b′ r → SafeTake c c′ b b′ r
+    → Taken subclasses external mcheck c c′ b (saw r b′) → SafeTake c c′ b b′ r
 safe-take subclasses external mcheck c c′ b b′ r f =
     let d : Device = record { simm = 0; nimm = 0; apf = false } in
     let s = says (guestTake subclasses external mcheck) c c′ d d [] [] b b′ r (f .steps d []) in
@@ -104,16 +118,17 @@ safe-take subclasses external mcheck c c′ b b′ r f =
       refused = λ n. let k = f .kept n in (s .no-count (λ p. p) n, k .0, k .1);
       code = s .code;
       capability = same-ais (guestTake subclasses external mcheck) c c′ d d [] [] b b′ r (f .steps d []);
+      limits = f .limits;
     }
 
 safe-make : (ais : Bool) (c c′ : Controller) (d d′ : Device) (t t′ : List Place) (r : Answer)
-    → Made ais c c′ d d′ t t′ r → SafeMake c c′ d d′ t t′ r
+    → Made paperLimits ais c c′ d d′ t t′ r → SafeMake c c′ d d′ t t′ r
 safe-make ais c c′ d d′ t t′ r f =
     record {
       accepted = λ e. f .right e .0;
       wrong-table = f .wrong;
       code =
-          by-length (length t)
+          by-length paperLimits (length t)
           (λ e. List·Memᴰ·head (ap (λ (a : Answer). a .code) (f .right e .0)))
           (λ w. let e = ap (λ (a : Answer). a .code) (f .wrong w .0) in
           List·Memᴰ·tail (List·Memᴰ·tail (List·Memᴰ·tail (List·Memᴰ·head e))));
@@ -135,51 +150,56 @@ all-unused (suc n) [] k e = absurd (true≢false (let z : true ≡ false = cc in
 all-unused (suc n) (p ∷ t) k e = λ i. is-unused p (k .0) (cc) i ∷ all-unused n t (k .1) (cc) i
 
 module _ (c c′ : Controller) (d d′ : Device) (t t′ : List Place) (b : List ℕ) (r : Answer)
-    (f : Played c c′ d d′ t t′ b r) where
-  -- with a table of 64 places the outcome is the rules' playing of the list
-  outcome-is : length t ≡ paperLimits .places
-      → outcome paperLimits (stateOf c d t) playList (length t) b ≡ playing c b
+    (f : Requested playList c c′ d d′ t t′ b (saw r b)) where
+  -- with a table of the controller's length the outcome is the rules' playing of the list
+  outcome-is : length t ≡ limitsOf c .places
+      → outcome (limitsOf c) (stateOf c d t) playList (length t) b ≡ playing c b
   unfolding outcome stateOf
-  outcome-is n = right-table (length t) 14 _ n ∙ plays-fresh paperLimits (stateOf c d t) b
+  outcome-is n = right-table (limitsOf c) (length t) 14 _ n ∙ plays-fresh (limitsOf c) (stateOf c d t) b
 
   -- a state that is fresh, in terms of the values
-  made-fresh : All Canonical t′ → stateOf c′ d′ t′ ≡ fresh paperLimits (c .ais) → IsFresh c′ d′ t′
+  made-fresh : All Canonical t′ → stateOf c′ d′ t′ ≡ fresh (limitsOf c) (c .ais) → IsFresh (limitsOf c) c′ d′ t′
   unfolding stateOf fresh
   made-fresh k e =
       record {
-        places = all-unused (paperLimits .places) t′ k (ap (λ (s : State). s .adapters) e);
+        places = all-unused (limitsOf c .places) t′ k (ap (λ (s : State). s .adapters) e);
         pending = ap (λ (s : State). s .pending) e;
         device = λ i. record { simm = e i .device .simm; nimm = e i .device .nimm; apf = e i .device .apf };
       }
 
   -- the answer and the next state, from that outcome
-  answers : (code count : ℕ) (o : Outcome) → outcome paperLimits (stateOf c d t) playList (length t) b ≡ o
-      → result paperLimits (stateOf c d t) b o .code ≡ code → result paperLimits (stateOf c d t) b o .count ≡ count
+  answers : (code count : ℕ) (o : Outcome State) → outcome (limitsOf c) (stateOf c d t) playList (length t) b ≡ o
+      → answerOf (limitsOf c) (stateOf c d t) b o .code ≡ code → answerOf (limitsOf c) (stateOf c d t) b o .count ≡ count
       → r ≡ answered code count
   answers = answer-is playList c c′ d d′ t t′ b b r (f .steps)
 
-  becomes : (o : Outcome) → outcome paperLimits (stateOf c d t) playList (length t) b ≡ o
-      → stateOf c′ d′ t′ ≡ result paperLimits (stateOf c d t) b o .next
-  becomes o e = ap (λ (a : Told). a .next) (by-outcome playList c c′ d d′ t t′ b b r (f .steps) o e)
+  becomes : (o : Outcome State) → outcome (limitsOf c) (stateOf c d t) playList (length t) b ≡ o
+      → stateOf c′ d′ t′ ≡ answerOf (limitsOf c) (stateOf c d t) b o .next
+  becomes o e = ap (λ (a : Told State). a .next) (by-outcome playList c c′ d d′ t t′ b b r (f .steps) o e)
+
+  -- what is known of it
+  known : {o : Outcome State} → outcome (limitsOf c) (stateOf c d t) playList (length t) b ≡ o → Known (stateOf c d t .ais) (Unit {0}) o
+  known e = subst (Known (stateOf c d t .ais) (Unit {0})) e (known-outcome (limitsOf c) (stateOf c d t) playList (length t) b)
 
   safe-play : SafePlay c c′ d d′ t t′ b r
   unfolding result stateOf
   safe-play =
       record {
         wrong-table = λ w.
-            let k = f .kept 14 (refused-table (stateOf c d t) playList (length t) b tt w) in
+            let k = f .kept 14 0 (refused-table (limitsOf c) (stateOf c d t) playList (length t) b tt w) in
             (wrong-answer playList c c′ d d′ t t′ b b r (f .steps) tt w, k .0, k .1, k .2);
-        refused = λ n code e.
+        refused = λ n code count e.
             let o = outcome-is n ∙ e in
-            let k = f .kept code o in
-            (answers code 0 (refuse code) o refl refl, k .0, k .1, k .2);
-        part-way = λ n code place e.
+            let k = f .kept code count o in
+            (answers code 0 (refuseWith code count) o refl (known o .1), k .0, k .1, k .2);
+        part-way = λ n code place further e.
             let o = outcome-is n ∙ e in
-            let m = made-fresh (f .valid n .places) (becomes (reset code place) o) in
-            (answers code place (reset code place) o refl refl, m);
+            let m = made-fresh (f .valid n .places) (becomes (resetWith code place further) o) in
+            (answers code place (resetWith code place further) o refl refl, m);
         played = λ n count next written e. answers 0 count (accept count next written) (outcome-is n ∙ e) refl refl;
         code = says playList c c′ d d′ t t′ b b r (f .steps) .code;
         capability = same-ais playList c c′ d d′ t t′ b b r (f .steps);
+        limits = f .limits;
       }
 
 -- ---- the theorem
@@ -222,15 +242,15 @@ module _ {M : Type 1} (𝓤 : URA M) (H : Heap 𝓤) (A : Atoms 𝓤) (mem : Mem
     pub play : Ensures 𝓤 flic-play.ended (flic-play.clauses 𝓤 H A mem run)
         (λ κs (c, (d, (t, (b, _)))) r (c′, (d′, (t′, _))).
         SafePlay (now c) (now c′) (now d) (now d′) (now t) (now t′) (now b) r)
-    -- the one premise is asked of no call with a table not of 64 places; `flic_make` has none at all
+    -- the one premise is asked of no call with a table of another length than the controller's; `flic_make` has none at all
     pub set-wrong-table : RequiresNothing 𝓤 flic-set.ended (flic-set.clauses 𝓤 H A mem run)
-        (λ κs (c, (d, (t, _))). length (now t) ≡ paperLimits .places → ⊥)
+        (λ κs (c, (d, (t, _))). length (now t) ≡ limitsOf (now c) .places → ⊥)
     pub get-wrong-table : RequiresNothing 𝓤 flic-get.ended (flic-get.clauses 𝓤 H A mem run)
-        (λ κs (c, (d, (t, _))). length (now t) ≡ paperLimits .places → ⊥)
+        (λ κs (c, (d, (t, _))). length (now t) ≡ limitsOf (now c) .places → ⊥)
     pub write-wrong-table : RequiresNothing 𝓤 flic-write.ended (flic-write.clauses 𝓤 H A mem run)
-        (λ κs (c, (d, (t, _))). length (now t) ≡ paperLimits .places → ⊥)
+        (λ κs (c, (d, (t, _))). length (now t) ≡ limitsOf (now c) .places → ⊥)
     pub play-wrong-table : RequiresNothing 𝓤 flic-play.ended (flic-play.clauses 𝓤 H A mem run)
-        (λ κs (c, (d, (t, _))). length (now t) ≡ paperLimits .places → ⊥)
+        (λ κs (c, (d, (t, _))). length (now t) ≡ limitsOf (now c) .places → ⊥)
     pub make-always : RequiresNothing 𝓤 flic-make.ended (flic-make.clauses 𝓤 H A mem run) (λ κs a. Unit {0})
 
   pub safety : Safety

@@ -4,13 +4,14 @@ use mathlib.Core.Path.{_≡_}
 use mathlib.Core.Bool.{Bool}
 use mathlib.Core.List.{List, [], _∷_}
 use lib.ListN.{length}
-use Rattle.rules.specs.State.{paperLimits}
-use Rattle.rules.specs.Machine.{Ask, setAttr, getAttr, guestTake, writeList, playList, Call, Seen}
-use Rattle.answers.specs.declared.Answer.{Answer}
+use Rattle.rules.specs.State.{Limits}
+use Rattle.rules.specs.Outcome.{Seen}
+use Rattle.rules.specs.Machine.{Ask, setAttr, getAttr, guestTake, writeList, playList, Call}
 use Rattle.adapters.specs.declared.Device.{Device}
 use Rattle.adapters.specs.declared.Place.{Place}
 use Rattle.controller.specs.declared.Controller.{Controller}
-use Rattle.flic.specs.Surface.{Ready, Premise, Requested, Taken, Played}
+use Rattle.controller.specs.Limits.{limitsOf}
+use Rattle.flic.specs.Surface.{Ready, Premise, Requested, Taken}
 
 -- A controller with its device record and its own table, as the calls before returned or left them.
 pub record Host : Type 0 where
@@ -20,44 +21,37 @@ pub record Host : Type 0 where
 
 -- The table that a call is lent, what is in it afterwards, and what is then in the controller's own: it is lent its own, or one of another length,
 -- and then its own stays.
-pub data Lends (own lent left : List Place) : List Place → Type 0 where
-  its-own : lent ≡ own → Lends own lent left left
-  another : (length lent ≡ paperLimits .places → ⊥) → Lends own lent left own
+pub data Lends (L : Limits) (own lent left : List Place) : List Place → Type 0 where
+  its-own : lent ≡ own → Lends L own lent left left
+  another : (length lent ≡ L .places → ⊥) → Lends L own lent left own
 
 abbrev pub asked : Ask → List ℕ → ℕ → Call
 asked ask b n = record { ask = ask; buffer = b; tableLength = n }
 
-abbrev pub saw : Answer → List ℕ → Seen
-saw r b = record { code = r .code; count = r .count; buffer = b }
+-- What a call that is lent a table leaves, because it borrows it shared: a set its payload and the playing of a list the list; a get and the writing
+-- of a list everything but the buffer. A take is lent no table.
+abbrev pub Leaves : Ask → (c c′ : Controller) (d d′ : Device) (t t′ : List Place) (b b′ : List ℕ) → Type 0
+Leaves (setAttr group attr) c c′ d d′ t t′ b b′ = b′ ≡ b
+Leaves (getAttr group attr) c c′ d d′ t t′ b b′ = (c′ ≡ c) × (d′ ≡ d) × (t′ ≡ t)
+Leaves (guestTake subclasses external mcheck) c c′ d d′ t t′ b b′ = ⊥
+Leaves writeList c c′ d d′ t t′ b b′ = (c′ ≡ c) × (d′ ≡ d) × (t′ ≡ t)
+Leaves playList c c′ d d′ t t′ b b′ = b′ ≡ b
 
 -- A list of calls and what each caller saw, from one host to another. The table of a take is not looked at.
 pub data Ran : Host → List Call → List Seen → Host → Type 0 where
   end : {h : Host} → Ran h [] [] h
-  set : {h e : Host} {cs : List Call} {ss : List Seen} (group attr : ℕ) (b : List ℕ) (c′ : Controller) (d′ : Device) (t t′ u : List Place) (r : Answer)
-      → Lends (h .tab) t t′ u → Requested (setAttr group attr) (h .ctl) c′ (h .dev) d′ t t′ b b r
-      → Ran (record { ctl = c′; dev = d′; tab = u }) cs ss e → Ran h (asked (setAttr group attr) b (length t) ∷ cs) (saw r b ∷ ss) e
-  get : {h e : Host} {cs : List Call} {ss : List Seen} (group attr : ℕ) (b b′ : List ℕ) (t u : List Place) (r : Answer)
-      → Lends (h .tab) t t u → Requested (getAttr group attr) (h .ctl) (h .ctl) (h .dev) (h .dev) t t b b′ r
-      → Ran h cs ss e → Ran h (asked (getAttr group attr) b (length t) ∷ cs) (saw r b′ ∷ ss) e
-  take : {h e : Host} {cs : List Call} {ss : List Seen} (subclasses : ℕ) (external mcheck : Bool) (b b′ : List ℕ) (c′ : Controller) (n : ℕ) (r : Answer)
-      → Taken subclasses external mcheck (h .ctl) c′ b b′ r
-      → Ran (record { ctl = c′; dev = h .dev; tab = h .tab }) cs ss e
-      → Ran h (asked (guestTake subclasses external mcheck) b n ∷ cs) (saw r b′ ∷ ss) e
-  write : {h e : Host} {cs : List Call} {ss : List Seen} (b b′ : List ℕ) (t u : List Place) (r : Answer)
-      → Lends (h .tab) t t u → Requested writeList (h .ctl) (h .ctl) (h .dev) (h .dev) t t b b′ r
-      → Ran h cs ss e → Ran h (asked writeList b (length t) ∷ cs) (saw r b′ ∷ ss) e
-  play : {h e : Host} {cs : List Call} {ss : List Seen} (b : List ℕ) (c′ : Controller) (d′ : Device) (t t′ u : List Place) (r : Answer)
-      → Lends (h .tab) t t′ u → Played (h .ctl) c′ (h .dev) d′ t t′ b r
-      → Ran (record { ctl = c′; dev = d′; tab = u }) cs ss e → Ran h (asked playList b (length t) ∷ cs) (saw r b ∷ ss) e
+  asks : {h e : Host} {cs : List Call} {xs : List Seen} (ask : Ask) (b : List ℕ) (c′ : Controller) (d′ : Device) (t t′ u : List Place) (x : Seen)
+      → Leaves ask (h .ctl) c′ (h .dev) d′ t t′ b (x .buffer) → Lends (limitsOf (h .ctl)) (h .tab) t t′ u → Requested ask (h .ctl) c′ (h .dev) d′ t t′ b x
+      → Ran (record { ctl = c′; dev = d′; tab = u }) cs xs e → Ran h (asked ask b (length t) ∷ cs) (x ∷ xs) e
+  take : {h e : Host} {cs : List Call} {xs : List Seen} (subclasses : ℕ) (external mcheck : Bool) (b : List ℕ) (c′ : Controller) (n : ℕ) (x : Seen)
+      → Taken subclasses external mcheck (h .ctl) c′ b x
+      → Ran (record { ctl = c′; dev = h .dev; tab = h .tab }) cs xs e → Ran h (asked (guestTake subclasses external mcheck) b n ∷ cs) (x ∷ xs) e
 
 -- The premise of each call of a chain, at the host and the table that it is lent.
 abbrev pub LentPremise : Host → List Place → Type 0
 LentPremise h t = Premise (h .ctl) (h .dev) t
 
-abbrev pub Premises : {h e : Host} {cs : List Call} {ss : List Seen} → Ran h cs ss e → Type 0
+abbrev pub Premises : {h e : Host} {cs : List Call} {xs : List Seen} → Ran h cs xs e → Type 0
 Premises end = Unit {0}
-Premises (set {h} group attr b c′ d′ t t′ u r l f rest) = LentPremise h t × Premises rest
-Premises (get {h} group attr b b′ t u r l f rest) = LentPremise h t × Premises rest
-Premises (take {h} subclasses external mcheck b b′ c′ n r f rest) = Ready (h .ctl) × Premises rest
-Premises (write {h} b b′ t u r l f rest) = LentPremise h t × Premises rest
-Premises (play {h} b c′ d′ t t′ u r l f rest) = LentPremise h t × Premises rest
+Premises (asks {h} ask b c′ d′ t t′ u x k l f rest) = LentPremise h t × Premises rest
+Premises (take {h} subclasses external mcheck b c′ n x f rest) = Ready (h .ctl) × Premises rest

@@ -4,9 +4,9 @@ use mathlib.Core.Path.{_≡_}
 use mathlib.Core.Bool.{Bool}
 use mathlib.Core.List.{List, map}
 use lib.ListN.{length}
-use Rattle.rules.specs.State.{State, paperLimits, fresh}
-use Rattle.rules.specs.Outcome.{refuse, tell}
-use Rattle.rules.specs.Machine.{Ask, guestTake, playList, outcome, step}
+use Rattle.rules.specs.State.{Limits, State, fresh}
+use Rattle.rules.specs.Outcome.{refuseWith, Seen, answering}
+use Rattle.rules.specs.Machine.{Ask, guestTake, outcome, step}
 use Rattle.rules.specs.Invariant.{All, Sound}
 use Rattle.answers.specs.declared.Answer.{Answer}
 use Rattle.adapters.specs.declared.Device.{Device}
@@ -15,6 +15,7 @@ use Rattle.adapters.specs.Values.{placeOf, deviceOf, Canonical}
 use Rattle.queues.specs.Queues.{Held}
 use Rattle.records.specs.Memory.{pendingOf}
 use Rattle.controller.specs.declared.Controller.{Controller}
+use Rattle.controller.specs.Limits.{limitsOf}
 use Rattle.answers.specs.Answers.{answered}
 
 -- 01, 'What it holds': the plain machine's state.
@@ -38,38 +39,37 @@ Ready c = Held (c .order) (c .counts)
 pub record Valid (c : Controller) (d : Device) (t : List Place) : Type 0 where
   pub ready : Ready c
   pub places : All Canonical t
-  pub sound : Sound paperLimits (stateOf c d t)
+  pub sound : Sound (limitsOf c) (stateOf c d t)
 
--- It is asked only of a table of 64 places: a table of another length has no premise.
+-- It is asked only of a table with the places of this controller: a table of another length has no premise.
 abbrev pub Premise : Controller → Device → List Place → Type 0
-Premise c d t = length t ≡ paperLimits .places → Valid c d t
+Premise c d t = length t ≡ limitsOf c .places → Valid c d t
 
--- 01, 'How much each promise says': code, count, next state and each byte of the buffer are the plain machine's.
-abbrev pub Steps : Ask → (c c′ : Controller) (d d′ : Device) (t t′ : List Place) (b b′ : List ℕ) → Answer → Type 0
-Steps ask c c′ d d′ t t′ b b′ r =
-    step paperLimits (stateOf c d t) (record { ask = ask; buffer = b; tableLength = length t })
-    ≡ tell (r .code) (r .count) (stateOf c′ d′ t′) b′
+-- 01, 'How much each promise says': code, count, next state and each byte of the buffer are the plain machine's. What the caller sees, x, is the code,
+-- the count and the buffer as the call left it.
+abbrev pub Steps : Ask → (c c′ : Controller) (d d′ : Device) (t t′ : List Place) (b : List ℕ) → Seen → Type 0
+Steps ask c c′ d d′ t t′ b x =
+    step (limitsOf c) (stateOf c d t) (record { ask = ask; buffer = b; tableLength = length t }) ≡ answering x (stateOf c′ d′ t′)
 
--- What a request promises of the controller, the device record, the table, the buffer before and after it, and its answer. A refusal leaves each
--- lent value equal, not only what it stands for.
-pub record Requested (ask : Ask) (c c′ : Controller) (d d′ : Device) (t t′ : List Place) (b b′ : List ℕ) (r : Answer) : Type 0 where
-  pub steps : Steps ask c c′ d d′ t t′ b b′ r
-  pub kept : (r .code ≡ 0 → ⊥) → (c′ ≡ c) × (d′ ≡ d) × (t′ ≡ t) × (b′ ≡ b)
-  pub valid : length t ≡ paperLimits .places → Valid c′ d′ t′
+-- What every call promises that is lent a table and does not make a controller: of the controller, the device record and the table before and after
+-- it, of the buffer before it, and of what its caller sees. A refusal leaves each lent value equal, not only what it stands for. (The refusal of a
+-- list part-way, which is no `refuseWith`, leaves a fresh controller, by the machine's step.) The controller's limits stay.
+pub record Requested (ask : Ask) (c c′ : Controller) (d d′ : Device) (t t′ : List Place) (b : List ℕ) (x : Seen) : Type 0 where
+  pub steps : Steps ask c c′ d d′ t t′ b x
+  pub kept : (code count : ℕ) → outcome (limitsOf c) (stateOf c d t) ask (length t) b ≡ refuseWith code count
+      → (c′ ≡ c) × (d′ ≡ d) × (t′ ≡ t) × (x .buffer ≡ b)
+  pub valid : length t ≡ limitsOf c .places → Valid c′ d′ t′
+  pub limits : limitsOf c′ ≡ limitsOf c
 
 -- What a guest take promises: it is lent no table and no device record, so for every one of them.
-pub record Taken (subclasses : ℕ) (external mcheck : Bool) (c c′ : Controller) (b b′ : List ℕ) (r : Answer) : Type 0 where
-  pub steps : (d : Device) (t : List Place) → Steps (guestTake subclasses external mcheck) c c′ d d t t b b′ r
-  pub kept : (r .code ≡ 0 → ⊥) → (c′ ≡ c) × (b′ ≡ b)
+pub record Taken (subclasses : ℕ) (external mcheck : Bool) (c c′ : Controller) (b : List ℕ) (x : Seen) : Type 0 where
+  pub steps : (d : Device) (t : List Place) → Steps (guestTake subclasses external mcheck) c c′ d d t t b x
+  pub kept : (x .code ≡ 0 → ⊥) → (c′ ≡ c) × (x .buffer ≡ b)
   pub ready : Ready c′
+  pub limits : limitsOf c′ ≡ limitsOf c
 
--- What making a fresh controller promises: with the right table it is the fresh one of that capability; with another, 14, and everything stays.
-pub record Made (ais : Bool) (c c′ : Controller) (d d′ : Device) (t t′ : List Place) (r : Answer) : Type 0 where
-  pub right : length t ≡ paperLimits .places → (r ≡ answered 0 0) × (stateOf c′ d′ t′ ≡ fresh paperLimits ais) × Valid c′ d′ t′
-  pub wrong : (length t ≡ paperLimits .places → ⊥) → (r ≡ answered 14 0) × (c′ ≡ c) × (d′ ≡ d) × (t′ ≡ t)
-
--- What playing a move list promises. A refusal of form leaves each lent value equal; one part-way leaves a fresh controller, by the machine's step.
-pub record Played (c c′ : Controller) (d d′ : Device) (t t′ : List Place) (b : List ℕ) (r : Answer) : Type 0 where
-  pub steps : Steps playList c c′ d d′ t t′ b b r
-  pub kept : (code : ℕ) → outcome paperLimits (stateOf c d t) playList (length t) b ≡ refuse code → (c′ ≡ c) × (d′ ≡ d) × (t′ ≡ t)
-  pub valid : length t ≡ paperLimits .places → Valid c′ d′ t′
+-- What making a fresh controller promises: with the right table it is the fresh one of these limits and this capability; with another, 14, and everything
+-- stays.
+pub record Made (L : Limits) (ais : Bool) (c c′ : Controller) (d d′ : Device) (t t′ : List Place) (r : Answer) : Type 0 where
+  pub right : length t ≡ L .places → (r ≡ answered 0 0) × (limitsOf c′ ≡ L) × (stateOf c′ d′ t′ ≡ fresh L ais) × Valid c′ d′ t′
+  pub wrong : (length t ≡ L .places → ⊥) → (r ≡ answered 14 0) × (c′ ≡ c) × (d′ ≡ d) × (t′ ≡ t)

@@ -1,7 +1,9 @@
 // The public calls: what a caller may use is this crate, with the records `controller::Controller`, `adapters::Device` and `adapters::Place` that he lends and the
 // `answers::Answer` that he gets.
-ghost use Rattle.rules.specs.Machine.{setAttr, getAttr, writeList};
-ghost use Rattle.flic.specs.Surface.{Ready, Premise, Made, Requested, Taken, Played};
+ghost use Rattle.rules.specs.State.{paperLimits};
+ghost use Rattle.rules.specs.Machine.{setAttr, getAttr, writeList, playList};
+ghost use Rattle.answers.specs.Answers.{saw};
+ghost use Rattle.flic.specs.Surface.{Ready, Premise, Made, Requested, Taken};
 use adapters::Device;
 use adapters::Place;
 use answers::Answer;
@@ -19,7 +21,7 @@ pub extern "C" fn flic_make(
     t: &mut [Place],
     ais: bool,
 ) -> Answer
-    ensures { λ r. ⌜ Made ais (now (c .entry)) (now (c .exit)) (now (d .entry)) (now (d .exit)) (now (t .entry)) (now (t .exit)) r ⌝ }
+    ensures { λ r. ⌜ Made paperLimits ais (now (c .entry)) (now (c .exit)) (now (d .entry)) (now (d .exit)) (now (t .entry)) (now (t .exit)) r ⌝ }
 {
     if t.len() != PLACES {
         return answers::refuse(EFAULT);
@@ -48,7 +50,7 @@ pub extern "C" fn flic_set(
     payload: &[u8],
 ) -> Answer
     requires { ⌜ Premise (now c) (now d) (now t) ⌝ }
-    ensures { λ r. ⌜ Requested (setAttr group attr) (now (c .entry)) (now (c .exit)) (now (d .entry)) (now (d .exit)) (now (t .entry)) (now (t .exit)) (now (payload .entry)) (now (payload .entry)) r ⌝ }
+    ensures { λ r. ⌜ Requested (setAttr group attr) (now (c .entry)) (now (c .exit)) (now (d .entry)) (now (d .exit)) (now (t .entry)) (now (t .exit)) (now (payload .entry)) (saw r (now (payload .entry))) ⌝ }
 {
     if t.len() != PLACES {
         return answers::refuse(EFAULT);
@@ -101,7 +103,7 @@ pub extern "C" fn flic_get(
     out: &mut [u8],
 ) -> Answer
     requires { ⌜ Premise (now c) (now d) (now t) ⌝ }
-    ensures { λ r. ⌜ Requested (getAttr group attr) (now (c .entry)) (now (c .entry)) (now (d .entry)) (now (d .entry)) (now (t .entry)) (now (t .entry)) (now (out .entry)) (now (out .exit)) r ⌝ }
+    ensures { λ r. ⌜ Requested (getAttr group attr) (now (c .entry)) (now (c .entry)) (now (d .entry)) (now (d .entry)) (now (t .entry)) (now (t .entry)) (now (out .entry)) (saw r (now (out .exit))) ⌝ }
 {
     if t.len() != PLACES {
         return answers::refuse(EFAULT);
@@ -130,7 +132,7 @@ pub extern "C" fn flic_take(
     out: &mut [u8],
 ) -> Answer
     requires { ⌜ Ready (now c) ⌝ }
-    ensures { λ r. ⌜ Taken subclasses external mcheck (now (c .entry)) (now (c .exit)) (now (out .entry)) (now (out .exit)) r ⌝ }
+    ensures { λ r. ⌜ Taken subclasses external mcheck (now (c .entry)) (now (c .exit)) (now (out .entry)) (saw r (now (out .exit))) ⌝ }
 {
     controller::hand_out(
         &mut c.slots,
@@ -148,7 +150,7 @@ pub extern "C" fn flic_take(
 #[no_mangle]
 pub extern "C" fn flic_write_list(c: &Controller, d: &Device, t: &[Place], out: &mut [u8]) -> Answer
     requires { ⌜ Premise (now c) (now d) (now t) ⌝ }
-    ensures { λ r. ⌜ Requested writeList (now (c .entry)) (now (c .entry)) (now (d .entry)) (now (d .entry)) (now (t .entry)) (now (t .entry)) (now (out .entry)) (now (out .exit)) r ⌝ }
+    ensures { λ r. ⌜ Requested writeList (now (c .entry)) (now (c .entry)) (now (d .entry)) (now (d .entry)) (now (t .entry)) (now (t .entry)) (now (out .entry)) (saw r (now (out .exit))) ⌝ }
 {
     if t.len() != PLACES {
         return answers::refuse(EFAULT);
@@ -176,7 +178,7 @@ pub extern "C" fn flic_play_list(
     list: &[u8],
 ) -> Answer
     requires { ⌜ Premise (now c) (now d) (now t) ⌝ }
-    ensures { λ r. ⌜ Played (now (c .entry)) (now (c .exit)) (now (d .entry)) (now (d .exit)) (now (t .entry)) (now (t .exit)) (now (list .entry)) r ⌝ }
+    ensures { λ r. ⌜ Requested playList (now (c .entry)) (now (c .exit)) (now (d .entry)) (now (d .exit)) (now (t .entry)) (now (t .exit)) (now (list .entry)) (saw r (now (list .entry))) ⌝ }
 {
     if t.len() != PLACES {
         return answers::refuse(EFAULT);

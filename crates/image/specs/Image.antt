@@ -4,13 +4,12 @@ use mathlib.Core.Bool.{true}
 use lib.Dec.{eqb, ltb}
 use Rattle.rules.specs.Bytes.{choose}
 use Rattle.rules.specs.MoveList.{oneIf}
-use Rattle.rules.specs.State.{paperLimits}
 use Rattle.adapters.specs.declared.Place.{Place}
 use Rattle.adapters.specs.Values.{unused}
 
 -- an image has a byte for each place
 abbrev pub imageSize : ℕ
-imageSize = paperLimits .places
+imageSize = 64
 
 unfoldable pub packed : Place → ℕ
 packed p =

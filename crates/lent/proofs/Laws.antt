@@ -11,6 +11,7 @@ use Rattle.rules.specs.Bytes.{choose}
 use Rattle.rules.specs.State.{Limits, State, free, withDevice}
 use Rattle.rules.specs.Outcome.{result, tell}
 use Rattle.rules.specs.Requests.{setRequest, request}
+use Rattle.rules.specs.Machine.{answerOf}
 use Rattle.rules.proofs.Lists.{all-set, all-get}
 use Rattle.adapters.specs.declared.Device.{Device}
 use Rattle.adapters.specs.declared.Place.{Place}
@@ -31,7 +32,7 @@ module _ (ais : Bool) (group attr : ℕ) (d : Device) (b : List ℕ) (code : ℕ
   unfolding result
   modes-refused f n =
       record {
-        answer = λ L s e h. ap (result L s b) (f L s e ∙ decided-refused _ _ n) ∙ (λ i. tell code 0 (withDevice (h i) s) b);
+        answer = λ L s e h. ap (answerOf L s b) (f L s e ∙ decided-refused _ _ n) ∙ (λ i. tell code 0 (withDevice (h i) s) b);
         kept = λ _. refl;
       }
 
@@ -39,7 +40,7 @@ module _ (ais : Bool) (group attr : ℕ) (d : Device) (b : List ℕ) (code : ℕ
   unfolding result
   modes-accepted f z =
       record {
-        answer = λ L s e h. ap (result L s b) (f L s e ∙ decided-accepted _ _ z) ∙ (λ i. tell 0 0 (withDevice (modesAfter group b (h i)) s) b);
+        answer = λ L s e h. ap (answerOf L s b) (f L s e ∙ decided-accepted _ _ z) ∙ (λ i. tell 0 0 (withDevice (modesAfter group b (h i)) s) b);
         kept = λ n. absurd (n refl);
       }
 
@@ -76,7 +77,7 @@ module _ (group attr : ℕ) (t : List Place) (b : List ℕ) (code : ℕ) where
   unfolding result
   place-refused f n =
       record {
-        answer = λ L s e h. ap (result L s b) (f L s e (seen s h) ∙ decided-refused _ _ n) ∙ (λ i. tell code 0 (withTable (h i) s) b);
+        answer = λ L s e h. ap (answerOf L s b) (f L s e (seen s h) ∙ decided-refused _ _ n) ∙ (λ i. tell code 0 (withTable (h i) s) b);
         kept = λ _. refl;
         canonical = λ c. c;
         same-length = refl;
@@ -86,7 +87,7 @@ module _ (group attr : ℕ) (t : List Place) (b : List ℕ) (code : ℕ) where
   unfolding result
   place-accepted f z p e c =
       record {
-        answer = λ L s l h. ap (result L s b) (f L s l (seen s h) ∙ decided-accepted _ _ z)
+        answer = λ L s l h. ap (answerOf L s b) (f L s l (seen s h) ∙ decided-accepted _ _ z)
             ∙ (λ i. tell 0 0 (withTable (((λ j. set (h j) id ((sym e) j)) ∙ sym (map-set placeOf t id p)) i) s) b);
         kept = λ n. absurd (n refl);
         canonical = λ a. all-set Canonical t id p a (c (all-get Canonical t id unused a canonical-unused));

@@ -107,23 +107,23 @@ slot-within b place h p =
 
 -- ---- the checks of a list that are left after the first, the second, ..
 module _ (L : Limits) (s : State) (b : List ℕ) where
-  abbrev pub fromAis : Outcome
+  abbrev pub fromAis : Outcome State
   fromAis = need eqb (aisFlagIn b) (oneIf (s .ais)) else EOPNOTSUPP ⨾ applies L 0 (fresh L (s .ais)) (requestsIn b (slotsOf b))
 
-  abbrev pub fromSlots : Outcome
+  abbrev pub fromSlots : Outcome State
   fromSlots = need formed (length b) (payloadOffsetIn b) (slotsOf b) else EINVAL ⨾ fromAis
 
-  abbrev pub fromOffsets : Outcome
+  abbrev pub fromOffsets : Outcome State
   fromOffsets =
       need eqb (tableOffsetIn b) headerBytes && (eqb (payloadOffsetIn b) (payloadOffset (countIn b)) && leb (payloadOffsetIn b) (length b)) else EINVAL ⨾ fromSlots
 
-  abbrev pub fromCount : Outcome
+  abbrev pub fromCount : Outcome State
   fromCount = need leb (countIn b) mostRequests else E2BIG ⨾ fromOffsets
 
-  abbrev pub fromFlag : Outcome
+  abbrev pub fromFlag : Outcome State
   fromFlag = need leb (aisFlagIn b) 1 else EINVAL ⨾ fromCount
 
-  abbrev pub fromTotal : Outcome
+  abbrev pub fromTotal : Outcome State
   fromTotal = need eqb (totalIn b) (length b) else EINVAL ⨾ fromFlag
 
 pub refused-with : (ais : Bool) (b : List ℕ) (code : ℕ) → 0 < code → ((L : Limits) (s : State) → s .ais ≡ ais → plays L s b ≡ refuse code) → Form ais b code

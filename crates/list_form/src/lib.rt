@@ -4,12 +4,13 @@ ghost use mathlib.Core.Bool.{_&&_};
 ghost use Prim.Native.Nat.{_+_, _*_, _≤_, _<_};
 ghost use lib.ListN.{length, drop};
 ghost use lib.Dec.{leb, eqb};
-ghost use Rattle.rules.specs.MoveList.{oneIf, headerBytes, tableEntryBytes, tableOffsetIn, payloadOffsetIn, payloadOffset, tableEntriesIn, movable, formed};
+ghost use Rattle.rules.specs.MoveList.{oneIf, headerBytes, tableEntryBytes, tableOffsetIn, payloadOffsetIn, payloadOffset, tableEntriesIn, movable, formed, mostRequests};
 ghost use Rattle.list_form.specs.Form.{slotAt, slotFormed, Form};
 use answers::E2BIG;
 use answers::EFAULT;
 use answers::EINVAL;
 use answers::EOPNOTSUPP;
+use words::MOST_REQUESTS;
 
 pub fn flag_of(on: bool) -> u64
     ensures { λ r. ⌜ (r ≡ oneIf on) × (r ≤ 1) ⌝ }
@@ -38,7 +39,7 @@ fn is_movable(group: u64) -> bool
 
 // The table entry at a place has its payload at this offset, a zero word and a group that may be moved.
 fn slot_formed(list: &[u8], place: usize, at: u64) -> bool
-    requires { ⌜ (place < 131) × (headerBytes + tableEntryBytes * (place + 1) ≤ length (now list)) ⌝ }
+    requires { ⌜ (place < mostRequests) × (headerBytes + tableEntryBytes * (place + 1) ≤ length (now list)) ⌝ }
     ensures { λ r. ⌜ r ≡ slotFormed at (slotAt place (now (list .entry))) ⌝ }
 {
     let e = 20 + 24 * place;
@@ -53,7 +54,7 @@ fn slot_formed(list: &[u8], place: usize, at: u64) -> bool
 
 // Entry by entry, and the last end.
 fn slots_formed(list: &[u8], count: usize) -> bool
-    requires { ⌜ (count ≤ 131) × (payloadOffset count ≤ length (now list)) ⌝ }
+    requires { ⌜ (count ≤ mostRequests) × (payloadOffset count ≤ length (now list)) ⌝ }
     ensures { λ r. ⌜ r ≡ formed (length (now (list .entry))) (payloadOffset count) (tableEntriesIn count (drop headerBytes (now (list .entry)))) ⌝ }
 {
     let mut at = (20 + 24 * count) as u64;
@@ -62,7 +63,7 @@ fn slots_formed(list: &[u8], count: usize) -> bool
         if !slot_formed(list, i, at) {
             return false;
         }
-        at += words::read_be(list, 28 + 24 * i, 4); // cannot wrap: 131 lengths below 2^32
+        at += words::read_be(list, 28 + 24 * i, 4); // cannot wrap: MOST_REQUESTS lengths below 2^32
         i += 1;
     }
     at == list.len() as u64
@@ -70,7 +71,7 @@ fn slots_formed(list: &[u8], count: usize) -> bool
 
 // Both offsets are what the count says, and the payload offset is not above the total.
 fn offsets(list: &[u8], count: u64) -> bool
-    requires { ⌜ (headerBytes ≤ length (now list)) × (count ≤ 131) ⌝ }
+    requires { ⌜ (headerBytes ≤ length (now list)) × (count ≤ mostRequests) ⌝ }
     ensures { λ r. ⌜ r ≡ (eqb (tableOffsetIn (now (list .entry))) headerBytes && (eqb (payloadOffsetIn (now (list .entry))) (payloadOffset count) && leb (payloadOffsetIn (now (list .entry))) (length (now (list .entry))))) ⌝ }
 {
     if words::read_be(list, 8, 4) != 20 {
@@ -98,7 +99,7 @@ pub fn form(list: &[u8], ais: bool) -> u32
         return EINVAL;
     }
     let count = words::read_be(list, 4, 4);
-    if 131 < count {
+    if MOST_REQUESTS < count {
         return E2BIG;
     }
     if !offsets(list, count) {

@@ -8,7 +8,7 @@ ghost use Rattle.rules.specs.Bytes.{choose, part};
 ghost use Rattle.rules.specs.State.{Limits, State, withPending, listing};
 ghost use Rattle.rules.specs.Requests.{clearIrqs, getAllIrqs, clearIoIrq, request};
 ghost use Rattle.rules.specs.Take.{takes};
-ghost use Rattle.slots.specs.Slots.{slotCount, removeAt};
+ghost use Rattle.slots.specs.Slots.{slotCount, mostPending, removeAt};
 ghost use Rattle.queues.specs.Queues.{sum, queues, withoutAt, InQueue, Held};
 ghost use Rattle.singles.specs.Singles.{serviceOf, mchkOf};
 ghost use Rattle.answers.specs.Answers.{Answers, answered};
@@ -35,7 +35,7 @@ fn one_if(t: bool) -> usize
 // How many records are pending.
 pub fn pending(counts: &[usize; QUEUES], singles: &[u8; SINGLES_BYTES]) -> usize
     requires { ⌜ sum (now counts) ≤ slotCount ⌝ }
-    ensures { λ r. ⌜ ((order slots : List ℕ) → length order ≡ slotCount → r ≡ length (listing (pendingOf order (now (counts .entry)) slots (now (singles .entry))))) × (r ≤ 258) ⌝ }
+    ensures { λ r. ⌜ ((order slots : List ℕ) → length order ≡ slotCount → r ≡ length (listing (pendingOf order (now (counts .entry)) slots (now (singles .entry))))) × (r ≤ mostPending) ⌝ }
 {
     // As a slice: what makes one of an array says its length. So below.
     let _c: &[usize] = counts;

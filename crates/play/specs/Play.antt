@@ -14,8 +14,9 @@ use Rattle.adapters.specs.declared.Device.{Device}
 use Rattle.adapters.specs.Values.{deviceOf}
 use Rattle.image_places.specs.Places.{placesOf}
 
-abbrev pub limitsOf : ℕ → ℕ → Limits
-limitsOf places room = record { places = places; room = room }
+-- limits, by the numbers that the code passes on
+abbrev pub limitsFrom : (places room : ℕ) → Limits
+limitsFrom places room = record { places = places; room = room }
 
 -- a state from the capability, the first places of an image, the pending records and the device record
 abbrev pub stateOf : Bool → ℕ → List ℕ → Pending → Device → State
@@ -23,10 +24,10 @@ stateOf ais places image pending device =
     record { ais = ais; adapters = take places (placesOf image); pending = pending; device = deviceOf device }
 
 -- the request of a table entry
-abbrev pub requestIn : Limits → State → List ℕ → TableEntry → Outcome
+abbrev pub requestIn : Limits → State → List ℕ → TableEntry → Outcome State
 requestIn L s b e = request L s (setRequest (e .group)) (e .attr) (part (e .at) (e .size) b)
 
 -- An answer to the requests of a list: all are applied, their number is the count and this is the next state; or the one at the place that is
 -- the count was refused with the code.
-unfoldable pub ranTo : Answer → State → Outcome
+unfoldable pub ranTo : Answer → State → Outcome State
 ranTo a next = choose (eqb (a .code) 0) (accept (a .count) next []) (reset (a .code) (a .count))

@@ -6,16 +6,15 @@ ghost use lib.ListN.{take, replicate};
 ghost use lib.Dec.{eqb};
 ghost use Rattle.rules.specs.Bytes.{choose, part};
 ghost use Rattle.rules.specs.State.{Limits, State};
-ghost use Rattle.rules.specs.Outcome.{refuse};
+ghost use Rattle.rules.specs.Outcome.{refuseWith};
 ghost use Rattle.rules.specs.Requests.{setRequest, request};
 ghost use Rattle.rules.specs.MoveList.{countIn, movable, requestsIn, applies, plays};
 ghost use Rattle.answers.specs.Answers.{Answers, answered};
 ghost use Rattle.queues.specs.Queues.{Held};
 ghost use Rattle.records.specs.Memory.{pendingOf};
-ghost use Rattle.adapters.specs.Values.{deviceOf};
 ghost use Rattle.image_places.specs.Places.{AllCanonical};
 ghost use Rattle.list_form.specs.Form.{slotAt, slotsOf, Formed};
-ghost use Rattle.play.specs.Play.{limitsOf, stateOf, requestIn, ranTo};
+ghost use Rattle.play.specs.Play.{limitsFrom, stateOf, requestIn, ranTo};
 ghost use Rattle.image.specs.Image.{imageSize};
 ghost use Rattle.slots.specs.Slots.{slotCount};
 use adapters::Device;
@@ -49,7 +48,7 @@ fn apply(
     payload: &[u8],
 ) -> Ran
     requires { ⌜ (room ≤ slotCount) × (places ≤ imageSize) × Held (now order) (now counts) × AllCanonical (now image) × (movable group ≡ true) ⌝ }
-    ensures answer { λ r. ⌜ Answers (limitsOf places room) (stateOf ais places (now (image .entry)) (pendingOf (now (order .entry)) (now (counts .entry)) (now (slots .entry)) (now (singles .entry))) device) (now (payload .entry)) (request (limitsOf places room) (stateOf ais places (now (image .entry)) (pendingOf (now (order .entry)) (now (counts .entry)) (now (slots .entry)) (now (singles .entry))) device) (setRequest group) attr (now (payload .entry))) (r .answer) (stateOf ais places (now (image .exit)) (pendingOf (now (order .exit)) (now (counts .exit)) (now (slots .exit)) (now (singles .exit))) (r .device)) (now (payload .entry)) ⌝ }
+    ensures answer { λ r. ⌜ Answers (limitsFrom places room) (stateOf ais places (now (image .entry)) (pendingOf (now (order .entry)) (now (counts .entry)) (now (slots .entry)) (now (singles .entry))) device) (now (payload .entry)) (request (limitsFrom places room) (stateOf ais places (now (image .entry)) (pendingOf (now (order .entry)) (now (counts .entry)) (now (slots .entry)) (now (singles .entry))) device) (setRequest group) attr (now (payload .entry))) (r .answer) (stateOf ais places (now (image .exit)) (pendingOf (now (order .exit)) (now (counts .exit)) (now (slots .exit)) (now (singles .exit))) (r .device)) (now (payload .entry)) ⌝ }
     ensures held { λ _. ⌜ Held (now (order .exit)) (now (counts .exit)) × AllCanonical (now (image .exit)) ⌝ }
 {
     if group == ENQUEUE {
@@ -86,7 +85,7 @@ fn apply_at(
     place: usize,
 ) -> Ran
     requires { ⌜ (room ≤ slotCount) × (places ≤ imageSize) × Held (now order) (now counts) × AllCanonical (now image) × Formed (now list) × (place < countIn (now list)) ⌝ }
-    ensures answer { λ r. ⌜ Answers (limitsOf places room) (stateOf ais places (now (image .entry)) (pendingOf (now (order .entry)) (now (counts .entry)) (now (slots .entry)) (now (singles .entry))) device) (part (slotAt place (now (list .entry)) .at) (slotAt place (now (list .entry)) .size) (now (list .entry))) (requestIn (limitsOf places room) (stateOf ais places (now (image .entry)) (pendingOf (now (order .entry)) (now (counts .entry)) (now (slots .entry)) (now (singles .entry))) device) (now (list .entry)) (slotAt place (now (list .entry)))) (r .answer) (stateOf ais places (now (image .exit)) (pendingOf (now (order .exit)) (now (counts .exit)) (now (slots .exit)) (now (singles .exit))) (r .device)) (part (slotAt place (now (list .entry)) .at) (slotAt place (now (list .entry)) .size) (now (list .entry))) ⌝ }
+    ensures answer { λ r. ⌜ Answers (limitsFrom places room) (stateOf ais places (now (image .entry)) (pendingOf (now (order .entry)) (now (counts .entry)) (now (slots .entry)) (now (singles .entry))) device) (part (slotAt place (now (list .entry)) .at) (slotAt place (now (list .entry)) .size) (now (list .entry))) (requestIn (limitsFrom places room) (stateOf ais places (now (image .entry)) (pendingOf (now (order .entry)) (now (counts .entry)) (now (slots .entry)) (now (singles .entry))) device) (now (list .entry)) (slotAt place (now (list .entry)))) (r .answer) (stateOf ais places (now (image .exit)) (pendingOf (now (order .exit)) (now (counts .exit)) (now (slots .exit)) (now (singles .exit))) (r .device)) (part (slotAt place (now (list .entry)) .at) (slotAt place (now (list .entry)) .size) (now (list .entry))) ⌝ }
     ensures held { λ _. ⌜ Held (now (order .exit)) (now (counts .exit)) × AllCanonical (now (image .exit)) ⌝ }
 {
     let e = 20 + 24 * place;
@@ -125,7 +124,7 @@ fn apply_all(
     count: usize,
 ) -> Ran
     requires { ⌜ (room ≤ slotCount) × (places ≤ imageSize) × Held (now order) (now counts) × AllCanonical (now image) × Formed (now list) × (count ≡ countIn (now list)) ⌝ }
-    ensures answer { λ r. ⌜ applies (limitsOf places room) 0 (stateOf ais places (now (image .entry)) (pendingOf (now (order .entry)) (now (counts .entry)) (now (slots .entry)) (now (singles .entry))) device) (requestsIn (now (list .entry)) (slotsOf (now (list .entry)))) ≡ ranTo (r .answer) (stateOf ais places (now (image .exit)) (pendingOf (now (order .exit)) (now (counts .exit)) (now (slots .exit)) (now (singles .exit))) (r .device)) ⌝ }
+    ensures answer { λ r. ⌜ applies (limitsFrom places room) 0 (stateOf ais places (now (image .entry)) (pendingOf (now (order .entry)) (now (counts .entry)) (now (slots .entry)) (now (singles .entry))) device) (requestsIn (now (list .entry)) (slotsOf (now (list .entry)))) ≡ ranTo (r .answer) (stateOf ais places (now (image .exit)) (pendingOf (now (order .exit)) (now (counts .exit)) (now (slots .exit)) (now (singles .exit))) (r .device)) ⌝ }
     ensures held { λ _. ⌜ Held (now (order .exit)) (now (counts .exit)) × AllCanonical (now (image .exit)) ⌝ }
 {
     let mut d = device;
@@ -197,7 +196,7 @@ pub fn play_list(
     ensures answer { λ r. ⌜ ((L : Limits) (s : State) → L .places ≡ places → L .room ≡ room → s .ais ≡ ais → Answers L s (now (list .entry)) (plays L s (now (list .entry))) (r .answer) (choose (eqb (r .restored) 0) s (stateOf ais places (r .image) (pendingOf (now (order .exit)) (now (counts .exit)) (now (slots .exit)) (now (singles .exit))) (r .device))) (now (list .entry))) ⌝ }
     ensures held { λ r. ⌜ Held (now (order .exit)) (now (counts .exit)) × AllCanonical (take places (r .image)) ⌝ }
     ensures restored { λ r. ⌜ ((r .restored ≡ 0 → ⊥) → r .restored ≡ places) ⌝ }
-    ensures form { λ r. ⌜ ((L : Limits) (s : State) → s .ais ≡ ais → (code : ℕ) → plays L s (now (list .entry)) ≡ refuse code → r .restored ≡ 0) ⌝ }
+    ensures form { λ r. ⌜ ((L : Limits) (s : State) → s .ais ≡ ais → (code count : ℕ) → plays L s (now (list .entry)) ≡ refuseWith code count → r .restored ≡ 0) ⌝ }
     ensures kept { λ r. ⌜ (r .restored ≡ 0 → (now (slots .exit) ≡ now (slots .entry)) × (now (order .exit) ≡ now (order .entry)) × (now (counts .exit) ≡ now (counts .entry)) × (now (singles .exit) ≡ now (singles .entry))) ⌝ }
 {
     let code = list_form::form(list, ais);

@@ -13,6 +13,7 @@ use Rattle.rules.specs.State.{Limits, State, Pending, paperLimits, fresh, listi
 use Rattle.rules.specs.Outcome.{result}
 use Rattle.rules.specs.MoveList.{headerBytes, aisFlagIn, plays}
 use Rattle.rules.specs.Listing.{shown, refusal, told, freshFor, mostBytes, printed}
+use Rattle.rules.specs.Machine.{answerOf}
 use Rattle.rules.proofs.Checks.{fails, chosen, passed}
 use Rattle.answers.specs.Answers.{Answers}
 use Rattle.answers.specs.declared.Answer.{Answer}
@@ -27,12 +28,12 @@ whole {e = e} {t = t} {n = n} u w k =
     ((rw (k, w .ends, zero-add), rw (k, w .now, w .ends, take-length t)), (f, sym (length-take-le n e f)))
 
 -- a list too short for a header is refused, whatever the capability
-too-short : (L : Limits) (s : State) (b : List ℕ) → length b < headerBytes → told (result L s b (plays L s b)) ≡ refusal 14
+too-short : (L : Limits) (s : State) (b : List ℕ) → length b < headerBytes → told (answerOf L s b (plays L s b)) ≡ refusal 14
 unfolding told result plays choose
 too-short L s b h = rw (fails (leb headerBytes (length b)) 14 _ (lt-leb headerBytes (length b) h))
 
 told-by : (b : List ℕ) (ais t : Bool) → leb headerBytes (length b) ≡ t → (headerBytes ≤ length b → ais ≡ eqb (aisFlagIn b) 1)
-    → told (result paperLimits (freshFor b) b (plays paperLimits (freshFor b) b)) ≡ told (result paperLimits (fresh paperLimits ais) b (plays paperLimits (fresh paperLimits ais) b))
+    → told (answerOf paperLimits (freshFor b) b (plays paperLimits (freshFor b) b)) ≡ told (answerOf paperLimits (fresh paperLimits ais) b (plays paperLimits (fresh paperLimits ais) b))
 told-by b ais true e h = rw (h (leb-true headerBytes (length b) e))
 told-by b ais false e h =
     let k = leb-false headerBytes (length b) e in

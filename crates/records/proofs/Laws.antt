@@ -16,7 +16,7 @@ use Rattle.rules.specs.Bytes.{choose, number, bytes, part, field}
 use Rattle.rules.specs.State as rules
 use Rattle.rules.specs.State.{Limits, State, Record, Pending, withPending, kind, subclass, addIo, addAs, add, addAll, firstOr, mergedOr, queued}
 use Rattle.rules.specs.Outcome.{refuse, need_else_⨾_}
-use Rattle.rules.specs.Requests.{recordsIn, kindAccepted, allAccepted, wants, allWant, enqueue, enqueues, adapterInterrupt, request}
+use Rattle.rules.specs.Requests.{recordsIn, kindAccepted, allAccepted, wants, allWant, enqueueBytes, enqueue, enqueues, adapterInterrupt, request}
 use Rattle.rules.proofs.Checks.{passes, fails, both}
 use Rattle.rules.proofs.Lists.{flatten-append}
 use Rattle.words.proofs.Laws.{drop-take}
@@ -298,10 +298,10 @@ interrupt-bytes isc h =
     rw (e3, e2, e1, e0)
 
 -- ---- the request
-module _ (L : Limits) (s : State) (attr : ℕ) (b : List ℕ) (h : attr ≡ 0 → ⊥) (k : attr ≤ 18576) (e : attr % 72 ≡ 0) where
+module _ (L : Limits) (s : State) (attr : ℕ) (b : List ℕ) (h : attr ≡ 0 → ⊥) (k : attr ≤ enqueueBytes) (e : attr % 72 ≡ 0) where
   pub enqueuing : request L s enqueue attr b ≡ (need leb attr (length b) else 14 ⨾ enqueues L s (recordsIn (attr / 72) b))
   unfolding request
-  enqueuing = passes _ _ _ (rw (ne-eqb attr 0 h, le-leb attr 18576 k, eq-eqb (attr % 72) 0 e))
+  enqueuing = passes _ _ _ (rw (ne-eqb attr 0 h, le-leb attr enqueueBytes k, eq-eqb (attr % 72) 0 e))
 
   -- the answer to the records of the payload, where q are queued
   module _ (f : attr ≤ length b) (q : ℕ) (eq : queued (s .pending) ≡ q) (a : Answer)

@@ -5,7 +5,7 @@ ghost use Prim.Native.Nat.{ℕ, _+_, _*_, _≤_, _<_};
 ghost use lib.ListN.{length};
 ghost use Rattle.rules.specs.Bytes.{part};
 ghost use Rattle.rules.specs.State.{Limits, State, withPending, subclass, kind, addIo, add, addAll};
-ghost use Rattle.rules.specs.Requests.{enqueue, recordsIn, wants, allWant, adapterInterrupt, request};
+ghost use Rattle.rules.specs.Requests.{enqueue, enqueueBytes, recordsIn, wants, allWant, adapterInterrupt, request};
 ghost use Rattle.slots.specs.Slots.{slotCount};
 ghost use Rattle.queues.specs.Queues.{sum, Held};
 ghost use Rattle.answers.specs.Answers.{Answers};
@@ -15,6 +15,7 @@ use answers::Answer;
 use answers::EBUSY;
 use answers::EFAULT;
 use answers::EINVAL;
+use words::ENQUEUE_BYTES;
 use words::QUEUES;
 use words::ROOM;
 use words::SINGLES_BYTES;
@@ -67,7 +68,7 @@ pub enum Checked {
 
 // The first n records of b.
 pub fn check(b: &[u8], n: usize) -> Checked
-    requires { ⌜ (n ≤ 258) × (n * 72 ≤ length (now b)) ⌝ }
+    requires { ⌜ (n * 72 ≤ enqueueBytes) × (n * 72 ≤ length (now b)) ⌝ }
     ensures { λ r. ⌜ r ≡ checkFrom 0 0 (recordsIn n (now (b .entry))) ⌝ }
 {
     let mut wanted = 0;
@@ -89,7 +90,7 @@ pub fn check(b: &[u8], n: usize) -> Checked
 
 // The answer to the first n records of b, where so many are queued.
 fn answer_to(b: &[u8], n: usize, queued: usize, room: usize) -> Answer
-    requires { ⌜ (n ≤ 258) × (n * 72 ≤ length (now b)) × (queued ≤ slotCount) ⌝ }
+    requires { ⌜ (n * 72 ≤ enqueueBytes) × (n * 72 ≤ length (now b)) × (queued ≤ slotCount) ⌝ }
     ensures { λ r. ⌜ r ≡ answerTo (checkFrom 0 0 (recordsIn n (now (b .entry)))) n queued room ⌝ }
 {
     let Checked::Good(wanted) = check(b, n) else {
@@ -149,7 +150,7 @@ fn add_all(
     n: usize,
     queued: usize,
 )
-    requires { ⌜ (n ≤ 258) × (n * 72 ≤ length (now b)) × (queued ≡ sum (now counts)) × Held (now order) (now counts) × (sum (now counts) + allWant (recordsIn n (now b)) ≤ slotCount) ⌝ }
+    requires { ⌜ (n * 72 ≤ enqueueBytes) × (n * 72 ≤ length (now b)) × (queued ≡ sum (now counts)) × Held (now order) (now counts) × (sum (now counts) + allWant (recordsIn n (now b)) ≤ slotCount) ⌝ }
     ensures pending { λ _. ⌜ pendingOf (now (order .exit)) (now (counts .exit)) (now (slots .exit)) (now (singles .exit)) ≡ addAll (recordsIn n (now (b .entry))) (pendingOf (now (order .entry)) (now (counts .entry)) (now (slots .entry)) (now (singles .entry))) ⌝ }
     ensures held { λ _. ⌜ Held (now (order .exit)) (now (counts .exit)) ⌝ }
     ensures kept { λ _. ⌜ (n ≡ 0 → (now (slots .exit) ≡ now (slots .entry)) × (now (order .exit) ≡ now (order .entry)) × (now (counts .exit) ≡ now (counts .entry)) × (now (singles .exit) ≡ now (singles .entry))) ⌝ }
@@ -180,7 +181,7 @@ pub fn enqueue_irqs(
     if attr == 0 {
         return answers::refuse(EINVAL);
     }
-    if 18576 < attr {
+    if ENQUEUE_BYTES < attr {
         return answers::refuse(EINVAL);
     }
     if attr % 72 != 0 {

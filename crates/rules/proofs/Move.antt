@@ -12,7 +12,7 @@ use Rattle.rules.specs.State.{Limits, paperLimits, Adapter, Place, free,
 use Rattle.rules.specs.Outcome.{accept, Answer, result}
 use Rattle.rules.specs.Requests.{nonZero}
 use Rattle.rules.specs.MoveList.{ListRequest, oneIf, byRisingId, registerRequest, modifyRequest, enqueueRequest, aismAllRequest, apfRequest, listRequests, payloads, payloadOffset, total, moveList, writes, countIn, mostRequests}
-use Rattle.rules.specs.Machine.{Call, setAttr, writeList, playList, outcome, step, answers, after}
+use Rattle.rules.specs.Machine.{Call, setAttr, writeList, playList, outcome, step, answers, after, answerOf}
 use Rattle.rules.proofs.Checks.{passes}
 use Rattle.rules.proofs.Computes.{computes}
 use Rattle.rules.specs.Invariant.{All, Whole, Sound}
@@ -145,13 +145,13 @@ module _ (L : Limits) (ais : Bool) (cs : List Call) (b : List ℕ) (t : State) w
   abbrev pub first : State
   first = after L (fresh L ais) cs
 
-  abbrev pub written : Answer
+  abbrev pub written : Answer State
   written = step L first (record { ask = writeList; buffer = b; tableLength = L .places })
 
   abbrev pub list : List ℕ
   list = take (written .count) (written .buffer)
 
-  abbrev pub played : Answer
+  abbrev pub played : Answer State
   played = step L t (record { ask = playList; buffer = list; tableLength = L .places })
 
   pub record Move : Type 0 where
@@ -176,19 +176,19 @@ pub move : (L : Limits) → Movable L → (ais : Bool) (cs : List Call) (b : Lis
 unfolding step result
 move L fits ais cs b t long same =
     record {
-      write-accepted = ap (λ (a : Answer). a .code) w;
-      write-count = ap (λ (a : Answer). a .count) w;
-      write-length = ap length is-list ∙ length-moveList (s .ais) (listRequests s) ∙ sym (ap (λ (a : Answer). a .count) w);
+      write-accepted = ap (λ (a : Answer State). a .code) w;
+      write-count = ap (λ (a : Answer State). a .count) w;
+      write-length = ap length is-list ∙ length-moveList (s .ais) (listRequests s) ∙ sym (ap (λ (a : Answer State). a .count) w);
       write-rest =
-          ap (λ (a : Answer). a .buffer) w
-          ∙ sym (ap₂ (λ (l : List ℕ) (n : ℕ). l ++ drop n b) is-list (ap (λ (a : Answer). a .count) w ∙ sym (length-moveList (s .ais) (listRequests s))));
-      write-keeps = ap (λ (a : Answer). a .next) w;
-      play-accepted = ap (λ (a : Answer). a .code) p;
-      play-count = ap (λ (a : Answer). a .count) p ∙ sym (ap countIn is-list ∙ count-written (s .ais) (listRequests s) (fits-word L fits s h));
-      play-few = rw (ap (λ (a : Answer). a .count) p) (few-requests L fits s h);
-      play-keeps = ap (λ (a : Answer). a .buffer) p;
-      play-state = ap (λ (a : Answer). a .next) p ∙ sym (ap (λ (a : Answer). a .next) w);
-      later = λ ds. ap (λ (u : State). answers L u ds) (ap (λ (a : Answer). a .next) p ∙ sym (ap (λ (a : Answer). a .next) w));
+          ap (λ (a : Answer State). a .buffer) w
+          ∙ sym (ap₂ (λ (l : List ℕ) (n : ℕ). l ++ drop n b) is-list (ap (λ (a : Answer State). a .count) w ∙ sym (length-moveList (s .ais) (listRequests s))));
+      write-keeps = ap (λ (a : Answer State). a .next) w;
+      play-accepted = ap (λ (a : Answer State). a .code) p;
+      play-count = ap (λ (a : Answer State). a .count) p ∙ sym (ap countIn is-list ∙ count-written (s .ais) (listRequests s) (fits-word L fits s h));
+      play-few = rw (ap (λ (a : Answer State). a .count) p) (few-requests L fits s h);
+      play-keeps = ap (λ (a : Answer State). a .buffer) p;
+      play-state = ap (λ (a : Answer State). a .next) p ∙ sym (ap (λ (a : Answer State). a .next) w);
+      later = λ ds. ap (λ (u : State). answers L u ds) (ap (λ (a : Answer State). a .next) p ∙ sym (ap (λ (a : Answer State). a .next) w));
     }
   where
     s : State
@@ -200,25 +200,27 @@ move L fits ais cs b t long same =
     capable : t .ais ≡ s .ais
     capable = same ∙ sym (reachable L ais cs .same-ais ∙ fresh-ais L ais)
 
-    w : written L ais cs b t ≡ result L s b (accept (total (listRequests s)) s (moveList (s .ais) (listRequests s)))
-    w = ap (result L s b) (writes-list L fits s h b long)
+    w : written L ais cs b t ≡ answerOf L s b (accept (total (listRequests s)) s (moveList (s .ais) (listRequests s)))
+    w = ap (answerOf L s b) (writes-list L fits s h b long)
 
     is-list : list L ais cs b t ≡ moveList (s .ais) (listRequests s)
     is-list =
-        ap (λ (a : Answer). take (a .count) (a .buffer)) w
+        ap (λ (a : Answer State). take (a .count) (a .buffer)) w
         ∙ take-at (moveList (s .ais) (listRequests s)) _ (total (listRequests s)) (length-moveList (s .ais) (listRequests s))
 
-    p : played L ais cs b t ≡ result L t (list L ais cs b t) (accept (length (listRequests s)) s [])
+    p : played L ais cs b t ≡ answerOf L t (list L ais cs b t) (accept (length (listRequests s)) s [])
     p =
-        ap (result L t (list L ais cs b t))
+        ap (answerOf L t (list L ais cs b t))
         (ap (outcome L t playList (L .places)) is-list ∙ plays-list L fits s h t capable)
 
 -- ---- the longest list of the paper's controller, and that it is reached
 
 pub movable-paper : Movable paperLimits
+unfolding paperLimits
 movable-paper = record { few-places = omega arith; little-room = omega arith }
 
 pub longest-bound : (ais : Bool) (cs : List Call) → total (listRequests (after paperLimits (fresh paperLimits ais) cs)) ≤ 23278
+unfolding paperLimits
 longest-bound ais cs =
     let s = after paperLimits (fresh paperLimits ais) cs in
     omega (arith, total-bound paperLimits movable-paper s (reachable paperLimits ais cs .sound), flag-le (s .ais))

@@ -1,24 +1,27 @@
 -- What holds of every answer of the machine, in every state: its code is 0 or one of the paper's six; the next state
--- has the capability of the state before; a refusal has count 0, unless a list is played. One pass through the checks
--- of every request, in their order.
-use Prim.Native.Nat.{ℕ, suc}
+-- has the capability of the state before; a refusal has count 0, unless a list is played; no answer has a further
+-- number. One pass through the checks of every request, in their order.
+use Prim.Native.Nat.{ℕ, suc, _<_}
 use mathlib.Core.Path.{_≡_, refl, _∙_}
 use mathlib.Core.Bool.{Bool, true, false}
 use mathlib.Core.Option.{Option, none, some}
 use mathlib.Core.List.{List, [], _∷_, List·Memᴰ, List·Memᴰ·head, List·Memᴰ·tail}
 use Rattle.rules.specs.Bytes.{choose}
-use Rattle.rules.specs.State.{Limits, Adapter, Place, free, holds, Record, Pending, State, fresh}
-use Rattle.rules.specs.Outcome.{EINVAL, EOPNOTSUPP, EFAULT, ENOMEM, EBUSY, E2BIG, Outcome, refuse, accept, reset, need_else_⨾_, holder_else_⨾_, Answer, result}
+use Rattle.rules.specs.State.{Limits, Adapter, Record, Pending, State, fresh}
+use Rattle.rules.specs.Outcome.{EINVAL, EOPNOTSUPP, EFAULT, ENOMEM, EBUSY, E2BIG, Outcome, refuseWith, accept, resetWith, need_else_⨾_, present_else_⨾_, Answer, result}
 use Rattle.rules.specs.Requests.{Request, noRequest, getAllIrqs, enqueue, clearIrqs, apfEnable, apfDisableWait, adapterRegister, adapterModify, clearIoIrq, aism, airqInject, setAismAll, getAismAll, setRequest, getRequest, getsAll, enqueues, clears, setsApf, registers, modifies, removes, clearsIo, setsMode, injected, injects, request}
 use Rattle.rules.specs.Take.{Handed, handed, handsOut, takes}
 use Rattle.rules.specs.MoveList.{ListRequest, writes, onward, applies, plays}
-use Rattle.rules.specs.Machine.{Ask, setAttr, getAttr, guestTake, writeList, playList, Call, outcome, step}
+use native.Mathlib.Omega.{arith}
+use Rattle.rules.specs.Invariant.{All}
+use Rattle.rules.proofs.Checks.{Comes, need-comes, present-comes, choose-comes}
+use Rattle.rules.specs.Machine.{Ask, setAttr, getAttr, guestTake, writeList, playList, Call, outcome, step, answerOf}
 
 -- the paper's six codes, and one of them
 abbrev pub codes : List ℕ
 codes = EINVAL ∷ EOPNOTSUPP ∷ EFAULT ∷ ENOMEM ∷ EBUSY ∷ E2BIG ∷ []
 
-abbrev Refusal : ℕ → Type 0
+abbrev pub Refusal : ℕ → Type 0
 Refusal code = List·Memᴰ code codes
 
 einval : Refusal EINVAL
@@ -39,36 +42,45 @@ ebusy = List·Memᴰ·tail (List·Memᴰ·tail (List·Memᴰ·tail (List·Memᴰ
 e2big : Refusal E2BIG
 e2big = List·Memᴰ·tail (List·Memᴰ·tail (List·Memᴰ·tail (List·Memᴰ·tail (List·Memᴰ·tail (List·Memᴰ·head refl)))))
 
--- Refused with one of the six codes; accepted with this capability; refused part-way with one of the six codes, and
--- only if Z.
-abbrev Known : Bool → Type 0 → Outcome → Type 0
-Known ais Z (refuse code) = Refusal code
-Known ais Z (accept count next written) = next .ais ≡ ais
-Known ais Z (reset code place) = Z × Refusal code
+-- none of them is 0
+pub never-zero : (code : ℕ) → Refusal code → code ≡ 0 → ⊥
+never-zero code k z = above codes (omega arith, (omega arith, (omega arith, (omega arith, (omega arith, (omega arith, tt)))))) k
+  where
+    above : (l : List ℕ) → All (λ (n : ℕ). 0 < n) l → List·Memᴰ code l → ⊥
+    above l h (List·Memᴰ·head e) = omega (arith, h .0, e, z)
+    above l h (List·Memᴰ·tail m) = above _ (h .1) m
 
+-- Refused with one of the six codes and count 0; accepted with this capability; refused part-way with one of the six
+-- codes and no further number, and only if Z.
 module _ (ais : Bool) (Z : Type 0) where
-  needs : (t : Bool) (code : ℕ) (o : Outcome) → Refusal code → Known ais Z o → Known ais Z (need t else code ⨾ o)
-  unfolding need_else_⨾_
-  needs true code o k h = h
-  needs false code o k h = k
+  abbrev Refuses : ℕ → ℕ → Type 0
+  Refuses code count = Refusal code × (count ≡ 0)
 
-  holders : (p : Place) (code : ℕ) (f : Adapter → Outcome) → Refusal code → ((x : Adapter) → Known ais Z (f x))
-      → Known ais Z (holder p else code ⨾ f)
-  unfolding holder_else_⨾_
-  holders free code f k h = k
-  holders (holds x) code f k h = h x
+  abbrev Accepts : ℕ → State → List ℕ → Type 0
+  Accepts count next written = next .ais ≡ ais
 
-  chooses : (t : Bool) (x y : Outcome) → Known ais Z x → Known ais Z y → Known ais Z (choose t x y)
-  unfolding choose
-  chooses true x y h k = h
-  chooses false x y h k = k
+  abbrev Resets : ℕ → ℕ → ℕ → Type 0
+  Resets code place further = Z × Refusal code × (further ≡ 0)
+
+  abbrev pub Known : Outcome State → Type 0
+  Known = Comes Refuses Accepts Resets
+
+  needs : (t : Bool) (code : ℕ) (o : Outcome State) → Refusal code → Known o → Known (need t else code ⨾ o)
+  needs t code o k h = need-comes Refuses Accepts Resets t code o (k, refl) (λ e. h)
+
+  presents : (p : Option Adapter) (code : ℕ) (f : Adapter → Outcome State) → Refusal code → ((x : Adapter) → Known (f x))
+      → Known (present p else code ⨾ f)
+  presents p code f k h = present-comes Refuses Accepts Resets p code f (k, refl) (λ x e. h x)
+
+  chooses : (t : Bool) (x y : Outcome State) → Known x → Known y → Known (choose t x y)
+  chooses t x y h k = choose-comes Refuses Accepts Resets t x y (λ e. h) (λ e. k)
 
 -- ---- requests: none is refused part-way
 module _ (L : Limits) (s : State) where
-  abbrev K : Outcome → Type 0
+  abbrev K : Outcome State → Type 0
   K = Known (s .ais) ⊥
 
-  check : (t : Bool) (code : ℕ) (o : Outcome) → Refusal code → K o → K (need t else code ⨾ o)
+  check : (t : Bool) (code : ℕ) (o : Outcome State) → Refusal code → K o → K (need t else code ⨾ o)
   check = needs (s .ais) ⊥
 
   known-removed : (o : Option (List (List Record))) → K (removes s o)
@@ -81,9 +93,9 @@ module _ (L : Limits) (s : State) where
   known-masked true x y h k = h
   known-masked false x y h k = k
 
-  known-request : (q : Request) (attr : ℕ) (b : List ℕ) → K (request L s q attr b)
+  pub known-request : (q : Request) (attr : ℕ) (b : List ℕ) → K (request L s q attr b)
   unfolding request getsAll enqueues clears setsApf registers modifies clearsIo setsMode injected injects
-  known-request noRequest attr b = einval
+  known-request noRequest attr b = (einval, refl)
   known-request getAllIrqs attr b = check _ _ _ einval (check _ _ _ efault (check _ _ _ enomem refl))
   known-request enqueue attr b = check _ _ _ einval (check _ _ _ efault (check _ _ _ einval (check _ _ _ ebusy refl)))
   known-request clearIrqs attr b = check _ _ _ einval refl
@@ -92,13 +104,13 @@ module _ (L : Limits) (s : State) where
   known-request adapterRegister attr b =
       check _ _ _ einval (check _ _ _ efault (check _ _ _ einval (check _ _ _ einval (check _ _ _ einval refl))))
   known-request adapterModify attr b =
-      check _ _ _ einval (check _ _ _ efault (check _ _ _ einval (holders (s .ais) ⊥ _ _ _ einval (λ x.
+      check _ _ _ einval (check _ _ _ efault (check _ _ _ einval (presents (s .ais) ⊥ _ _ _ einval (λ x.
       check _ _ _ einval (check _ _ _ einval (known-masked _ _ _ refl refl))))))
   known-request clearIoIrq attr b = check _ _ _ einval (check _ _ _ efault (check _ _ _ einval (known-removed _)))
   known-request aism attr b =
       check _ _ _ einval (check _ _ _ eopnotsupp (check _ _ _ efault (check _ _ _ einval (check _ _ _ einval refl))))
   known-request airqInject attr b =
-      check _ _ _ einval (holders (s .ais) ⊥ _ _ _ einval (λ x. chooses (s .ais) ⊥ _ _ _ refl (check _ _ _ ebusy refl)))
+      check _ _ _ einval (presents (s .ais) ⊥ _ _ _ einval (λ x. chooses (s .ais) ⊥ _ _ _ refl (check _ _ _ ebusy refl)))
   known-request setAismAll attr b = check _ _ _ einval (check _ _ _ eopnotsupp (check _ _ _ efault refl))
   known-request getAismAll attr b = check _ _ _ einval (check _ _ _ eopnotsupp (check _ _ _ efault refl))
 
@@ -108,15 +120,15 @@ module _ (L : Limits) (s : State) where
   known-handed (some h) = refl
 
 -- ---- the playing of a list
-abbrev P : Bool → Outcome → Type 0
+abbrev P : Bool → Outcome State → Type 0
 P ais = Known ais (Unit {0})
 
-known-onward : (ais was : Bool) (o : Outcome) (place : ℕ) (rest : State → Outcome) → Known was ⊥ o
+known-onward : (ais was : Bool) (o : Outcome State) (place : ℕ) (rest : State → Outcome State) → Known was ⊥ o
     → ((t : State) → t .ais ≡ was → P ais (rest t)) → P ais (onward o place rest)
 unfolding onward
-known-onward ais was (refuse code) place rest k f = (tt, k)
+known-onward ais was (refuseWith code count) place rest k f = (tt, k .0, refl)
 known-onward ais was (accept count next written) place rest k f = f next k
-known-onward ais was (reset code at) place rest k f = absurd (k .0)
+known-onward ais was (resetWith code at further) place rest k f = absurd (k .0)
 
 known-applies : (L : Limits) (ais : Bool) (place : ℕ) (s : State) (es : List ListRequest) → s .ais ≡ ais
     → P ais (applies L place s es)
@@ -138,7 +150,7 @@ known-plays L s b =
     go _ _ _ efault (go _ _ _ einval (go _ _ _ einval (go _ _ _ e2big (go _ _ _ einval (go _ _ _ einval
     (go _ _ _ eopnotsupp (known-applies L (s .ais) 0 (fresh L (s .ais)) _ refl)))))))
   where
-    go : (t : Bool) (code : ℕ) (o : Outcome) → Refusal code → P (s .ais) o → P (s .ais) (need t else code ⨾ o)
+    go : (t : Bool) (code : ℕ) (o : Outcome State) → Refusal code → P (s .ais) o → P (s .ais) (need t else code ⨾ o)
     go = needs (s .ais) (Unit {0})
 
 -- ---- every call
@@ -150,7 +162,7 @@ Plays (guestTake subclasses externalAllowed mchkAllowed) = ⊥
 Plays writeList = ⊥
 Plays playList = Unit {0}
 
-known-outcome : (L : Limits) (s : State) (ask : Ask) (table : ℕ) (b : List ℕ)
+pub known-outcome : (L : Limits) (s : State) (ask : Ask) (table : ℕ) (b : List ℕ)
     → Known (s .ais) (Plays ask) (outcome L s ask table b)
 unfolding outcome writes takes
 known-outcome L s (setAttr group attr) table b = check L s _ _ _ efault (known-request L s (setRequest group) attr b)
@@ -161,19 +173,21 @@ known-outcome L s writeList table b = check L s _ _ _ efault (check L s _ _ _ en
 known-outcome L s playList table b = needs (s .ais) (Unit {0}) _ _ _ efault (known-plays L s b)
 
 -- what holds of the answer to a call in a state
-pub record Answered (ask : Ask) (s : State) (a : Answer) : Type 0 where
+pub record Answered (ask : Ask) (s : State) (a : Answer State) : Type 0 where
   pub code : List·Memᴰ (a .code) (0 ∷ codes)
   pub same-ais : a .next .ais ≡ s .ais
   pub no-count : (Plays ask → ⊥) → (a .code ≡ 0 → ⊥) → a .count ≡ 0
+  pub no-further : a .further ≡ 0
 
-answer-to : (L : Limits) (ask : Ask) (s : State) (b : List ℕ) (o : Outcome) → Known (s .ais) (Plays ask) o
-    → Answered ask s (result L s b o)
+answer-to : (L : Limits) (ask : Ask) (s : State) (b : List ℕ) (o : Outcome State) → Known (s .ais) (Plays ask) o
+    → Answered ask s (answerOf L s b o)
 unfolding result fresh
-answer-to L ask s b (refuse code) k = record { code = List·Memᴰ·tail k; same-ais = refl; no-count = λ p n. refl }
+answer-to L ask s b (refuseWith code count) k =
+    record { code = List·Memᴰ·tail (k .0); same-ais = refl; no-count = λ p n. k .1; no-further = refl }
 answer-to L ask s b (accept count next written) k =
-    record { code = List·Memᴰ·head refl; same-ais = k; no-count = λ p n. absurd (n refl) }
-answer-to L ask s b (reset code place) k =
-    record { code = List·Memᴰ·tail (k .1); same-ais = refl; no-count = λ p n. absurd (p (k .0)) }
+    record { code = List·Memᴰ·head refl; same-ais = k; no-count = λ p n. absurd (n refl); no-further = refl }
+answer-to L ask s b (resetWith code place further) k =
+    record { code = List·Memᴰ·tail (k .1); same-ais = refl; no-count = λ p n. absurd (p (k .0)); no-further = k .2 }
 
 pub every-answer : (L : Limits) (s : State) (c : Call) → Answered (c .ask) s (step L s c)
 unfolding step

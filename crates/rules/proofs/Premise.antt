@@ -1,18 +1,18 @@
 -- The premise says exactly what paper 01 allows: a state has the facts of the invariant if and only if a fresh one can
 -- reach it. It is left by playing its own move list on a fresh controller, and that list consists of bytes if the state does.
-use Prim.Native.Nat.{ℕ, zero, suc, _<_, _+_}
-use mathlib.Core.Path.{_≡_, ap, subst}
+use Prim.Native.Nat.{ℕ, zero, suc, _+_}
+use mathlib.Core.Path.{ap, subst}
 use mathlib.Core.Bool.{Bool, true, false, _&&_, _||_}
 use mathlib.Core.List.{List, [], _∷_, _++_, flatten}
 use native.Mathlib.Omega.{arith}
 use native.Mathlib.Nat.{mod-lt}
 use lib.ListN.{length, replicate}
 use Rattle.rules.specs.Bytes.{choose, bytes}
-use Rattle.rules.specs.State.{Limits, Adapter, Place, free, holds, Record, recordBytes, State, fresh, listing}
+use Rattle.rules.specs.State.{Limits, Adapter, Place, free, holds, Record, State, fresh, listing}
 use Rattle.rules.specs.Outcome.{Outcome, result}
 use Rattle.rules.specs.Requests.{nonZero}
 use Rattle.rules.specs.MoveList.{ListRequest, oneIf, byRisingId, registerRequest, modifyRequest, enqueueRequest, aismAllRequest, apfRequest, listRequests, payloads, writtenTable, moveList}
-use Rattle.rules.specs.Machine.{playList, Call, step, after}
+use Rattle.rules.specs.Machine.{playList, step, after, answerOf}
 use Rattle.rules.specs.Invariant.{All, SoundAdapter, SoundPlace, Sound, Reached, IsByte, OfBytes, LentBytes}
 use Rattle.rules.proofs.Lists.{all-append, all-replicate}
 use Rattle.rules.proofs.Reachable.{fresh-ais, reachable}
@@ -30,7 +30,7 @@ reached L fits s h =
     record {
       ais = s .ais;
       calls = record { ask = playList; buffer = itsList s; tableLength = L .places } ∷ [];
-      is = ap (λ (o : Outcome). result L (fresh L (s .ais)) (itsList s) o .next) (plays-list L fits s h (fresh L (s .ais)) (fresh-ais L (s .ais)));
+      is = ap (λ (o : Outcome State). answerOf L (fresh L (s .ais)) (itsList s) o .next) (plays-list L fits s h (fresh L (s .ais)) (fresh-ais L (s .ais)));
     }
 
 pub exactly : (L : Limits) → Movable L → (s : State) → (Sound L s → Reached L s) × (Reached L s → Sound L s)

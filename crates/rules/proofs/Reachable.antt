@@ -13,12 +13,12 @@ use lib.Bits.{bitOr}
 use borrow.Author.Tests.{leb-true, ltb-true}
 use Rattle.rules.specs.Bytes.{choose, field, bytes, number}
 use Rattle.rules.specs.State.{Limits, Adapter, Place, free, holds, Record, recordBytes, Pending, Device, State, nothing, fresh, withPending, withDevice, withAdapter, hasBit, withBit, Kind, kindOf, kind, subclass, merged, addIo, firstOr, mergedOr, addAs, add, addAll, queued, single, listing}
-use Rattle.rules.specs.Outcome.{Outcome, refuse, accept, reset, need_else_⨾_, holder_else_⨾_, result}
-use Rattle.rules.specs.Requests.{Request, noRequest, getAllIrqs, enqueue, clearIrqs, apfEnable, apfDisableWait, adapterRegister, adapterModify, clearIoIrq, aism, airqInject, setAismAll, getAismAll, setRequest, getRequest, getsAll, recordsIn, kindAccepted, allAccepted, wants, allWant, enqueues, clears, setsApf, placeOf, registers, adapterIn, withMask, modifies, consTo, without, orIn, withoutFirst, removes, clearsIo, withMasks, setsMode, adapterInterrupt, injected, injects, request}
+use Rattle.rules.specs.Outcome.{Outcome, refuseWith, accept, resetWith, need_else_⨾_, present_else_⨾_, result}
+use Rattle.rules.specs.Requests.{holding, adapterAt, Request, noRequest, getAllIrqs, enqueue, clearIrqs, apfEnable, apfDisableWait, adapterRegister, adapterModify, clearIoIrq, aism, airqInject, setAismAll, getAismAll, setRequest, getRequest, getsAll, recordsIn, kindAccepted, allAccepted, wants, allWant, enqueues, clears, setsApf, placeOf, registers, adapterIn, withMask, modifies, consTo, without, orIn, withoutFirst, removes, clearsIo, withMasks, setsMode, adapterInterrupt, injected, injects, request}
 use Rattle.rules.specs.Take.{Handed, orElse, handMchk, handService, handDone, keep, firstAllowed, handIo, handed, handsOut, takes}
 use Rattle.rules.specs.MoveList.{ListRequest, writes, requestsIn, tableEntriesIn, countIn, headerBytes, onward, applies, plays}
-use Rattle.rules.specs.Machine.{Ask, setAttr, getAttr, guestTake, writeList, playList, Call, outcome, step, after}
-use Rattle.rules.proofs.Checks.{left}
+use Rattle.rules.specs.Machine.{Ask, setAttr, getAttr, guestTake, writeList, playList, Call, outcome, step, after, answerOf}
+use Rattle.rules.proofs.Checks.{left, Comes, need-comes, present-comes, choose-comes}
 use Rattle.rules.proofs.Decode.{length-moveList}
 use Rattle.rules.specs.Invariant.{All, Maybe, SoundAdapter, SoundPlace, Whole, IsKind, IsIo, IoQueues, SoundPending, Sound}
 use Rattle.rules.proofs.Lists.{all-append, all-set, all-get, all-replicate, flatten-more}
@@ -298,30 +298,30 @@ pub record Kept (L : Limits) (s t : State) : Type 0 where
   pub same-ais : t .ais ≡ s .ais
 
 -- what an outcome gives: P of the next state, and no more bytes written than are lent
-abbrev pub Gives : (State → Type 0) → List ℕ → Outcome → Type 0
-Gives P b (refuse code) = Unit {0}
-Gives P b (accept count next written) = P next × (length written ≤ length b)
-Gives P b (reset code place) = Unit {0}
-
 module _ (P : State → Type 0) (b : List ℕ) where
-  gives-need : (t : Bool) (code : ℕ) (o : Outcome) → (t ≡ true → Gives P b o) → Gives P b (need t else code ⨾ o)
-  unfolding need_else_⨾_
-  gives-need true code o h = h refl
-  gives-need false code o h = tt
+  abbrev Within : ℕ → State → List ℕ → Type 0
+  Within count next written = P next × (length written ≤ length b)
 
-  gives-holder : (p : Place) (code : ℕ) (f : Adapter → Outcome) → ((x : Adapter) → p ≡ holds x → Gives P b (f x)) → Gives P b (holder p else code ⨾ f)
-  unfolding holder_else_⨾_
-  gives-holder free code f h = tt
-  gives-holder (holds x) code f h = h x refl
+  abbrev pub Gives : Outcome State → Type 0
+  Gives = Comes (λ code count. Unit {0}) Within (λ code place further. Unit {0})
 
-  gives-choose : (t : Bool) (x y : Outcome) → Gives P b x → (t ≡ false → Gives P b y) → Gives P b (choose t x y)
-  unfolding choose
-  gives-choose true x y h k = h
-  gives-choose false x y h k = k refl
+  gives-need : (t : Bool) (code : ℕ) (o : Outcome State) → (t ≡ true → Gives o) → Gives (need t else code ⨾ o)
+  gives-need t code o h = need-comes (λ code count. Unit {0}) Within (λ code place further. Unit {0}) t code o tt h
+
+  gives-present : (p : Option Adapter) (code : ℕ) (f : Adapter → Outcome State) → ((x : Adapter) → p ≡ some x → Gives (f x))
+      → Gives (present p else code ⨾ f)
+  gives-present p code f h = present-comes (λ code count. Unit {0}) Within (λ code place further. Unit {0}) p code f tt h
+
+  gives-choose : (t : Bool) (x y : Outcome State) → Gives x → (t ≡ false → Gives y) → Gives (choose t x y)
+  gives-choose t x y h k = choose-comes (λ code count. Unit {0}) Within (λ code place further. Unit {0}) t x y (λ e. h) k
 
 -- where nothing is written
 quietly : {A : Type 0} (b : List ℕ) → A → A × (0 ≤ length b)
 quietly b h = (h, omega arith)
+
+held-sound : (p : Place) → SoundPlace p → Maybe SoundAdapter (holding p)
+held-sound free h = tt
+held-sound (holds x) h = h
 
 module _ (L : Limits) (s : State) (h : Sound L s) where
   as-it-was : Kept L s s
@@ -355,8 +355,8 @@ module _ (L : Limits) (s : State) (h : Sound L s) where
         same-ais = refl;
       }
 
-  held : (id : ℕ) (x : Adapter) → placeOf s id ≡ holds x → SoundAdapter x
-  held id x e = subst SoundPlace e (all-get SoundPlace (s .adapters) id free (h .adapters) tt)
+  held : (id : ℕ) (x : Adapter) → adapterAt s id ≡ some x → SoundAdapter x
+  held id x e = subst (Maybe SoundAdapter) e (held-sound (placeOf s id) (all-get SoundPlace (s .adapters) id free (h .adapters) tt))
 
 nothing-sound : SoundPending nothing
 nothing-sound =
@@ -428,7 +428,7 @@ module _ (L : Limits) (s : State) (h : Sound L s) (b : List ℕ) where
   kept-modifies : (id type : ℕ) (on : Bool) → Gives K b (modifies L s id type on)
   unfolding modifies choose
   kept-modifies id type on =
-      gives-need K b _ _ _ (λ e. gives-holder K b _ _ _ (λ x p. gives-need K b _ _ _ (λ f. gives-need K b _ _ _ (λ g.
+      gives-need K b _ _ _ (λ e. gives-present K b _ _ _ (λ x p. gives-need K b _ _ _ (λ f. gives-need K b _ _ _ (λ g.
       quietly b (go (eqb type 1) x (held L s h id x p) g)))))
     where
       go : (t : Bool) (x : Adapter) → SoundAdapter x → (not t || x .maskable) ≡ true → K (choose t (withAdapter id (withMask on x) s) s)
@@ -491,7 +491,7 @@ module _ (L : Limits) (s : State) (h : Sound L s) (b : List ℕ) where
       gives-need K b _ _ _ (λ e. gives-need K b _ _ _ (λ f. gives-need K b _ _ _ (λ g. gives-need K b _ _ _ (λ i. gives-need K b _ _ _ (λ j.
       quietly b (kept-masks _ _ f))))))
   kept-request airqInject attr =
-      gives-need K b _ _ _ (λ e. gives-holder K b _ _ _ (λ x p.
+      gives-need K b _ _ _ (λ e. gives-present K b _ _ _ (λ x p.
       gives-choose K b _ _ _ (quietly b (as-it-was L s h)) (λ f. gives-need K b _ _ _ (λ g.
       quietly b (kept-injected x (held L s h attr x p) (ltb-true _ _ g))))))
   kept-request setAismAll attr =
@@ -588,12 +588,12 @@ module _ (L : Limits) (s : State) (h : Sound L s) (b : List ℕ) where
   kept-writes = gives-need K b _ _ _ (λ e. (as-it-was L s h, rw length-moveList (leb-true _ _ e)))
 
 -- a played list: each request in turn, from the fresh state on; it writes nothing
-kept-onward : (P Q : State → Type 0) (b c : List ℕ) (o : Outcome) (place : ℕ) (rest : State → Outcome)
+kept-onward : (P Q : State → Type 0) (b c : List ℕ) (o : Outcome State) (place : ℕ) (rest : State → Outcome State)
     → Gives Q c o → ((t : State) → Q t → Gives P b (rest t)) → Gives P b (onward o place rest)
 unfolding onward
-kept-onward P Q b c (refuse code) place rest k f = tt
+kept-onward P Q b c (refuseWith code count) place rest k f = tt
 kept-onward P Q b c (accept count next written) place rest k f = f next (k .0)
-kept-onward P Q b c (reset code at) place rest k f = tt
+kept-onward P Q b c (resetWith code at further) place rest k f = tt
 
 kept-applies : (L : Limits) (s : State) (b : List ℕ) (place : ℕ) (t : State) (es : List ListRequest) → Kept L s t → Gives (Kept L s) b (applies L place t es)
 unfolding applies
@@ -623,12 +623,12 @@ kept-outcome L s h (guestTake subclasses externalAllowed mchkAllowed) table b = 
 kept-outcome L s h writeList table b = gives-need (Kept L s) b _ _ _ (λ e. kept-writes L s h b)
 kept-outcome L s h playList table b = gives-need (Kept L s) b _ _ _ (λ e. kept-plays L s b)
 
-kept-result : (L : Limits) (s : State) → Sound L s → (b : List ℕ) (o : Outcome) → Gives (Kept L s) b o
-    → Kept L s (result L s b o .next) × (length (result L s b o .buffer) ≡ length b)
+kept-result : (L : Limits) (s : State) → Sound L s → (b : List ℕ) (o : Outcome State) → Gives (Kept L s) b o
+    → Kept L s (answerOf L s b o .next) × (length (answerOf L s b o .buffer) ≡ length b)
 unfolding result
-kept-result L s h b (refuse code) k = (as-it-was L s h, refl)
+kept-result L s h b (refuseWith code count) k = (as-it-was L s h, refl)
 kept-result L s h b (accept count next written) k = (k .0, simp (length-append, length-drop) (omega (arith, k .1)))
-kept-result L s h b (reset code place) k = (record { sound = fresh-sound L (s .ais); same-ais = fresh-ais L (s .ais) }, refl)
+kept-result L s h b (resetWith code place further) k = (record { sound = fresh-sound L (s .ais); same-ais = fresh-ais L (s .ais) }, refl)
 
 pub kept-step : (L : Limits) (s : State) → Sound L s → (c : Call) → Kept L s (step L s c .next)
 unfolding step

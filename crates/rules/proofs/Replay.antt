@@ -14,7 +14,7 @@ use borrow.Author.Tests.{le-leb, lt-ltb, eq-eqb, ne-eqb, eqb-true}
 use Rattle.rules.specs.Bytes.{choose, bytes}
 use Rattle.rules.specs.State.{Limits, Adapter, Place, free, holds, Record, recordBytes, Pending, Device, State, nothing, fresh, withPending, withDevice, Kind, addIo, addAs, add, addAll, queued, single, listing}
 use Rattle.rules.specs.Outcome.{accept}
-use Rattle.rules.specs.Requests.{enqueue, setRequest, enqueueBytes, nonZero, recordsIn, allWant, enqueues, setsApf, isFree, registers, adapterIn, withMask, modifies, withMasks, request}
+use Rattle.rules.specs.Requests.{holding, enqueue, setRequest, enqueueBytes, nonZero, recordsIn, allWant, enqueues, setsApf, isFree, registers, adapterIn, withMask, modifies, withMasks, request}
 use Rattle.rules.specs.MoveList.{ListRequest, oneIf, byRisingId, registerRequest, modifyRequest, enqueueRequest, aismAllRequest, apfRequest, listRequests, onward, applies, mostRequests}
 use Rattle.rules.proofs.Checks.{passes, found, both, left}
 use Rattle.rules.specs.Invariant.{All, Maybe, Whole, SoundAdapter, SoundPlace, IsKind, IsIo, IoQueues, SoundPending, Sound}
@@ -121,7 +121,7 @@ module _ (L : Limits) (s : State) (pre post : List Place) where
       → modifies L (withAdapters (pre ++ (holds x ∷ post)) s) (length pre) 1 true ≡ accept 0 (withAdapters (pre ++ (holds (withMask true x) ∷ post)) s) []
   unfolding modifies choose
   modifies-at x w m =
-      passes _ _ _ (lt-ltb _ _ w) ∙ found _ x _ _ (getD-at pre (holds x) post free (length pre) refl) ∙ passes _ _ _ refl ∙ passes _ _ _ m
+      passes _ _ _ (lt-ltb _ _ w) ∙ found _ x _ _ (ap holding (getD-at pre (holds x) post free (length pre) refl)) ∙ passes _ _ _ refl ∙ passes _ _ _ m
       ∙ ap (λ (ps : List Place). accept 0 (withAdapters ps s) []) (set-at pre (holds x) post (holds (withMask true x)) (length pre) refl)
 
   modify-turn : L .places ≤ 2 ^ 32 → (place : ℕ) (x : Adapter) → SoundAdapter x → length pre < L .places

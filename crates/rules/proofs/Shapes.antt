@@ -1,40 +1,35 @@
--- What the outcome of a call can be: a set request writes nothing, a get request and the writing of a list leave the state as it was, and no call
--- but the playing of a list is refused part-way.
+-- What the outcome of an accepted call can be: a set request and the playing of a list write nothing, a get request and the writing of a list leave the
+-- state as it was.
 use Prim.Native.Nat.{ℕ, suc}
 use mathlib.Core.Path.{_≡_, refl}
-use mathlib.Core.Bool.{Bool, true, false}
+use mathlib.Core.Bool.{Bool}
 use mathlib.Core.Option.{Option, none, some}
 use mathlib.Core.List.{List, [], _∷_}
 use Rattle.rules.specs.Bytes.{choose}
-use Rattle.rules.specs.State.{Limits, Adapter, Place, free, holds, Record, Pending, State}
-use Rattle.rules.specs.Outcome.{Outcome, refuse, accept, reset, need_else_⨾_, holder_else_⨾_}
+use Rattle.rules.specs.State.{Limits, Adapter, Record, State}
+use Rattle.rules.specs.Outcome.{Outcome, refuseWith, accept, resetWith, need_else_⨾_, present_else_⨾_}
 use Rattle.rules.specs.Requests.{Request, noRequest, getAllIrqs, enqueue, clearIrqs, apfEnable, apfDisableWait, adapterRegister, adapterModify, clearIoIrq, aism, airqInject, setAismAll, getAismAll, setGroups, getGroups, setRequest, getRequest, getsAll, enqueues, clears, setsApf, registers, modifies, removes, clearsIo, setsMode, injects, request}
-use Rattle.rules.specs.Take.{Handed, handsOut, takes}
 use Rattle.rules.specs.MoveList.{ListRequest, writes, onward, applies, plays}
-use Rattle.rules.specs.Machine.{setAttr, getAttr, guestTake, writeList, playList, outcome}
+use Rattle.rules.specs.Machine.{Ask, setAttr, getAttr, guestTake, writeList, playList, outcome}
+use Rattle.rules.proofs.Checks.{Comes, need-comes, present-comes, choose-comes}
 use Rattle.rules.proofs.Lists.{all-get}
 
--- accepted with such a next state and such bytes written; refused part-way only if
-abbrev pub Shape : (State → Type 0) → (List ℕ → Type 0) → Type 0 → Outcome → Type 0
-Shape N B Z (refuse code) = Unit {0}
-Shape N B Z (accept count next written) = N next × B written
-Shape N B Z (reset code place) = Z
+-- accepted with such a next state and such bytes written
+module _ (N : State → Type 0) (B : List ℕ → Type 0) where
+  abbrev Accepts : ℕ → State → List ℕ → Type 0
+  Accepts count next written = N next × B written
 
-module _ (N : State → Type 0) (B : List ℕ → Type 0) (Z : Type 0) where
-  needs : (t : Bool) (code : ℕ) (o : Outcome) → Shape N B Z o → Shape N B Z (need t else code ⨾ o)
-  unfolding need_else_⨾_
-  needs true code o h = h
-  needs false code o h = tt
+  abbrev pub Shape : Outcome State → Type 0
+  Shape = Comes (λ code count. Unit {0}) Accepts (λ code place further. Unit {0})
 
-  holders : (p : Place) (code : ℕ) (f : Adapter → Outcome) → ((x : Adapter) → Shape N B Z (f x)) → Shape N B Z (holder p else code ⨾ f)
-  unfolding holder_else_⨾_
-  holders free code f h = tt
-  holders (holds x) code f h = h x
+  needs : (t : Bool) (code : ℕ) (o : Outcome State) → Shape o → Shape (need t else code ⨾ o)
+  needs t code o h = need-comes (λ code count. Unit {0}) Accepts (λ code place further. Unit {0}) t code o tt (λ e. h)
 
-  chooses : (t : Bool) (x y : Outcome) → Shape N B Z x → Shape N B Z y → Shape N B Z (choose t x y)
-  unfolding choose
-  chooses true x y h k = h
-  chooses false x y h k = k
+  presents : (p : Option Adapter) (code : ℕ) (f : Adapter → Outcome State) → ((x : Adapter) → Shape (f x)) → Shape (present p else code ⨾ f)
+  presents p code f h = present-comes (λ code count. Unit {0}) Accepts (λ code place further. Unit {0}) p code f tt (λ x e. h x)
+
+  chooses : (t : Bool) (x y : Outcome State) → Shape x → Shape y → Shape (choose t x y)
+  chooses t x y h k = choose-comes (λ code count. Unit {0}) Accepts (λ code place further. Unit {0}) t x y (λ e. h) (λ e. k)
 
 abbrev pub Any {ℓ} : {A : Type ℓ} → A → Type 0
 Any a = Unit {0}
@@ -42,12 +37,12 @@ Any a = Unit {0}
 abbrev pub None : List ℕ → Type 0
 None w = w ≡ []
 
--- ---- requests that set
-abbrev pub Sets : Outcome → Type 0
-Sets = Shape Any None ⊥
+-- ---- requests that set, and the playing of a list
+abbrev pub Sets : Outcome State → Type 0
+Sets = Shape Any None
 
-set-need : (t : Bool) (code : ℕ) (o : Outcome) → Sets o → Sets (need t else code ⨾ o)
-set-need = needs Any None ⊥
+set-need : (t : Bool) (code : ℕ) (o : Outcome State) → Sets o → Sets (need t else code ⨾ o)
+set-need = needs Any None
 
 abbrev IsSet : Request → Type 0
 IsSet noRequest = Unit {0}
@@ -80,26 +75,26 @@ sets-one L s apfDisableWait attr b k = set-need _ _ _ (tt, refl)
 sets-one L s adapterRegister attr b k =
     set-need _ _ _ (set-need _ _ _ (set-need _ _ _ (set-need _ _ _ (set-need _ _ _ (tt, refl)))))
 sets-one L s adapterModify attr b k =
-    set-need _ _ _ (set-need _ _ _ (set-need _ _ _ (holders Any None ⊥ _ _ _ (λ x.
+    set-need _ _ _ (set-need _ _ _ (set-need _ _ _ (presents Any None _ _ _ (λ x.
     set-need _ _ _ (set-need _ _ _ (tt, refl))))))
 sets-one L s clearIoIrq attr b k = set-need _ _ _ (set-need _ _ _ (set-need _ _ _ (sets-removed s _)))
 sets-one L s aism attr b k =
     set-need _ _ _ (set-need _ _ _ (set-need _ _ _ (set-need _ _ _ (set-need _ _ _ (tt, refl)))))
 sets-one L s airqInject attr b k =
-    set-need _ _ _ (holders Any None ⊥ _ _ _ (λ x. chooses Any None ⊥ _ _ _ (tt, refl) (set-need _ _ _ (tt, refl))))
+    set-need _ _ _ (presents Any None _ _ _ (λ x. chooses Any None _ _ _ (tt, refl) (set-need _ _ _ (tt, refl))))
 sets-one L s setAismAll attr b k = set-need _ _ _ (set-need _ _ _ (set-need _ _ _ (tt, refl)))
 sets-one L s getAismAll attr b k = absurd k
 
 set-group : (group : ℕ) → IsSet (setRequest group)
 set-group group = all-get IsSet setGroups group noRequest (tt, (tt, (tt, (tt, (tt, (tt, (tt, (tt, (tt, (tt, (tt, (tt, tt)))))))))))) tt
 
-pub set-shape : (L : Limits) (s : State) (group attr table : ℕ) (b : List ℕ) → Sets (outcome L s (setAttr group attr) table b)
+set-shape : (L : Limits) (s : State) (group attr table : ℕ) (b : List ℕ) → Sets (outcome L s (setAttr group attr) table b)
 unfolding outcome
 set-shape L s group attr table b = set-need _ _ _ (sets-one L s (setRequest group) attr b (set-group group))
 
 -- ---- requests that get, and the writing of a list
-abbrev pub Gets : State → Outcome → Type 0
-Gets s = Shape (λ t. t ≡ s) Any ⊥
+abbrev pub Gets : State → Outcome State → Type 0
+Gets s = Shape (λ t. t ≡ s) Any
 
 abbrev IsGet : Request → Type 0
 IsGet noRequest = Unit {0}
@@ -117,8 +112,8 @@ IsGet setAismAll = ⊥
 IsGet getAismAll = Unit {0}
 
 module _ (L : Limits) (s : State) where
-  get-need : (t : Bool) (code : ℕ) (o : Outcome) → Gets s o → Gets s (need t else code ⨾ o)
-  get-need = needs (λ t. t ≡ s) Any ⊥
+  get-need : (t : Bool) (code : ℕ) (o : Outcome State) → Gets s o → Gets s (need t else code ⨾ o)
+  get-need = needs (λ t. t ≡ s) Any
 
   gets-one : (q : Request) (attr : ℕ) (b : List ℕ) → IsGet q → Gets s (request L s q attr b)
   unfolding request getsAll
@@ -139,30 +134,43 @@ module _ (L : Limits) (s : State) where
   get-group : (group : ℕ) → IsGet (getRequest group)
   get-group group = all-get IsGet getGroups group noRequest (tt, (tt, (tt, (tt, (tt, (tt, (tt, (tt, (tt, (tt, (tt, (tt, tt)))))))))))) tt
 
-  pub get-shape : (group attr table : ℕ) (b : List ℕ) → Gets s (outcome L s (getAttr group attr) table b)
+  get-shape : (group attr table : ℕ) (b : List ℕ) → Gets s (outcome L s (getAttr group attr) table b)
   unfolding outcome
   get-shape group attr table b = get-need _ _ _ (gets-one (getRequest group) attr b (get-group group))
 
-  pub write-shape : (table : ℕ) (b : List ℕ) → Gets s (outcome L s writeList table b)
+  write-shape : (table : ℕ) (b : List ℕ) → Gets s (outcome L s writeList table b)
   unfolding outcome writes
   write-shape table b = get-need _ _ _ (get-need _ _ _ (refl, tt))
 
 -- ---- the playing of a list writes nothing
-apply-shape : (o : Outcome) (place : ℕ) (rest : State → Outcome) → ((t : State) → Shape Any None (Unit {0}) (rest t)) → Shape Any None (Unit {0}) (onward o place rest)
+apply-shape : (o : Outcome State) (place : ℕ) (rest : State → Outcome State) → ((t : State) → Sets (rest t)) → Sets (onward o place rest)
 unfolding onward
-apply-shape (refuse code) place rest h = tt
+apply-shape (refuseWith code count) place rest h = tt
 apply-shape (accept count next written) place rest h = h next
-apply-shape (reset code at) place rest h = tt
+apply-shape (resetWith code at further) place rest h = tt
 
-applies-shape : (L : Limits) (place : ℕ) (s : State) (es : List ListRequest) → Shape Any None (Unit {0}) (applies L place s es)
+applies-shape : (L : Limits) (place : ℕ) (s : State) (es : List ListRequest) → Sets (applies L place s es)
 unfolding applies
 applies-shape L place s [] = (tt, refl)
 applies-shape L place s (e ∷ es) = apply-shape _ place (λ t. applies L (suc place) t es) (λ t. applies-shape L (suc place) t es)
 
-pub play-shape : (L : Limits) (s : State) (table : ℕ) (b : List ℕ) → Shape Any None (Unit {0}) (outcome L s playList table b)
+play-shape : (L : Limits) (s : State) (table : ℕ) (b : List ℕ) → Sets (outcome L s playList table b)
 unfolding outcome plays
 play-shape L s table b =
-    go _ _ _ (go _ _ _ (go _ _ _ (go _ _ _ (go _ _ _ (go _ _ _ (go _ _ _ (go _ _ _ (applies-shape L 0 _ _))))))))
-  where
-    go : (t : Bool) (code : ℕ) (o : Outcome) → Shape Any None (Unit {0}) o → Shape Any None (Unit {0}) (need t else code ⨾ o)
-    go = needs Any None (Unit {0})
+    set-need _ _ _ (set-need _ _ _ (set-need _ _ _ (set-need _ _ _
+    (set-need _ _ _ (set-need _ _ _ (set-need _ _ _ (set-need _ _ _ (applies-shape L 0 _ _))))))))
+
+-- ---- every call that is lent a table
+abbrev pub Shaped : State → Ask → Outcome State → Type 0
+Shaped s (setAttr group attr) = Sets
+Shaped s (getAttr group attr) = Gets s
+Shaped s (guestTake subclasses external mcheck) = Any
+Shaped s writeList = Gets s
+Shaped s playList = Sets
+
+pub shaped : (L : Limits) (s : State) (ask : Ask) (table : ℕ) (b : List ℕ) → Shaped s ask (outcome L s ask table b)
+shaped L s (setAttr group attr) table b = set-shape L s group attr table b
+shaped L s (getAttr group attr) table b = get-shape L s group attr table b
+shaped L s (guestTake subclasses external mcheck) table b = tt
+shaped L s writeList table b = write-shape L s table b
+shaped L s playList table b = play-shape L s table b

@@ -12,11 +12,11 @@ use lib.Dec.{leb, ltb, eqb}
 use borrow.Author.Tests.{leb-true, le-leb, lt-ltb, ne-eqb}
 use Rattle.rules.specs.Bytes.{byte, part}
 use Rattle.rules.specs.State.{Limits, State, recordBytes, fresh}
-use Rattle.rules.specs.Outcome.{Outcome, refuse, accept, reset, need_else_⨾_, Answer, result}
+use Rattle.rules.specs.Outcome.{Outcome, refuseWith, accept, resetWith, need_else_⨾_, Answer, result}
 use Rattle.rules.specs.Requests.{Request, noRequest, getAllIrqs, enqueue, clearIrqs, apfEnable, apfDisableWait, adapterRegister, adapterModify, clearIoIrq, aism, airqInject, setAismAll, getAismAll, setRequest, getRequest, recordsIn, adapterIn, request}
 use Rattle.rules.specs.Take.{takes}
 use Rattle.rules.specs.MoveList.{listRequests, headerBytes, tableEntryBytes, payloadOffset, total, writes, countIn, TableEntry, tableEntriesIn, requestsIn, onward, applies, plays}
-use Rattle.rules.specs.Machine.{Ask, setAttr, getAttr, guestTake, writeList, playList, Call, outcome, step}
+use Rattle.rules.specs.Machine.{Ask, setAttr, getAttr, guestTake, writeList, playList, Call, outcome, step, answerOf}
 
 -- 01, 'Request numbers and effects': whether a request looks at the payload byte at a place. Of MODIFY's 16 bytes the last 10 are unread,
 -- of AISM's 4 the second.
@@ -87,10 +87,11 @@ pub record Alike (s : State) (c d : Call) : Type 0 where
   pub secondLent : callNeeds s (c .ask) (c .buffer) ≤ length (d .buffer)
   pub agree : Agree (callReads (c .ask) (c .buffer)) (c .buffer) (d .buffer)
 
--- Answers of equal code, count and state, with the same bytes written from the start of each buffer, whose other bytes are left.
-pub record SameAnswer (b c : List ℕ) (x y : Answer) : Type 0 where
+-- Answers of equal code, count, further number and state, with the same bytes written from the start of each buffer, whose other bytes are left.
+pub record SameAnswer (b c : List ℕ) (x y : Answer State) : Type 0 where
   pub code : x .code ≡ y .code
   pub count : x .count ≡ y .count
+  pub further : x .further ≡ y .further
   pub next : x .next ≡ y .next
   pub written : List ℕ
   pub firstLeft : x .buffer ≡ written ++ drop (length written) b
@@ -140,12 +141,12 @@ slots-same (suc n) S p =
     cc (part-same S 16 8 (omega arith), slots-same n (drop-same S tableEntryBytes (tableEntryBytes * n) (omega arith)) (omega arith))
 
 -- A check, and what comes after it; the check of the lent length, which both pass or neither does.
-check-same : (t : Bool) (code : ℕ) (x y : Outcome) → (t ≡ true → x ≡ y) → (need t else code ⨾ x) ≡ (need t else code ⨾ y)
+check-same : (t : Bool) (code : ℕ) (x y : Outcome State) → (t ≡ true → x ≡ y) → (need t else code ⨾ x) ≡ (need t else code ⨾ y)
 unfolding need_else_⨾_
 check-same true code x y h = h refl
 check-same false code x y h = refl
 
-lent-same : (n code : ℕ) (b c : List ℕ) (x y : Outcome) → leb n (length b) ≡ leb n (length c) → (n ≤ length b → n ≤ length c → x ≡ y)
+lent-same : (n code : ℕ) (b c : List ℕ) (x y : Outcome State) → leb n (length b) ≡ leb n (length c) → (n ≤ length b → n ≤ length c → x ≡ y)
     → (need leb n (length b) else code ⨾ x) ≡ (need leb n (length c) else code ⨾ y)
 lent-same n code b c x y e h = rw (← e) (check-same _ code x y (λ t. h (leb-true n (length b) t) (leb-true n (length c) (cc))))
 
@@ -232,11 +233,11 @@ outcome-same L s writeList table b c m n h = rw (long-enough m n)
 outcome-same L s playList table b c m n h = ap (need_else_⨾_ _ _) (plays-same L s b c (omega arith) h)
 
 -- An outcome, given to each of two buffers.
-result-same : (L : Limits) (s : State) (b c : List ℕ) (o : Outcome) → SameAnswer b c (result L s b o) (result L s c o)
+result-same : (L : Limits) (s : State) (b c : List ℕ) (o : Outcome State) → SameAnswer b c (answerOf L s b o) (answerOf L s c o)
 unfolding result
-result-same L s b c (refuse code) = record { code = refl; count = refl; next = refl; written = []; firstLeft = refl; secondLeft = refl }
-result-same L s b c (accept count next w) = record { code = refl; count = refl; next = refl; written = w; firstLeft = refl; secondLeft = refl }
-result-same L s b c (reset code place) = record { code = refl; count = refl; next = refl; written = []; firstLeft = refl; secondLeft = refl }
+result-same L s b c (refuseWith code count) = record { code = refl; count = refl; further = refl; next = refl; written = []; firstLeft = refl; secondLeft = refl }
+result-same L s b c (accept count next w) = record { code = refl; count = refl; further = refl; next = refl; written = w; firstLeft = refl; secondLeft = refl }
+result-same L s b c (resetWith code place further) = record { code = refl; count = refl; further = refl; next = refl; written = []; firstLeft = refl; secondLeft = refl }
 
 pub unread : (L : Limits) (s : State) (c d : Call) → Alike s c d → SameAnswer (c .buffer) (d .buffer) (step L s c) (step L s d)
 unfolding step

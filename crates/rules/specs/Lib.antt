@@ -8,7 +8,9 @@
 -- Notation. `name : A → B → C` says that `name` takes an A and a B and gives a C; `name a b` is its value. A definition
 -- by cases has a line for each case, and the first line that fits counts. ℕ is the type of the numbers 0, 1, 2, ..
 -- without upper bound, Bool has true and false, `Option A` is `none` or `some` A. `abbrev` and `unfoldable` tell the
--- checker when it may compute a definition; both mean the same to a reader. `λ x. e` is the function that takes x to e.
+-- checker when it may compute a definition; both mean the same to a reader. `{A : Type 0} → ..` says that the rest is
+-- for any type A, which a use does not write or writes as `{A = ..}`. `Unit {0}` is a type of one value, `tt`. `λ x. e`
+-- is the function that takes x to e.
 -- A list is `[]`, or `a ∷ l` for a in front of l; `++` joins two lists. `r .f` is the field f of the record r, and
 -- `record { f = v; .. }` a record. `suc n` is n + 1 and `zero` is 0. `&&`, `||` and `not` are and, or and not.
 --
@@ -28,7 +30,7 @@
 --
 -- Functions of these files that read like words: `choose test a b` (Bytes) is a where the test holds and b otherwise;
 -- `need test else code ⨾ rest` (Outcome) refuses with the code where the test fails and otherwise goes on with the
--- rest; `holder place else code ⨾ λ x. rest` (Outcome) does the same for an adapter place that is free.
+-- rest; `present value else code ⨾ λ x. rest` (Outcome) does the same for a value that may be missing, and calls it x.
 pub mod Bytes
 pub mod State
 pub mod Outcome

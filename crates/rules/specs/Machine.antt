@@ -4,8 +4,8 @@ use Prim.Native.Nat.{ℕ}
 use mathlib.Core.Bool.{Bool}
 use mathlib.Core.List.{List, [], _∷_}
 use lib.Dec.{eqb}
-use Rattle.rules.specs.State.{Limits, State}
-use Rattle.rules.specs.Outcome.{EFAULT, Outcome, need_else_⨾_, Answer, result}
+use Rattle.rules.specs.State.{Limits, State, fresh}
+use Rattle.rules.specs.Outcome.{EFAULT, Outcome, need_else_⨾_, Answer, result, Seen, seen}
 use Rattle.rules.specs.Requests.{setRequest, getRequest, request}
 use Rattle.rules.specs.Take.{takes}
 use Rattle.rules.specs.MoveList.{writes, plays}
@@ -26,25 +26,20 @@ pub record Call : Type 0 where
   pub tableLength : ℕ
 
 -- 'Codes and the order of checks': the adapter table is checked first (14), except at a take.
-unfoldable pub outcome : Limits → State → Ask → ℕ → List ℕ → Outcome
+unfoldable pub outcome : Limits → State → Ask → ℕ → List ℕ → Outcome State
 outcome L s (setAttr group attr) tableLength b = need eqb tableLength (L .places) else EFAULT ⨾ request L s (setRequest group) attr b
 outcome L s (getAttr group attr) tableLength b = need eqb tableLength (L .places) else EFAULT ⨾ request L s (getRequest group) attr b
 outcome L s (guestTake subclasses externalAllowed mchkAllowed) tableLength b = takes s subclasses externalAllowed mchkAllowed b
 outcome L s writeList tableLength b = need eqb tableLength (L .places) else EFAULT ⨾ writes s b
 outcome L s playList tableLength b = need eqb tableLength (L .places) else EFAULT ⨾ plays L s b
 
+-- The answer to a caller who lent a buffer to a controller in this state.
+abbrev pub answerOf : Limits → State → List ℕ → Outcome State → Answer State
+answerOf L s b o = result (fresh L (s .ais)) s b o
+
 -- One call: the answer, with the next state and the buffer.
-unfoldable pub step : Limits → State → Call → Answer
-step L s c = result L s (c .buffer) (outcome L s (c .ask) (c .tableLength) (c .buffer))
-
--- What the caller of a call sees.
-pub record Seen : Type 0 where
-  pub code : ℕ
-  pub count : ℕ
-  pub buffer : List ℕ
-
-abbrev pub seen : Answer → Seen
-seen a = record { code = a .code; count = a .count; buffer = a .buffer }
+unfoldable pub step : Limits → State → Call → Answer State
+step L s c = answerOf L s (c .buffer) (outcome L s (c .ask) (c .tableLength) (c .buffer))
 
 -- What the callers see of a list of calls, made one after another.
 unfoldable pub answers : Limits → State → List Call → List Seen

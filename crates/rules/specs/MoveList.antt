@@ -6,7 +6,7 @@ use lib.ListN.{length, drop, replicate}
 use lib.Dec.{leb, eqb}
 use Rattle.rules.specs.Bytes.{choose, bytes, part, field}
 use Rattle.rules.specs.State.{Limits, Adapter, Place, free, holds, Record, recordBytes, State, fresh, listing}
-use Rattle.rules.specs.Outcome.{EINVAL, EOPNOTSUPP, EFAULT, ENOMEM, E2BIG, Outcome, refuse, accept, reset, need_else_⨾_}
+use Rattle.rules.specs.Outcome.{EINVAL, EOPNOTSUPP, EFAULT, ENOMEM, E2BIG, Outcome, refuseWith, accept, resetWith, reset, need_else_⨾_}
 use Rattle.rules.specs.Requests.{isZero, nonZero, setRequest, request}
 
 -- A request of a list with its payload. It is always a set.
@@ -97,7 +97,7 @@ moveList ais es =
 
 -- Writing: the list is written from the buffer's start; count: its length. Bytes after it stay. 12 where the buffer is
 -- too short, also below 20 bytes.
-unfoldable pub writes : State → List ℕ → Outcome
+unfoldable pub writes : State → List ℕ → Outcome State
 writes s b =
     need leb (total (listRequests s)) (length b) else ENOMEM ⨾
     accept (total (listRequests s)) s (moveList (s .ais) (listRequests s))
@@ -151,14 +151,14 @@ requestsIn b [] = []
 requestsIn b (e ∷ es) = record { group = e .group; attr = e .attr; payload = part (e .at) (e .size) b } ∷ requestsIn b es
 
 -- The first refused request ends the list, with its code and its place, counted from 0.
-unfoldable pub onward : Outcome → ℕ → (State → Outcome) → Outcome
-onward (refuse code) place rest = reset code place
+unfoldable pub onward : Outcome State → ℕ → (State → Outcome State) → Outcome State
+onward (refuseWith code count) place rest = reset code place
 onward (accept count next written) place rest = rest next
--- This case does not occur: no request comes to a `reset`.
-onward (reset code at) place rest = reset code place
+-- This case does not occur: no request comes to a reset.
+onward (resetWith code at further) place rest = reset code place
 
 -- The requests are applied one after another; the first of them has the place given. Count: the number applied.
-unfoldable pub applies : Limits → ℕ → State → List ListRequest → Outcome
+unfoldable pub applies : Limits → ℕ → State → List ListRequest → Outcome State
 applies L place s [] = accept place s []
 applies L place s (e ∷ es) = onward (request L s (setRequest (e .group)) (e .attr) (e .payload)) place (λ t. applies L (suc place) t es)
 
@@ -170,7 +170,7 @@ mostRequests = 131
 -- Playing a list. Checked in order: 20 bytes there (14); total equals lent length (22); flag 0 or 1 (22); count (7);
 -- both offsets, the payload offset not above the total (22); entry by entry and last end (22); capability (95). Then
 -- the controller is made fresh and the requests are applied.
-unfoldable pub plays : Limits → State → List ℕ → Outcome
+unfoldable pub plays : Limits → State → List ℕ → Outcome State
 plays L s b =
     need leb headerBytes (length b) else EFAULT ⨾
     need eqb (totalIn b) (length b) else EINVAL ⨾

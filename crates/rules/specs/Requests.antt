@@ -9,7 +9,7 @@ use lib.ListN.{length, getD, take, drop, replicate}
 use lib.Dec.{leb, ltb, eqb}
 use Rattle.rules.specs.Bytes.{choose, bytes, byte, field}
 use Rattle.rules.specs.State.{Limits, Adapter, Place, free, holds, Record, recordBytes, State, nothing, withPending, withDevice, withAdapter, hasBit, withBit, withoutBit, Kind, kind, subchannelId, subchannelNumber, addIo, addAll, queued, listing}
-use Rattle.rules.specs.Outcome.{EINVAL, EOPNOTSUPP, EFAULT, ENOMEM, EBUSY, Outcome, refuse, accept, need_else_⨾_, holder_else_⨾_}
+use Rattle.rules.specs.Outcome.{EINVAL, EOPNOTSUPP, EFAULT, ENOMEM, EBUSY, Outcome, refuse, accept, need_else_⨾_, present_else_⨾_}
 
 -- The requests, by group number and direction. A group that is unknown, or whose direction (set or get) is wrong for
 -- it, is no request.
@@ -69,7 +69,7 @@ nonZero n = not (eqb n 0)
 
 -- 1 GET_ALL_IRQS: the listing is written; count: records written. All interrupts remain pending (000). 12 where the
 -- listing is longer than the claimed length. (The attribute of groups 1, 2 and 8 is the claimed length.)
-unfoldable pub getsAll : State → ℕ → Outcome
+unfoldable pub getsAll : State → ℕ → Outcome State
 getsAll s claimed =
     need leb (recordBytes * length (listing (s .pending))) claimed else ENOMEM ⨾
     accept (length (listing (s .pending))) s (flatten (listing (s .pending)))
@@ -105,30 +105,38 @@ allWant (r ∷ rs) = wants (kind r) + allWant rs
 
 -- 2 ENQUEUE: all records are added in order; count: records given. Every record is checked before room, and all are
 -- added or none. `queued` is what the queues hold now, so room freed by a take or a clear is usable at once.
-unfoldable pub enqueues : Limits → State → List Record → Outcome
+unfoldable pub enqueues : Limits → State → List Record → Outcome State
 enqueues L s rs =
     need allAccepted rs else EINVAL ⨾
     need leb (queued (s .pending) + allWant rs) (L .room) else EBUSY ⨾
     accept (length rs) (withPending (addAll rs (s .pending)) s) []
 
 -- 3 CLEAR_IRQS: nothing is pending any more; count: records removed. Adapters, masks and page-fault flag stay.
-unfoldable pub clears : State → Outcome
+unfoldable pub clears : State → Outcome State
 clears s = accept (length (listing (s .pending))) (withPending nothing s) []
 
 -- 4 APF_ENABLE, 5 APF_DISABLE_WAIT: the page-fault flag is on, off; count: 0.
-unfoldable pub setsApf : State → Bool → Outcome
+unfoldable pub setsApf : State → Bool → Outcome State
 setsApf s on = accept 0 (withDevice (record { simm = s .device .simm; nimm = s .device .nimm; apf = on }) s) []
 
 -- The adapter place of an id.
 abbrev pub placeOf : State → ℕ → Place
 placeOf s id = getD (s .adapters) id free
 
+-- The adapter of an id, where its place holds one.
+abbrev pub holding : Place → Option Adapter
+holding free = none
+holding (holds x) = some x
+
+abbrev pub adapterAt : State → ℕ → Option Adapter
+adapterAt s id = holding (placeOf s id)
+
 abbrev pub isFree : Place → Bool
 isFree free = true
 isFree (holds x) = false
 
 -- 6 ADAPTER_REGISTER: an unmasked adapter; count: 0. Refused: id above 63, id in use, isc above 7.
-unfoldable pub registers : Limits → State → ℕ → Adapter → Outcome
+unfoldable pub registers : Limits → State → ℕ → Adapter → Outcome State
 registers L s id x =
     need ltb id (L .places) else EINVAL ⨾
     need isFree (placeOf s id) else EINVAL ⨾
@@ -153,10 +161,10 @@ withMask on x = record { isc = x .isc; maskable = x .maskable; swap = x .swap; s
 
 -- 7 ADAPTER_MODIFY: type 1 masks (mask not 0) or unmasks; types 2 and 3 (MAP, UNMAP) do nothing (000); count: 0.
 -- Refused: id above 63, free id, type not 1 to 3, type 1 on an unmaskable adapter.
-unfoldable pub modifies : Limits → State → ℕ → ℕ → Bool → Outcome
+unfoldable pub modifies : Limits → State → ℕ → ℕ → Bool → Outcome State
 modifies L s id type on =
     need ltb id (L .places) else EINVAL ⨾
-    holder placeOf s id else EINVAL ⨾ λ x.
+    present adapterAt s id else EINVAL ⨾ λ x.
     need leb 1 type && leb type 3 else EINVAL ⨾
     need not (eqb type 1) || x .maskable else EINVAL ⨾
     accept 0 (choose (eqb type 1) (withAdapter id (withMask on x) s) s) []
@@ -188,14 +196,14 @@ withoutFirst f (q ∷ qs) = orIn (without f q) q qs (withoutFirst f qs)
 
 -- What CLEAR_IO_IRQ comes to, given the I/O queues without the record. `none`: there is no such record, and nothing
 -- changes.
-unfoldable pub removes : State → Option (List (List Record)) → Outcome
+unfoldable pub removes : State → Option (List (List Record)) → Outcome State
 removes s none = accept 0 s []
 removes s (some qs) =
     accept 1 (withPending (record { io = qs; done = s .pending .done; service = s .pending .service; mchk = s .pending .mchk }) s) []
 
 -- 8 CLEAR_IO_IRQ: the first I/O record in listing order that has both subchannel id and number is removed; count: 0 or
 -- 1. None: code 0, count 0. Word 0, which is id 0 and number 0, is refused (000, last note).
-unfoldable pub clearsIo : State → ℕ → ℕ → Outcome
+unfoldable pub clearsIo : State → ℕ → ℕ → Outcome State
 clearsIo s id nr =
     need not (isZero id && isZero nr) else EINVAL ⨾
     removes s (withoutFirst (isFor id nr) (s .pending .io))
@@ -206,7 +214,7 @@ withMasks simm nimm s = withDevice (record { simm = simm; nimm = nimm; apf = s .
 
 -- 9 AISM: the mode of one subclass; count: 0. Mode 0 (ALL) clears both bits; mode 1 (SINGLE) sets the simm bit and
 -- clears the nimm bit. Refused: isc above 7, mode not 0 or 1.
-unfoldable pub setsMode : State → ℕ → ℕ → Outcome
+unfoldable pub setsMode : State → ℕ → ℕ → Outcome State
 setsMode s isc mode =
     need leb isc 7 else EINVAL ⨾
     need leb mode 1 else EINVAL ⨾
@@ -230,17 +238,17 @@ injected s x =
 
 -- 10 AIRQ_INJECT: a masked adapter, or AIS capability and a suppressible adapter whose nimm bit is set: code 0, count
 -- 0, no change. Otherwise the record is appended; count: 1. Refused: id above 63, free id; 16 without room.
-unfoldable pub injects : Limits → State → ℕ → Outcome
+unfoldable pub injects : Limits → State → ℕ → Outcome State
 injects L s id =
     need ltb id (L .places) else EINVAL ⨾
-    holder placeOf s id else EINVAL ⨾ λ x.
+    present adapterAt s id else EINVAL ⨾ λ x.
     choose (x .masked || underAis s x (s .device .nimm)) (accept 0 s [])
     (need ltb (queued (s .pending)) (L .room) else EBUSY ⨾ accept 1 (injected s x) [])
 
 -- A request with its attribute and payload. The attribute has 64 bits in the paper and in the code; here it is any
 -- number. The order of checks after the adapter table (Machine): group and direction, which is the first clause;
 -- attribute zero; 95; claimed length; 14; payload contents in the order of the paper's table (22); then 12 or 16.
-unfoldable pub request : Limits → State → Request → ℕ → List ℕ → Outcome
+unfoldable pub request : Limits → State → Request → ℕ → List ℕ → Outcome State
 request L s noRequest attr b = refuse EINVAL
 -- 1 GET_ALL_IRQS: the claimed length has no upper bound and need not be a multiple of 72.
 request L s getAllIrqs attr b =

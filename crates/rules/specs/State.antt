@@ -9,7 +9,8 @@ use lib.Bits.{bitOr}
 use Rattle.rules.specs.Bytes.{choose, field}
 
 -- 'How much each promise says': the limits of 64 and 256 enter proofs as parameters, once. A definition that makes a
--- controller fresh, or asks whether there is an id or room for a record, takes them as its first argument L.
+-- controller fresh, or asks whether there is an id or room for a record, takes them as its first argument L. (What the
+-- listing program prints is over the paper's.) No other number in these files follows them.
 pub record Limits : Type 0 where
   -- how many adapter places there are: ids 0 to places - 1
   pub places : ℕ
@@ -17,7 +18,7 @@ pub record Limits : Type 0 where
   pub room : ℕ
 
 -- The paper's controller.
-abbrev pub paperLimits : Limits
+unfoldable pub paperLimits : Limits
 paperLimits = record { places = 64; room = 256 }
 
 -- An adapter: subclass 0 to 7, maskable, swap, suppressible, masked.

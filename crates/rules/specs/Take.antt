@@ -63,13 +63,13 @@ handed p subclasses externalAllowed mchkAllowed =
     (handIo p (firstAllowed 0 subclasses (p .io)))))
 
 -- A record is handed out: count 1. None: code 0, count 0, buffer untouched.
-unfoldable pub handsOut : State → Option (Handed Pending) → Outcome
+unfoldable pub handsOut : State → Option (Handed Pending) → Outcome State
 handsOut s none = accept 0 s []
 handsOut s (some h) = accept 1 (withPending (h .left) s) (h .given)
 
 -- A guest take: a subclass byte (bits as in simm), external allowed, machine check allowed, an output buffer. A buffer
 -- below 72 bytes is refused even where there is nothing to hand out.
-unfoldable pub takes : State → ℕ → Bool → Bool → List ℕ → Outcome
+unfoldable pub takes : State → ℕ → Bool → Bool → List ℕ → Outcome State
 takes s subclasses externalAllowed mchkAllowed b =
     need leb recordBytes (length b) else EFAULT ⨾
     handsOut s (handed (s .pending) subclasses externalAllowed mchkAllowed)

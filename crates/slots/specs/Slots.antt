@@ -4,11 +4,14 @@ use Prim.Native.Nat.{ℕ, suc, _+_, _*_, _≤_}
 use lib.Dec.{eqb}
 use lib.ListN.{take, drop}
 use Rattle.rules.specs.Bytes.{choose}
-use Rattle.rules.specs.State.{paperLimits}
 
 -- how many slots the lent memory has: room for every record of the nine queues
 abbrev pub slotCount : ℕ
-slotCount = paperLimits .room
+slotCount = 256
+
+-- the longest listing: those, a service record and a machine check
+abbrev pub mostPending : ℕ
+mostPending = slotCount + 2
 
 -- a list with one more at a place, and with the one at a place taken out
 unfoldable pub insertAt {ℓ} : {A : Type ℓ} → ℕ → A → List A → List A

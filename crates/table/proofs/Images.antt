@@ -1,8 +1,8 @@
 -- An image as a walk needs it, and the calls of `image` as single steps of a walk. The first two take and return plain values, so the caller's context stays.
---     takes-empty     `empty()`             ⟶  the result is 64 zeros
+--     takes-empty     `empty()`             ⟶  the result is imageSize zeros
 --     takes-place     `place_at(l, i)`      ⟶  the result is the place of byte i
 --     puts-place      `put_place(&mut local, i, p)`, where the caller has a local that holds the image l:  cell l ∷ Γ  ⟶  cell of l with the byte of p at i ∷ Γ
-use Rattle.table.proofs.Walk.{refl, sym, subst, ℕ, _<_, _^_, [], _∷_, List, getD, set, URA, fullShare, w8, w64, Val, vunit, vint, vptr, SProp, ent, sep, emp, snd∗, exE, id⊢, GName, flft, fat, Memory, Routine, Heap, Env, Calls, Loops, Atoms, sem, Fun, Given, Item, Seq, runs, lands, ‵, _$_, _∵_, !, qed, move, join, fjoin, frame, done, Opds, no-more, FmC, RattleType, Is, uint-vals, uint-tells, uint-makes, uint-lawful, u8, u64, only, owned, nothing, tripleOf, Contract, Triple, ensured, lasts}
+use Rattle.table.proofs.Walk.{refl, subst, ℕ, _<_, _^_, [], _∷_, List, getD, set, URA, fullShare, w8, w64, Val, vunit, vint, vptr, SProp, ent, sep, emp, snd∗, exE, id⊢, GName, flft, fat, Memory, Routine, Heap, Env, Calls, Loops, Atoms, sem, Fun, Given, Item, Seq, runs, lands, ‵, _$_, _∵_, !, qed, move, join, fjoin, frame, done, Opds, no-more, FmC, RattleType, Is, uint-vals, uint-tells, uint-makes, uint-lawful, u8, u64, only, owned, nothing, tripleOf, Contract, Triple, ensured, lasts}
 use types.Kit as Kit
 use mir.Syntax.{Place as Where, Body as Code, Opd as Operand, seq, call, tyArray, tyInt, Ty}
 use mir.Val.{hasTy, WT}

@@ -57,7 +57,7 @@ snap-at t zero i d h m = absurd (omega arith)
 snap-at t (suc n) i d h m =
     set-below (snapTo t n) n i _ d _ (omega (arith, length-snap t n)) h (λ e. rw e) (λ l. snap-at t n i d l (omega arith))
 
--- the image of a table of 64 places has the byte of each
+-- the image of a table with as many places as an image has bytes has the byte of each
 pub snap-all : (t : List Place) → length t ≡ imageSize → snapTo t imageSize ≡ map packed t
 snap-all t e =
     ext-getD (packed unused) (snapTo t imageSize) (map packed t) (length-snap t imageSize ∙ sym e ∙ sym (length-map t packed))

@@ -6,6 +6,7 @@ ghost use lib.ListN.{length};
 ghost use Rattle.rules.specs.Bytes.{part};
 ghost use Rattle.rules.specs.State.{listing};
 ghost use Rattle.rules.specs.Requests.{recordsIn};
+ghost use Rattle.slots.specs.Slots.{mostPending};
 ghost use Rattle.rules.specs.Listing.{ascii, digit, digits, digitCount, decimal, hex8, line, recordLine, linesFrom, shown, refusal};
 ghost use Rattle.queues.specs.Queues.{Held};
 ghost use Rattle.records.specs.Memory.{pendingOf};
@@ -21,7 +22,7 @@ use words::Subclass;
 pub const TEXT_BYTES: usize = 8192;
 
 // All records that can be pending.
-const LISTING_BYTES: usize = 258 * 72;
+const LISTING_BYTES: usize = (ROOM + 2) * 72;
 
 // Writes s from index at. Here and below: answers the index past what is written.
 fn append(out: &mut [u8], at: usize, s: &[u8]) -> usize
@@ -142,7 +143,7 @@ fn write_record(out: &mut [u8], at: usize, place: u64, b: &[u8], from: usize) ->
 
 // A line for each of the first n records of b.
 fn write_records(out: &mut [u8], at: usize, b: &[u8], n: usize) -> usize
-    requires { ⌜ (n ≤ 258) × (n * 72 ≤ length (now b)) × (at + n * 27 ≤ length (now out)) ⌝ }
+    requires { ⌜ (n ≤ mostPending) × (n * 72 ≤ length (now b)) × (at + n * 27 ≤ length (now out)) ⌝ }
     ensures { λ r. ⌜ Wrote (now (out .entry)) (now (out .exit)) at (linesFrom 0 (recordsIn n (now (b .entry)))) r ⌝ }
 {
     let mut end = at;

@@ -13,7 +13,8 @@ use Rattle.rules.specs.Requests.{setRequest, noRequest, adapterRegister, adapte
 use Rattle.rules.proofs.Checks.{passes, chosen, passed}
 use Rattle.rules.specs.State as rules
 use Rattle.rules.specs.State.{Limits, Pending, State}
-use Rattle.rules.specs.Outcome.{Outcome, refuse, accept, holder_else_⨾_, result, tell}
+use Rattle.rules.specs.Outcome.{Outcome, refuse, accept, result, tell}
+use Rattle.rules.specs.Machine.{answerOf}
 use Rattle.adapters.specs.declared.Device.{Device}
 use Rattle.adapters.specs.declared.Place.{Place}
 use Rattle.adapters.specs.Values.{placeOf, deviceOf, Canonical, maskedAs, modeSet}
@@ -39,27 +40,27 @@ within-same keeps place = refl
 within-same masks place = refl
 within-same enters place = tt
 
-module _ (places room : ℕ) (ais : Bool) (device : Device) (place : Place) (id : ℕ) (b : List ℕ) (o : Limits → State → Outcome) where
+module _ (places room : ℕ) (ais : Bool) (device : Device) (place : Place) (id : ℕ) (b : List ℕ) (o : Limits → State → Outcome State) where
   -- for every state that the values stand for
-  abbrev pub Gives : (Limits → State → Outcome) → Type 0
+  abbrev pub Gives : (Limits → State → Outcome State) → Type 0
   Gives f = (L : Limits) (s : State) → L .places ≡ places → s .ais ≡ ais → s .device ≡ deviceOf device → getD (s .adapters) id rules.free ≡ placeOf place
       → o L s ≡ f L s
 
   refuses : (code : ℕ) → Gives (λ L s. refuse code) → (p : Pending) (L : Limits) (s : State) → L .places ≡ places → s .ais ≡ ais → s .pending ≡ p
       → s .device ≡ deviceOf device → getD (s .adapters) id rules.free ≡ placeOf place
-      → result L s b (o L s) ≡ tell code 0 (stateWith s id (placeOf place) p (deviceOf device)) b
+      → answerOf L s b (o L s) ≡ tell code 0 (stateWith s id (placeOf place) p (deviceOf device)) b
   unfolding result
   refuses code f p L s e1 e3 e4 e5 e6 =
-      ap (result L s b) (f L s e1 e3 e5 e6)
+      ap (answerOf L s b) (f L s e1 e3 e5 e6)
       ∙ (λ i. tell code 0 ((as-it-was s id device place e5 e6 ∙ ap (λ (q : Pending). stateWith s id (placeOf place) q (deviceOf device)) e4) i) b)
 
   accepts : (device′ : Device) (place′ : Place) → Gives (λ L s. accept 0 (stateWith s id (placeOf place′) (s .pending) (deviceOf device′)) [])
       → (p : Pending) (L : Limits) (s : State) → L .places ≡ places → s .ais ≡ ais → s .pending ≡ p
       → s .device ≡ deviceOf device → getD (s .adapters) id rules.free ≡ placeOf place
-      → result L s b (o L s) ≡ tell 0 0 (stateWith s id (placeOf place′) p (deviceOf device′)) b
+      → answerOf L s b (o L s) ≡ tell 0 0 (stateWith s id (placeOf place′) p (deviceOf device′)) b
   unfolding result
   accepts device′ place′ f p L s e1 e3 e4 e5 e6 =
-      ap (result L s b) (f L s e1 e3 e5 e6)
+      ap (answerOf L s b) (f L s e1 e3 e5 e6)
       ∙ (λ i. tell 0 0 (stateWith s id (placeOf place′) (e4 i) (deviceOf device′)) b)
 
   -- from what the calls that make a reply ensure
@@ -186,11 +187,6 @@ id-there b n = chosen _ _ _ (le-leb 4 (length b) n)
 -- the place that a request is about, at that id
 pub place-there : (b : List ℕ) → 4 ≤ length b → (ps : List rules.Place) {x : rules.Place} → getD ps (payloadId b) rules.free ≡ x → getD ps (field 0 4 b) rules.free ≡ x
 place-there b n ps e = ap (λ (id : ℕ). getD ps id rules.free) (sym (id-there b n)) ∙ e
-
--- a free place holds no adapter
-pub unheld : (p : rules.Place) (code : ℕ) (f : rules.Adapter → Outcome) → p ≡ rules.free → (holder p else code ⨾ f) ≡ refuse code
-unfolding holder_else_⨾_
-unheld p code f h = rw h
 
 -- a mode of 0 or 1, as the rules set it and as the code does
 pub mode-is : (d : rules.Device) (isc mode : ℕ) → mode ≤ 1

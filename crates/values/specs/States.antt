@@ -16,7 +16,7 @@ use Rattle.adapters.specs.Values.{placeOf, deviceOf, Canonical, withMasked, mas
 use Rattle.answers.specs.Answers.{Answers}
 use Rattle.values.specs.declared.Reply.{Reply}
 
--- the id in the payload of REGISTER and MODIFY, and an id that no table of 64 places has where the payload is too short for one
+-- the id in the payload of REGISTER and MODIFY, and 2^32, an id that no table has, where the payload is too short for one
 unfoldable pub payloadId : List ℕ → ℕ
 payloadId b = choose (leb 4 (length b)) (field 0 4 b) (2 ^ 32)
 
@@ -24,12 +24,12 @@ payloadId b = choose (leb 4 (length b)) (field 0 4 b) (2 ^ 32)
 unfoldable pub onPlace : ℕ → Bool
 onPlace group = eqb group 6 || eqb group 7
 
--- the id that a set request is about; an id that no table of 64 places has where it is about none
+-- the id that a set request is about; 2^32, an id that no table has, where it is about none
 unfoldable pub aboutOf : ℕ → ℕ → List ℕ → ℕ
 aboutOf group attr b = choose (eqb group 10) attr (choose (onPlace group) (payloadId b) (2 ^ 32))
 
 -- what a request comes to that is decided by its code: 0 is accepted, with count 0 and nothing written
-unfoldable pub decided : ℕ → State → Outcome
+unfoldable pub decided : ℕ → State → Outcome State
 decided code next = choose (eqb code 0) (accept 0 next []) (refuse code)
 
 -- 01, groups 6 and 7: the place after an accepted request about it
@@ -63,7 +63,7 @@ stateWith s id place pending device = record { ais = s .ais; adapters = set (s .
 
 -- What a reply says, for every state that the code's values stand for: the outcome's answer, next state and untouched payload.
 -- `before` and `after` are the pending records, `id` is the place that the adapter is at.
-abbrev pub Replies : (places room : ℕ) (ais : Bool) (device : Device) (place : Place) (id : ℕ) (b : List ℕ) → (Limits → State → Outcome)
+abbrev pub Replies : (places room : ℕ) (ais : Bool) (device : Device) (place : Place) (id : ℕ) (b : List ℕ) → (Limits → State → Outcome State)
     → (before after : Pending) → Reply → Type 0
 Replies places room ais device place id b o before after r =
     (L : Limits) (s : State) → L .places ≡ places → L .room ≡ room → s .ais ≡ ais → s .pending ≡ before → s .device ≡ deviceOf device
@@ -86,7 +86,7 @@ changeOf group = choose (eqb group 6) enters (choose (eqb group 7) masks keeps)
 
 -- What a request that touches no pending record promises of its reply: the answer; a refusal leaves the values equal; a place made here stays so;
 -- the place changes no more than so.
-pub record Replied (places room : ℕ) (ais : Bool) (device : Device) (place : Place) (id : ℕ) (b : List ℕ) (o : Limits → State → Outcome) (change : Change) (r : Reply) : Type 0 where
+pub record Replied (places room : ℕ) (ais : Bool) (device : Device) (place : Place) (id : ℕ) (b : List ℕ) (o : Limits → State → Outcome State) (change : Change) (r : Reply) : Type 0 where
   pub answer : (p : Pending) → Replies places room ais device place id b o p p r
   pub kept : (r .answer .code ≡ 0 → ⊥) → (r .device ≡ device) × (r .place ≡ place)
   pub canonical : Canonical place → Canonical (r .place)

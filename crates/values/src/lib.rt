@@ -44,7 +44,7 @@ pub fn with_answer(answer: Answer, device: Device, place: Place) -> Reply
     }
 }
 
-// The id in a payload, or an id that no table of 64 places has where the payload is too short for one.
+// The id in a payload, or 2^32, an id that no table has, where the payload is too short for one.
 pub fn payload_id(payload: &[u8]) -> AdapterId
     ensures { λ r. ⌜ r .0 ≡ payloadId (now (payload .entry)) ⌝ }
 {
@@ -54,7 +54,7 @@ pub fn payload_id(payload: &[u8]) -> AdapterId
     AdapterId(words::read_be(payload, 0, 4))
 }
 
-// The adapter that a set request is about; an id that no table of 64 places has where it is about none.
+// The adapter that a set request is about; 2^32, an id that no table has, where it is about none.
 pub fn about(group: u32, attr: u64, payload: &[u8]) -> AdapterId
     ensures { λ r. ⌜ r .0 ≡ aboutOf group attr (now (payload .entry)) ⌝ }
 {

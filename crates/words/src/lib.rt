@@ -34,6 +34,12 @@ pub const PLACES: usize = 64;
 // How many records the nine queues hold together, at most: the slots of the lent memory.
 pub const ROOM: usize = 256;
 
+// The longest ENQUEUE. It does not follow the limits.
+pub const ENQUEUE_BYTES: u64 = 18576;
+
+// The most requests of a played list. It does not follow the limits.
+pub const MOST_REQUESTS: u64 = 131;
+
 pub const SLOT_BYTES: usize = ROOM * 72;
 
 // A queue for each subclass and one of finished page faults, with a count for each.

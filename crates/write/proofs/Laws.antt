@@ -16,6 +16,7 @@ use Rattle.rules.specs.Requests.{nonZero}
 use Rattle.rules.specs.MoveList.{ListRequest, oneIf, byRisingId, registerRequest, modifyRequest, enqueueRequest, aismAllRequest, apfRequest, listRequests, payloads, writtenTable, total, moveList, writes}
 use Rattle.rules.proofs.Checks.{passes, fails}
 use Rattle.rules.specs.Invariant.{All}
+use Rattle.rules.specs.Machine.{answerOf}
 use Rattle.rules.proofs.Lists.{all-append}
 use Rattle.rules.proofs.Decode.{length-table}
 use Rattle.rules.proofs.Reachable.{length-records}
@@ -211,13 +212,13 @@ module _ (ais : Bool) (es : List ListRequest) (o₀ o₁ o₂ o₃ : List ℕ) (
 module _ (L : Limits) (s : State) (b : List ℕ) (a : Answer) (t : ℕ) (es : List ListRequest) (e : es ≡ listRequests s) (et : t ≡ total es) where
   pub too-short : length b < t → a ≡ answered 12 0 → Answers L s b (writes s b) a s b
   unfolding writes result
-  too-short h f = ap (result L s b) (fails _ _ _ (lt-leb (total (listRequests s)) (length b) (rw (← e, ← et) h))) ∙ rw f
+  too-short h f = ap (answerOf L s b) (fails _ _ _ (lt-leb (total (listRequests s)) (length b) (rw (← e, ← et) h))) ∙ rw f
 
   pub written : (out : List ℕ) (ais : Bool) → s .ais ≡ ais → t ≤ length b → a ≡ answered 0 t
       → out ≡ moveList ais es ++ drop (length (moveList ais es)) b → Answers L s b (writes s b) a s out
   unfolding writes result
   written out ais ea h f g =
-      ap (result L s b) (passes _ _ _ (le-leb (total (listRequests s)) (length b) (rw (← e, ← et) h)))
+      ap (answerOf L s b) (passes _ _ _ (le-leb (total (listRequests s)) (length b) (rw (← e, ← et) h)))
       ∙ rw (f, ← e, ea) (rw (← et, g))
 
 -- ---- what the calls put

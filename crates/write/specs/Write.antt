@@ -11,6 +11,7 @@ use Rattle.rules.specs.MoveList.{ListRequest, oneIf, enqueueRequest, apfRequest
 use Rattle.list_parts.specs.Parts.{each}
 use Rattle.write.specs.declared.Parts.{Parts}
 use Rattle.image.specs.Image.{imageSize}
+use Rattle.slots.specs.Slots.{mostPending}
 
 -- AISM_ALL, where it is written
 abbrev pub maskEntry : Bool → ℕ → ℕ → List ListRequest
@@ -36,13 +37,20 @@ countOf p = p .registers + p .modifies + otherCount p
 abbrev pub bytesOf : Parts → ℕ
 bytesOf p = 8 * p .registers + 16 * p .modifies + recordBytes * p .records + 2 * oneIf (p .masks)
 
+-- the most of both: every place registered and masked, a full listing, AISM_ALL and APF_ENABLE
+abbrev pub mostEntries : ℕ
+mostEntries = 2 * imageSize + 3
+
+abbrev pub mostPayload : ℕ
+mostPayload = (8 + 16) * imageSize + recordBytes * mostPending + 2
+
 -- what is counted
 pub record Counted (image : List ℕ) (p : Parts) : Type 0 where
   pub registers : p .registers ≡ length (each false image)
   pub modifies : p .modifies ≡ length (each true image)
   pub fewRegisters : p .registers ≤ imageSize
   pub fewModifies : p .modifies ≤ imageSize
-  pub fewRecords : p .records ≤ 258
+  pub fewRecords : p .records ≤ mostPending
 
 -- so many whole records
 pub record Whole (rs : List Record) (n : ℕ) : Type 0 where

@@ -7,16 +7,16 @@ ghost use lib.ListN.{length};
 ghost use Rattle.rules.specs.Bytes.{choose};
 ghost use Rattle.rules.specs.State.{Limits, State, Record, recordBytes, listing};
 ghost use Rattle.rules.specs.Requests.{nonZero};
-ghost use Rattle.rules.specs.MoveList.{oneIf, headerBytes, tableEntryBytes, payloads, writtenTable, writes};
+ghost use Rattle.rules.specs.MoveList.{oneIf, headerBytes, tableEntryBytes, payloadOffset, payloads, writtenTable, writes};
 ghost use Rattle.answers.specs.Answers.{Answers};
 ghost use Rattle.queues.specs.Queues.{Held};
 ghost use Rattle.records.specs.Memory.{pendingOf};
 ghost use Rattle.adapters.specs.Values.{deviceOf};
 ghost use Rattle.image_places.specs.Places.{placesOf};
 ghost use Rattle.list_parts.specs.Parts.{put};
-ghost use Rattle.write.specs.Write.{adapterEntries, otherEntries, entriesFrom, otherCount, countOf, bytesOf, Counted, Whole};
+ghost use Rattle.write.specs.Write.{adapterEntries, otherEntries, entriesFrom, otherCount, countOf, bytesOf, mostEntries, mostPayload, Counted, Whole};
 ghost use Rattle.image.specs.Image.{imageSize};
-ghost use Rattle.slots.specs.Slots.{slotCount};
+ghost use Rattle.slots.specs.Slots.{slotCount, mostPending};
 use adapters::Device;
 use answers::Answer;
 use words::PLACES;
@@ -55,7 +55,7 @@ fn records_pending(
     singles: &[u8; SINGLES_BYTES],
 ) -> usize
     requires { ⌜ Held (now order) (now counts) × (length (now slots) ≡ slotCount * 72) × (length (now order) ≡ slotCount) ⌝ }
-    ensures { λ r. ⌜ Whole (listing (pendingOf (now (order .entry)) (now (counts .entry)) (now (slots .entry)) (now (singles .entry)))) r × (r ≤ 258) ⌝ }
+    ensures { λ r. ⌜ Whole (listing (pendingOf (now (order .entry)) (now (counts .entry)) (now (slots .entry)) (now (singles .entry)))) r × (r ≤ mostPending) ⌝ }
 {
     // as slices: what makes one of an array says its length
     let _c: &[usize] = counts;
@@ -65,7 +65,7 @@ fn records_pending(
 
 fn entry_count(p: Parts) -> usize
     requires { ⌜ (p .registers ≤ imageSize) × (p .modifies ≤ imageSize) ⌝ }
-    ensures { λ r. ⌜ (r ≡ countOf p) × (r ≤ 131) ⌝ }
+    ensures { λ r. ⌜ (r ≡ countOf p) × (r ≤ mostEntries) ⌝ }
 {
     let last = list_form::flag_of(0 < p.records)
         + list_form::flag_of(p.masks)
@@ -74,15 +74,15 @@ fn entry_count(p: Parts) -> usize
 }
 
 fn payload_bytes(p: Parts) -> usize
-    requires { ⌜ (p .registers ≤ imageSize) × (p .modifies ≤ imageSize) × (p .records ≤ 258) ⌝ }
-    ensures { λ r. ⌜ (r ≡ bytesOf p) × (r ≤ 20114) ⌝ }
+    requires { ⌜ (p .registers ≤ imageSize) × (p .modifies ≤ imageSize) × (p .records ≤ mostPending) ⌝ }
+    ensures { λ r. ⌜ (r ≡ bytesOf p) × (r ≤ mostPayload) ⌝ }
 {
     8 * p.registers + 16 * p.modifies + 72 * p.records + 2 * list_form::flag_of(p.masks) as usize
 }
 
 // The table entries of the adapters, the first payload at start.
 fn put_adapters(out: &mut [u8], start: usize, image: [u8; PLACES], p: Parts)
-    requires { ⌜ Counted image p × (start ≤ 4096) × (headerBytes + tableEntryBytes * (p .registers + p .modifies) ≤ length (now out)) ⌝ }
+    requires { ⌜ Counted image p × (start ≤ payloadOffset mostEntries) × (headerBytes + tableEntryBytes * (p .registers + p .modifies) ≤ length (now out)) ⌝ }
     ensures { λ _. ⌜ now (out .exit) ≡ put (now (out .entry)) headerBytes (writtenTable start (adapterEntries image)) ⌝ }
 {
     list_parts::put_slots(out, 20, start, image, false);
@@ -93,7 +93,7 @@ fn put_adapters(out: &mut [u8], start: usize, image: [u8; PLACES], p: Parts)
 
 // The table entries of ENQUEUE, AISM_ALL and APF_ENABLE, the first payload at pay.
 fn put_others(out: &mut [u8], at: usize, pay: usize, p: Parts)
-    requires { ⌜ (p .records ≤ 258) × (pay ≤ 8192) × (at + tableEntryBytes * otherCount p ≤ length (now out)) ⌝ }
+    requires { ⌜ (p .records ≤ mostPending) × (pay ≤ payloadOffset mostEntries + mostPayload) × (at + tableEntryBytes * otherCount p ≤ length (now out)) ⌝ }
     ensures { λ _. ⌜ ((rs : List Record) (simm nimm : ℕ) → Whole rs (p .records) → now (out .exit) ≡ put (now (out .entry)) at (writtenTable pay (otherEntries rs (p .masks) simm nimm (p .apf)))) ⌝ }
 {
     let queued = 0 < p.records;
@@ -108,7 +108,7 @@ fn put_others(out: &mut [u8], at: usize, pay: usize, p: Parts)
 
 // The table, its first payload at start.
 fn put_table(out: &mut [u8], start: usize, image: [u8; PLACES], p: Parts)
-    requires { ⌜ Counted image p × (start ≤ 4096) × (headerBytes + tableEntryBytes * countOf p ≤ length (now out)) ⌝ }
+    requires { ⌜ Counted image p × (start ≤ payloadOffset mostEntries) × (headerBytes + tableEntryBytes * countOf p ≤ length (now out)) ⌝ }
     ensures { λ _. ⌜ ((rs : List Record) (simm nimm : ℕ) → Whole rs (p .records) → now (out .exit) ≡ put (now (out .entry)) headerBytes (writtenTable start (entriesFrom image rs (p .masks) simm nimm (p .apf)))) ⌝ }
 {
     let at = 20 + 24 * (p.registers + p.modifies);
@@ -155,7 +155,7 @@ fn put_payloads(
     device: Device,
     p: Parts,
 )
-    requires { ⌜ Held (now order) (now counts) × Counted image p × Whole (listing (pendingOf (now order) (now counts) (now slots) (now singles))) (p .records) × (start ≤ 4096) × (start + bytesOf p ≤ length (now out)) ⌝ }
+    requires { ⌜ Held (now order) (now counts) × Counted image p × Whole (listing (pendingOf (now order) (now counts) (now slots) (now singles))) (p .records) × (start ≤ payloadOffset mostEntries) × (start + bytesOf p ≤ length (now out)) ⌝ }
     ensures { λ _. ⌜ now (out .exit) ≡ put (now (out .entry)) start (payloads (entriesFrom image (listing (pendingOf (now (order .entry)) (now (counts .entry)) (now (slots .entry)) (now (singles .entry)))) (p .masks) (device .simm) (device .nimm) (p .apf))) ⌝ }
 {
     list_parts::put_payloads(out, start, image, false);

@@ -2,6 +2,7 @@
 use mathlib.Core.Path.{sym, _∙_}
 use native.Mathlib.Omega.{arith}
 use Rattle.controller.proofs.Laws.{replied-as}
+use Rattle.controller.proofs.Limits.{limits-sized}
 use Rattle.controller.proofs.answer_inject.Statement.{statement}
 use Rattle.controller.proofs.answer_inject.Tie as tie
 
@@ -14,7 +15,7 @@ returns c =
     let e = j .inject .ensures in
     let a = j .before .before .before .before .args in
     record {
-      answer = λ b. replied-as _ _ (a .ais) (a .device) (a .place) (a .id .0) b _ _ _ (j .inject .result) _ (e .1 .1 .1 .0) (e .1 .0 .1) (e .0 (a .singles .now) b);
+      answer = λ b. replied-as _ _ (a .ais) (a .device) (a .place) (a .id .0) b _ _ _ (j .inject .result) _ (e .1 .1 .1 .0) (e .1 .0 .1) (λ L s u v. e .0 (a .singles .now) b L s (u ∙ limits-sized _ .places) (v ∙ limits-sized _ .room));
       kept = λ n. let k = e .1 .1 .0 n in ((λ i. record { slots = k .1 i; order = k .2 i; counts = k .3 i; singles = a .singles .now; ais = a .ais }), sym (e .1 .1 .1 .0) ∙ k .0);
       held = e .1 .0 .0;
     }

@@ -1,7 +1,6 @@
 -- `controller::answer_records` meets its contract. Assumes nothing.
-use mathlib.Core.Path.{refl}
 use native.Mathlib.Omega.{arith}
-use Rattle.rules.specs.State.{paperLimits}
+use Rattle.controller.proofs.Limits.{limits-sized}
 use Rattle.controller.proofs.answer_records.Statement.{statement}
 use Rattle.controller.proofs.answer_records.Tie as tie
 
@@ -12,7 +11,7 @@ returns : tie.Need-returns
 returns c = λ ais.
     let e = c .set-records .ensures in
     record {
-      answer = λ s p. e .0 paperLimits s refl p;
+      answer = λ s p. e .0 _ s (limits-sized _ .room) p;
       kept = λ n. let k = e .1 .1 n in (λ i. record { slots = k .0 i; order = k .1 i; counts = k .2 i; singles = k .3 i; ais = ais });
       held = e .1 .0;
     }

@@ -1,5 +1,4 @@
 -- `controller::hand_out` meets its contract. Assumes nothing.
-use Rattle.rules.specs.State.{paperLimits}
 use borrow.Author.Needs.{needs}
 use Rattle.controller.proofs.hand_out.Statement.{statement}
 use Rattle.controller.proofs.hand_out.Tie as tie
@@ -13,7 +12,7 @@ same-length c = search needs
 returns : tie.Need-returns
 returns c = λ ais.
     record {
-      answer = λ s p. c .before .before .take .ensures .0 paperLimits s p;
+      answer = λ s p. c .before .before .take .ensures .0 _ s p;
       kept = λ n. let k = c .before .before .take .ensures .1 .1 n in ((λ i. record { slots = c .before .before .before .before .before .before .before .before .before .args .slots .now; order = k .0 i; counts = k .1 i; singles = k .2 i; ais = ais }), k .3);
       held = c .before .before .take .ensures .1 .0;
     }

@@ -1,9 +1,9 @@
 -- `controller::replay` meets its contract. Assumes nothing.
-use mathlib.Core.Path.{refl}
+use mathlib.Core.Path.{sym, _∙_}
 use native.Mathlib.Omega.{arith}
-use Rattle.rules.specs.State.{paperLimits}
 use Rattle.image_places.specs.Places.{AllCanonical}
-use Rattle.controller.proofs.Laws.{replayed-answer}
+use Rattle.controller.proofs.Laws.{canonical-places, replayed-answer}
+use Rattle.controller.proofs.Limits.{limits-sized}
 use Rattle.controller.proofs.replay.Statement.{statement}
 use Rattle.controller.proofs.replay.Tie as tie
 
@@ -18,11 +18,11 @@ returns c =
     let a = l .before .before .before .before .before .before .args in
     record {
       same = λ z. let k = p .1 .1 .1 .1 z in (λ i. record { slots = k .0 i; order = k .1 i; counts = k .2 i; singles = k .3 i; ais = a .ais });
-      whole = p .1 .1 .0;
+      whole = λ n. p .1 .1 .0 n ∙ sym (limits-sized _ .places);
       held = p .1 .0 .0;
-      canonical = p .1 .0 .1;
-      answer = λ s f. replayed-answer s _ _ _ _ _ _ _ (p .0 paperLimits s refl refl f);
-      form = λ s f code o. p .1 .1 .1 .0 paperLimits s f code o;
+      canonical = canonical-places _ _ (limits-sized _ .places) _ (p .1 .0 .1);
+      answer = λ s f. replayed-answer _ _ (limits-sized _ .places) s _ _ _ _ _ _ _ (p .0 _ s (limits-sized _ .places) (limits-sized _ .room) f);
+      form = λ s f code count o. p .1 .1 .1 .0 _ s f code count o;
     }
 
 pub replay-spec : {M : Type 1} → statement M

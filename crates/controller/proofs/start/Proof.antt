@@ -1,6 +1,8 @@
 -- `controller::start` meets its contract. Assumes nothing.
-use Rattle.rules.specs.State.{paperLimits}
 use borrow.Author.Needs.{needs}
+use Rattle.image.specs.Image.{imageSize}
+use Rattle.controller.proofs.Laws.{started-with}
+use Rattle.controller.proofs.Limits.{limits-sized}
 use Rattle.controller.proofs.start.Statement.{statement}
 use Rattle.controller.proofs.start.Tie as tie
 
@@ -9,13 +11,15 @@ returns c =
     let f = c .before .before in
     let e = f .before .before .before .before in
     record {
-      started = λ i. record {
-        answer = c .before .accept .ensures i;
-        ais = e .before .args .ais;
-        device = c .fresh-device .ensures i;
-        restored = paperLimits .places;
-        image = e .empty .ensures i;
-      };
+      started =
+          started-with _ _ (limits-sized _ .places) _ _ _ _
+          (λ i. record {
+            answer = c .before .accept .ensures i;
+            ais = e .before .args .ais;
+            device = c .fresh-device .ensures i;
+            restored = imageSize;
+            image = e .empty .ensures i;
+          });
       pending = f .fresh .ensures .1 _;
       held = f .fresh .ensures .0;
     }

@@ -1,7 +1,6 @@
 -- `controller::write_from` meets its contract. Assumes nothing.
 use mathlib.Core.Path.{_∙_, sym}
 use borrow.Author.Needs.{needs}
-use Rattle.rules.specs.State.{paperLimits}
 use Rattle.image_places.proofs.Laws.{places-all}
 use Rattle.controller.proofs.write_from.Statement.{statement}
 use Rattle.controller.proofs.write_from.Tie as tie
@@ -10,7 +9,7 @@ returns : tie.Need-returns
 returns c =
     let w = c .before .before in
     record {
-      answer = λ s a t p d. w .write-list .ensures .0 paperLimits s a (t ∙ sym (places-all (w .before .before .before .args .image))) p d;
+      answer = λ s a t p d. w .write-list .ensures .0 _ s a (t ∙ sym (places-all (w .before .before .before .args .image))) p d;
       kept = w .write-list .ensures .1;
     }
 

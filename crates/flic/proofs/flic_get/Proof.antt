@@ -1,6 +1,6 @@
 -- `flic_get`: of the table only the length is read; a wrong one is refused. Else the controller is looked into, and shut at the exit; its four arrays are lent by `&` to
 -- `answer_get`, the bytes are passed on, and so is the reference to the device record, to `read_device`.
-use Rattle.flic.proofs.Walk.{_≡_, refl, Bool, true, false, lit, bin, store, first, skips, branches, exec, returns-within, anyQ, afterSeq, Wp, atReturn, ℕ, _<_, _^_, [], _∷_, List, length, URA, named, erased, w8, w64, tyInt, tyBool, tyRef, imm, mut, Val, vint, vbool, vptr, SProp, ent, id⊢, feq, GName, Lft, Share, Fml, ftrue, fsep, flft, fobor, Memory, Routine, Heap, Env, Calls, Loops, WpFn, Tables, Atoms, Fun, givenOf, tables, tablesOf, Given, Item, Sq, runs, atRet, ‵, ⋆, _⊛_, _$_, _∵_, !, qed, by, move, keep, drop, split, join, fsplit, fsplit3, fjoin, feqL, suffices, frame, done, look, init, stop, hop, fld, from, load, addr, of-opd, and-then, no-more, assigns, land, returns, enter, alloc1, alloc0, params1, pass1, pass0, agg, whole, sub, look-in, FmC, fmOf, WpFn-mono, owns, Is, partAt, pointee, bool-makes, uint-vals, uint-tells, uint-makes, u8, u64, RefT, ShrRef, ptr-vals, shr-tells, finally, sliceVal, sliceTy, MutSlice, ShrSlice, Room, slice-vals, mut-slice-tells, shr-slice-tells, plain, owned, nothing, onEntry, Meets, tripleOf, Contract, Triple, entered, cited, says, Stays, walkOf, Walks, ends-at, walked, walk-meets, yes, _+_, w32, tyArray, u32, bool, needs, stay-dropped, goes-dropped, gave-slice, goes-gave-slice}
+use Rattle.flic.proofs.Walk.{_≡_, refl, Bool, false, lit, bin, store, first, skips, branches, exec, returns-within, anyQ, afterSeq, Wp, atReturn, ℕ, _<_, _^_, [], _∷_, List, length, URA, named, erased, w8, w64, tyInt, tyBool, tyRef, imm, mut, Val, vint, vbool, vptr, SProp, ent, id⊢, feq, GName, Lft, Share, Fml, ftrue, fsep, flft, fobor, Memory, Routine, Heap, Env, Calls, Loops, WpFn, Tables, Atoms, Fun, givenOf, tables, tablesOf, Given, Item, Sq, runs, atRet, ‵, ⋆, _⊛_, _$_, _∵_, !, qed, by, move, keep, drop, split, join, fsplit, fsplit3, fjoin, feqL, suffices, frame, done, look, init, stop, hop, fld, from, load, addr, of-opd, and-then, no-more, assigns, land, returns, enter, alloc1, alloc0, params1, pass1, pass0, agg, whole, sub, look-in, FmC, fmOf, WpFn-mono, owns, Is, partAt, pointee, bool-makes, uint-vals, uint-tells, uint-makes, u8, u64, RefT, ShrRef, ptr-vals, shr-tells, finally, sliceVal, sliceTy, MutSlice, ShrSlice, Room, slice-vals, mut-slice-tells, shr-slice-tells, plain, owned, nothing, onEntry, Meets, tripleOf, Contract, Triple, entered, cited, says, Stays, walkOf, Walks, ends-at, walked, walk-meets, yes, _+_, w32, tyArray, u32, bool, needs, stay-dropped, goes-dropped, gave-slice, goes-gave-slice}
 use types.Kit as Kit
 use native.Mathlib.Omega.{arith}
 use lib.Dec.{eqb}
@@ -8,9 +8,12 @@ use mathlib.Core.Bool.{not}
 use borrow.Author.Tests.{eqb-true, eqb-false}
 use denote.Struct.Laws as LL
 use denote.Signature.{shrRefTo, shrSliceOf}
-use Rattle.rules.specs.State.{paperLimits}
+use Rattle.controller.specs.Limits.{limitsOf}
+use Rattle.controller.proofs.Limits.{right-length, wrong-length}
+use Rattle.image.specs.Image.{imageSize}
 use Rattle.rules.specs.Machine.{getAttr}
 use Rattle.answers.specs.declared.Answer.{Answer}
+use Rattle.answers.specs.Answers.{saw}
 use Rattle.answers.proofs.Answer as An
 use Rattle.answers.proofs.Answer.Laws as An′
 use Rattle.adapters.specs.declared.Device.{Device}
@@ -52,7 +55,7 @@ module _ {M : Type 1} (𝓤 : URA M) (H : Heap 𝓤) (A : Atoms 𝓤) (mem′ : 
 
 module _ {M : Type 1} (𝓤 : URA M) (H : Heap 𝓤) (A : Atoms 𝓤) (W : Given 𝓤 H A) (mem′ : Memory → SProp 𝓤) (run : Routine → Fun 𝓤)
     (κc κd κt κo : Lft) (qc qd qt qo : Share) (bc oc bd od bt ot bo oo : ℕ) (γc γd γt γo : GName) (c : Controller) (d : Device) (ys : List Place) (group attr : ℕ) (bytes : List ℕ)
-    (room : Room P.the-row (length ys)) (group-fits : group < 2 ^ 32) (attr-fits : attr < 2 ^ 64) (room-o : Room u8 (length bytes)) (valid : length ys ≡ paperLimits .places → Valid c d ys) where
+    (room : Room P.the-row (length ys)) (group-fits : group < 2 ^ 32) (attr-fits : attr < 2 ^ 64) (room-o : Room u8 (length bytes)) (valid : length ys ≡ limitsOf c .places → Valid c d ys) where
   abbrev s : Val
   s = sliceVal (bt, ot) (length ys)
 
@@ -78,7 +81,7 @@ module _ {M : Type 1} (𝓤 : URA M) (H : Heap 𝓤) (A : Atoms 𝓤) (W : Given
   abbrev Rest : List ℕ → List (Item 𝓤)
   Rest ls = ‵ (flft κc qc) ∷ ‵ (flft κd qd) ∷ ‵ (flft κt qt) ∷ ‵ (flft κo qo) ∷ ‵ (finally u8 γo ls) ∷ []
 
-  exits : (ls : List ℕ) (z : Answer) (v : Val) → Requested (getAttr group attr) c c d d ys ys bytes ls z → length ls ≡ length bytes → Is An.the-row z (v ∷ []) → ent 𝓤 (⋆ 𝓤 H A (Rest ls)) (Post v)
+  exits : (ls : List ℕ) (z : Answer) (v : Val) → Requested (getAttr group attr) c c d d ys ys bytes (saw z ls) → length ls ≡ length bytes → Is An.the-row z (v ∷ []) → ent 𝓤 (⋆ 𝓤 H A (Rest ls)) (Post v)
   exits ls z v requested e is =
       qed W (Rest ls) ∵ suffices ! _ (ends-at 𝓤 H A f.ended stayed (f.clauses 𝓤 H A mem′ run) W bound v z (tt, (tt, (tt, (tt, (tt, (ls, tt)))))) (tt, (tt, (tt, (tt, (tt, (e, tt))))))) $ says ! requested $
       nothing ! $ move ! (4 ∷ 0 ∷ []) $ join ! $ move ! (3 ∷ 0 ∷ []) $ join ! $ move ! (2 ∷ 0 ∷ []) $ join ! $ move ! (1 ∷ 0 ∷ []) $ join ! $ frame ! $
@@ -104,7 +107,7 @@ module _ {M : Type 1} (𝓤 : URA M) (H : Heap 𝓤) (A : Atoms 𝓤) (W : Given
   abbrev to-answer-get : Loan → AnswerGet 𝓤 H A mem′ run .Ghost
   to-answer-get n = ((lent-lfts n (κo, tt), lent-shares (qo, tt), tt, lent-args n c bc oc (c .ais, (d, (group, (attr, (at-array bo oo γo bytes, tt))))), lent-vals bc oc (vbool (c .ais) ∷ [], (D′.lowered d ∷ [], (vint w32 group ∷ [], (vint w64 attr ∷ [], (out ∷ [], tt)))))), tt)
 
-  goes : length ys ≡ paperLimits .places → (sh : Share) (n : Loan) → ent 𝓤 (⋆ 𝓤 H A (Toks n T ∷ ‵ (Lent (shared sh) n c bc oc O) ∷ [])) (AnswerGet 𝓤 H A mem′ run .pre (to-answer-get n))
+  goes : length ys ≡ limitsOf c .places → (sh : Share) (n : Loan) → ent 𝓤 (⋆ 𝓤 H A (Toks n T ∷ ‵ (Lent (shared sh) n c bc oc O) ∷ [])) (AnswerGet 𝓤 H A mem′ run .pre (to-answer-get n))
   goes right sh n = qed W (Toks n T ∷ ‵ (Lent (shared sh) n c bc oc O) ∷ []) ∵ says ! (valid right .ready) $ done !
 
   module _ (C′ : Calls 𝓤 H) (Λ : Loops 𝓤 H) (fm : FmC 𝓤 H (W .laws) C′) (known-refuse : Triple 𝓤 (C′ refuse-def.name) (Refuse 𝓤 H A mem′ run)) (known-read : Triple 𝓤 (C′ read-device-def.name) (ReadDevice 𝓤 H A mem′ run)) (known : Triple 𝓤 (C′ answer-get-def.name) (AnswerGet 𝓤 H A mem′ run)) (l₀ l₁ l₂ l₃ l₄ l₅ l₆ l₇ l₈ l₉ l₁₀ l₁₁ l₁₂ l₁₃ l₁₄ l₁₅ : ℕ) where
@@ -113,7 +116,7 @@ module _ {M : Type 1} (𝓤 : URA M) (H : Heap 𝓤) (A : Atoms 𝓤) (W : Given
 
     -- what the locals hold after n statements, and the result's v₀; the flag is whether the length is wrong, then the capability
     abbrev wrong : Bool
-    wrong = not (eqb (length ys) 64)
+    wrong = not (eqb (length ys) imageSize)
 
     abbrev held : Content → Bool → ℕ → List Content
     held v₀ flag n = v₀ ∷ holds (vptr bc oc) ∷ holds (vptr bd od) ∷ holds s ∷ holds (vint w32 group) ∷ holds (vint w64 attr) ∷ holds out ∷ since 4 n (D′.lowered d) ∷ since 1 n (vint w64 (length ys)) ∷ since 2 n (vbool flag)
@@ -123,7 +126,7 @@ module _ {M : Type 1} (𝓤 : URA M) (H : Heap 𝓤) (A : Atoms 𝓤) (W : Given
     abbrev Open : Share → List (Item 𝓤) → List (Item 𝓤)
     Open sh Γ = Cells H sh c bc oc (‵ (fobor κc qc (partAt C.the-row sh c bc oc)) ∷ Γ)
 
-    module _ (right : length ys ≡ paperLimits .places) where
+    module _ (right : length ys ≡ limitsOf c .places) where
       -- the controller is shut
       ends : (sh : Share) → Has c → (z : Answer) (v : Val) (y : Y) → Got group attr c d bytes (last y) z → Is An.the-row z (v ∷ [])
           → Sq W (Open sh (T ∷ ‵ (Leaves y) ∷ ‵ (flft κd qd) ∷ ‵ (flft κt qt) ∷ locals E (held (holds v) (c .ais) 11) [])) (runs C′ Λ E mir.t-13 (atRet E Post))
@@ -158,7 +161,7 @@ module _ {M : Type 1} (𝓤 : URA M) (H : Heap 𝓤) (A : Atoms 𝓤) (W : Given
     Passed Γ = ‵ (flft κd qd) ∷ ‵ (ShrRef (named 1) κd D.the-row .own (x .1 .0) (vptr bd od ∷ [])) ∷ ‵ (ShrRef (named 0) κc C.the-row .own (x .0) (vptr bc oc ∷ [])) ∷ ‵ (flft κc qc) ∷ ‵ OwnO ∷ ‵ (flft κo qo) ∷ ‵ (flft κt qt) ∷ Γ
 
     -- `read_device` is called, and the controller is looked into
-    reads-it : length ys ≡ paperLimits .places → Sq W (Passed (locals E (held blank wrong 2) [])) (runs C′ Λ E mir.t-4 (atRet E Post))
+    reads-it : length ys ≡ limitsOf c .places → Sq W (Passed (locals E (held blank wrong 2) [])) (runs C′ Λ E mir.t-4 (atRet E Post))
     reads-it right =
         reads-passed ! mem′ run fm known-read κd qd bd od γd d (λ _. (and-then ! (load ! (from ! (stop !)) (look ! 10 refl)) (no-more !))) (λ gd. land ! (from ! (stop !)) (init ! 20 refl (LL.lawful D.the-type D′.the-laws 𝓤 H A W .typed d _ gd .0)) $
         move ! (1 ∷ []) $ fsplit3 ! $ drop ! $ drop ! $ move ! (0 ∷ 2 ∷ []) $ looks-ctl ! tt c bc oc (λ sh g. operands right sh g gd))
@@ -167,21 +170,21 @@ module _ {M : Type 1} (𝓤 : URA M) (H : Heap 𝓤) (A : Atoms 𝓤) (W : Given
     Then = anyQ (afterSeq 𝓤 H (Wp 𝓤 H C′ Λ E mir.t-4 (atReturn 𝓤 H E Post)) (atReturn 𝓤 H E Post))
 
     -- a wrong table: the bytes are given up as they are
-    refuses-it : eqb (length ys) 64 ≡ false → Sq W (Passed (locals E (held blank wrong 2) [])) (runs C′ Λ E (taken mir.s-3) Then)
+    refuses-it : eqb (length ys) imageSize ≡ false → Sq W (Passed (locals E (held blank wrong 2) [])) (runs C′ Λ E (taken mir.s-3) Then)
     refuses-it e =
         refuses ! mem′ run fm known-refuse 14 (omega arith) (λ i. (and-then ! (lit ! tt) (no-more !))) (λ g.
         land ! (from ! (stop !)) (init ! 7 refl (LL.lawful An.the-type An′.the-laws 𝓤 H A W .typed (refused 14) _ g .0)) $ move ! (4 ∷ []) $ gives-up ! κo bo oo γo bytes $
         move ! (4 ∷ 1 ∷ 6 ∷ 5 ∷ 0 ∷ []) $ move ! (5 ∷ []) $ drop ! $ move ! (5 ∷ []) $ drop ! $ returns-within ! Post refl (look ! 5 refl) $
         swaps ! (Rest bytes) (locals E (held (holds (An′.lowered (refused 14))) wrong 2) []) $ frees-all ! E (held (holds (An′.lowered (refused 14))) wrong 2) $
-        by ! (exits bytes (refused 14) (An′.lowered (refused 14)) (wrong-promises c d ys bytes (eqb-false (length ys) 64 e) (getAttr group attr) tt) refl g))
+        by ! (exits bytes (refused 14) (An′.lowered (refused 14)) (wrong-promises c d ys bytes (wrong-length c _ (eqb-false (length ys) imageSize e)) (getAttr group attr) tt) refl g))
 
     -- the length is looked at
     starts : Sq W (Passed (locals E (held blank wrong 0) [])) (runs C′ Λ E mir.t-1 (atRet E Post))
     starts =
         assigns ! (of-opd ! (load ! (from ! (fld ! refl (stop !))) (look-in ! 13 (sub ! 1 refl (whole !))))) (from ! (stop !)) (init ! 23 refl (tt, record { fits = room .0 })) $
         assigns ! (bin ! (load ! (from ! (stop !)) (look ! 23 refl)) (lit ! tt) tt) (from ! (stop !)) (init ! 25 refl (tt, tt)) $
-        first ! $ branches ! (load ! (from ! (stop !)) (look ! 25 refl)) (λ t. refuses-it (holds-false (eqb (length ys) 64) t))
-        (λ t. skips ! $ exec ! C′ Λ E mir.t-4 (atRet E Post) $ reads-it (eqb-true (length ys) 64 (not-not (eqb (length ys) 64) t)))
+        first ! $ branches ! (load ! (from ! (stop !)) (look ! 25 refl)) (λ t. refuses-it (holds-false (eqb (length ys) imageSize) t))
+        (λ t. skips ! $ exec ! C′ Λ E mir.t-4 (atRet E Post) $ reads-it (right-length c _ (eqb-true (length ys) imageSize (not-not (eqb (length ys) imageSize) t))))
 
   walk : (C′ : Calls 𝓤 H) (Λ : Loops 𝓤 H) (fm : FmC 𝓤 H (W .laws) C′) → Triple 𝓤 (C′ refuse-def.name) (Refuse 𝓤 H A mem′ run) → Triple 𝓤 (C′ read-device-def.name) (ReadDevice 𝓤 H A mem′ run) → Triple 𝓤 (C′ answer-get-def.name) (AnswerGet 𝓤 H A mem′ run)
       → ent 𝓤 (onEntry 𝓤 H A f.signature (κc, (κd, (κt, (κo, tt)))) (qc, (qd, (qt, (qo, tt)))) x at) (WpFn 𝓤 H C′ Λ code.function (vptr bc oc ∷ vptr bd od ∷ s ∷ vint w32 group ∷ vint w64 attr ∷ out ∷ []) Post)
@@ -201,7 +204,7 @@ module _ {M : Type 1} (𝓤 : URA M) (H : Heap 𝓤) (A : Atoms 𝓤) (W : Given
   walks : (C′ : Calls 𝓤 H) (Λ : Loops 𝓤 H) → FmC 𝓤 H (W .laws) C′ → Triple 𝓤 (C′ refuse-def.name) (Refuse 𝓤 H A mem′ run) → Triple 𝓤 (C′ read-device-def.name) (ReadDevice 𝓤 H A mem′ run) → Triple 𝓤 (C′ answer-get-def.name) (AnswerGet 𝓤 H A mem′ run) → Walks 𝓤 H A f.ended stayed (WpFn 𝓤 H C′ Λ code.function) (f.clauses 𝓤 H A mem′ run)
   walks C′ Λ fm k0 k1 k2 = walked 𝓤 H A f.ended stayed (f.clauses 𝓤 H A mem′ run) (WpFn 𝓤 H C′ Λ code.function) (λ κs. (ptr-vals, (ptr-vals, (slice-vals, (uint-vals w32, (uint-vals w64, (slice-vals, tt)))))))
       (λ κs. (shr-tells (named 0) (κs .0) C.the-row, (shr-tells (named 1) (κs .1 .0) D.the-row, (shr-slice-tells (named 2) (κs .1 .1 .0) P.the-row, (uint-tells w32, (uint-tells w64, (mut-slice-tells (named 3) (κs .1 .1 .1 .0) u8, tt)))))))
-      (λ κs qs bounds a _ are. needs 𝓤 (length (a .1 .1 .0 .now) ≡ paperLimits .places → Valid (a .0 .now) (a .1 .0 .now) (a .1 .1 .0 .now)) _ (λ valid. walk 𝓤 H A W mem′ run (κs .0) (κs .1 .0) (κs .1 .1 .0) (κs .1 .1 .1 .0) (qs .0) (qs .1 .0) (qs .1 .1 .0) (qs .1 .1 .1 .0)
+      (λ κs qs bounds a _ are. needs 𝓤 (length (a .1 .1 .0 .now) ≡ limitsOf (a .0 .now) .places → Valid (a .0 .now) (a .1 .0 .now) (a .1 .1 .0 .now)) _ (λ valid. walk 𝓤 H A W mem′ run (κs .0) (κs .1 .0) (κs .1 .1 .0) (κs .1 .1 .1 .0) (qs .0) (qs .1 .0) (qs .1 .1 .0) (qs .1 .1 .1 .0)
       (a .0 .ptr .0) (a .0 .ptr .1) (a .1 .0 .ptr .0) (a .1 .0 .ptr .1) (a .1 .1 .0 .ptr .0) (a .1 .1 .0 .ptr .1) (a .1 .1 .1 .1 .1 .0 .ptr .0) (a .1 .1 .1 .1 .1 .0 .ptr .1) (a .0 .name) (a .1 .0 .name) (a .1 .1 .0 .name) (a .1 .1 .1 .1 .1 .0 .name)
       (a .0 .now) (a .1 .0 .now) (a .1 .1 .0 .now) (a .1 .1 .1 .0) (a .1 .1 .1 .1 .0) (a .1 .1 .1 .1 .1 .0 .now) (are .1 .1 .0 .0 .1) (are .1 .1 .1 .0 .1) (are .1 .1 .1 .1 .0 .1) (are .1 .1 .1 .1 .1 .0 .0 .1) valid C′ Λ fm k0 k1 k2))
 

@@ -1,7 +1,9 @@
 -- `flic_make`: what it shares with `flic_play_list` is in Fresh.antt. In between `start` is called, and the capability is stored.
 use Rattle.flic.proofs.Walk.{_≡_, refl, ap, subst, ℕ, Bool, [], _∷_, List, length, URA, fullShare, named, tyBool, Val, vbool, vptr, SProp, ent, emp, via, id⊢, Fml, ftrue, fsep, fat, Memory, Routine, Heap, Env, Calls, Loops, WpFn, Tables, Atoms, Fun, Given, Sq, runs, atRet, ‵, ⋆, _$_, _∵_, !, qed, move, keep, drop, rewrite, fjoin, suffices, frame, done, look, store, init, stop, hop, fld, from, load, of-opd, and-then, no-more, assigns, land, enter, alloc1, alloc0, params1, pass1, pass0, whole, sub, look-in, FmC, fmOf, WpFn-mono, owns, Is, bool-vals, bool-tells, bool-makes, RefT, ptr-vals, mut-tells, Room, slice-vals, mut-slice-tells, plain, only, owned, nothing, onEntry, Meets, tripleOf, Contract, Triple, entered, cited, says, Stays, stay-ref, stay-slice, walkOf, goes-ref, goes-slice, Walks, ends-at, walked, walk-meets, yes, givenOf, tables, tablesOf, bool, stay-dropped, goes-dropped, fst∗}
 use denote.Struct.Laws as LL
+use mathlib.Core.Path.{sym, _∙_}
 use Rattle.rules.specs.State.{paperLimits}
+use Rattle.play.proofs.Sized.{paper-sized}
 use Rattle.answers.specs.declared.Answer.{Answer}
 use Rattle.answers.proofs.Answer as An
 use Rattle.answers.proofs.Answer.Laws as An′
@@ -63,7 +65,7 @@ module _ {M : Type 1} (𝓤 : URA M) (H : Heap 𝓤) (A : Atoms 𝓤) (W : Given
   abbrev Post : Val → SProp 𝓤
   Post = walkOf 𝓤 H A f.ended stayed (f.clauses 𝓤 H A mem′ run) .post bound
 
-  exits : (c′ : Controller) (m : Device) (zs : List Place) (z : Answer) → Made ais (a .c) c′ (a .d) m (a .t) zs z → length zs ≡ length (a .t) → Is An.the-row z (An′.lowered z ∷ []) → ent 𝓤 (⋆ 𝓤 H A (Closed a zs m c′ [])) (Post (An′.lowered z))
+  exits : (c′ : Controller) (m : Device) (zs : List Place) (z : Answer) → Made paperLimits ais (a .c) c′ (a .d) m (a .t) zs z → length zs ≡ length (a .t) → Is An.the-row z (An′.lowered z ∷ []) → ent 𝓤 (⋆ 𝓤 H A (Closed a zs m c′ [])) (Post (An′.lowered z))
   exits c′ m zs z made e g =
       qed W (Closed a zs m c′ []) ∵ suffices ! _ (ends-at 𝓤 H A f.ended stayed (f.clauses 𝓤 H A mem′ run) W bound (An′.lowered z) z (c′, (m, (zs, (tt, tt)))) (tt, (tt, (e, (tt, tt))))) $ says ! made $
       nothing ! $ nothing ! $ fjoin ! $ nothing ! $ move ! (2 ∷ 3 ∷ 4 ∷ 5 ∷ 6 ∷ 7 ∷ 8 ∷ 9 ∷ 10 ∷ []) $ gives-all ! a zs m c′ e room $ frame ! $ frame ! $ owned ! An.the-row (Is An.the-row) (LL.makes An.the-type An′.the-plain 𝓤 H A) z _ g $ done !
@@ -112,7 +114,7 @@ module _ {M : Type 1} (𝓤 : URA M) (H : Heap 𝓤) (A : Atoms 𝓤) (W : Given
       alloc1 ! (λ l₀. alloc1 ! (λ l₁. alloc1 ! (λ l₂. alloc1 ! (λ l₃. alloc1 ! (λ l₄. alloc1 ! (λ l₅. alloc1 ! (λ l₆. alloc1 ! (λ l₇. alloc1 ! (λ l₈. alloc1 ! (λ l₉. alloc1 ! (λ l₁₀. alloc1 ! (λ l₁₁. alloc1 ! (λ l₁₂. alloc1 ! (λ l₁₃. alloc1 ! (λ l₁₄. alloc1 ! (λ l₁₅. alloc0 ! $ params1 ! $
       pass1 ! (init ! 28 refl (tt, tt)) $ pass1 ! (init ! 26 refl (tt, tt)) $ pass1 ! (init ! 24 refl (tt, (tt, (record { fits = room .0 }, tt)))) $ pass1 ! (init ! 22 refl (tt, tt)) $ pass0 ! $
       keep ! (32 ∷ 33 ∷ 34 ∷ 35 ∷ 36 ∷ 37 ∷ 30 ∷ 31 ∷ 28 ∷ 29 ∷ 26 ∷ 27 ∷ 24 ∷ 25 ∷ 22 ∷ 23 ∷ 20 ∷ 21 ∷ 18 ∷ 19 ∷ 16 ∷ 17 ∷ 14 ∷ 15 ∷ 12 ∷ 13 ∷ 10 ∷ 11 ∷ 8 ∷ 9 ∷ 6 ∷ 7 ∷ 4 ∷ 5 ∷ 2 ∷ 3 ∷ 0 ∷ 1 ∷ []) $
-      starts 𝓤 H A W mem′ run a room tyBool (vbool ais) Post C′ Λ fm known [] l₀ l₁ l₂ l₃ l₄ l₅ l₆ l₇ l₈ l₉ l₁₀ l₁₁ l₁₂ l₁₃ l₁₄ l₁₅ (λ w g. exits (a .c) (a .d) (a .t) (refused 14) (wrong-makes (a .c) (a .d) (a .t) [] w ais) refl g) mir.t-8 (calls-it C′ Λ fm known known-start l₀ l₁ l₂ l₃ l₄ l₅ l₆ l₇ l₈ l₉ l₁₀ l₁₁ l₁₂ l₁₃ l₁₄ l₁₅)))))))))))))))))
+      starts 𝓤 H A W mem′ run a room tyBool (vbool ais) Post C′ Λ fm known [] l₀ l₁ l₂ l₃ l₄ l₅ l₆ l₇ l₈ l₉ l₁₀ l₁₁ l₁₂ l₁₃ l₁₄ l₁₅ (λ w g. exits (a .c) (a .d) (a .t) (refused 14) (wrong-makes paperLimits ais (a .c) (a .d) (a .t) (λ e. w (e ∙ paper-sized .places))) refl g) mir.t-8 (λ right. calls-it C′ Λ fm known known-start l₀ l₁ l₂ l₃ l₄ l₅ l₆ l₇ l₈ l₉ l₁₀ l₁₁ l₁₂ l₁₃ l₁₄ l₁₅ (right ∙ sym (paper-sized .places)))))))))))))))))))
 
 module _ {M : Type 1} (𝓤 : URA M) (H : Heap 𝓤) (A : Atoms 𝓤) (W : Given 𝓤 H A) (mem′ : Memory → SProp 𝓤) (run : Routine → Fun 𝓤) where
   walks : (C′ : Calls 𝓤 H) (Λ : Loops 𝓤 H) → FmC 𝓤 H (W .laws) C′ → Known 𝓤 H A mem′ run C′ → Triple 𝓤 (C′ start-def.name) (Start 𝓤 H A mem′ run) → Walks 𝓤 H A f.ended stayed (WpFn 𝓤 H C′ Λ code.function) (f.clauses 𝓤 H A mem′ run)

@@ -5,8 +5,11 @@ use lib.Dec.{eqb}
 use borrow.Author.Tests.{eqb-true, eqb-false}
 use denote.Struct.Laws as LL
 use denote.Signature.{shrSliceOf}
-use Rattle.rules.specs.State.{paperLimits}
+use Rattle.controller.specs.Limits.{limitsOf}
+use Rattle.controller.proofs.Limits.{right-length, wrong-length}
+use Rattle.rules.specs.Machine.{playList}
 use Rattle.answers.specs.declared.Answer.{Answer}
+use Rattle.answers.specs.Answers.{saw}
 use Rattle.answers.proofs.Answer as An
 use Rattle.answers.proofs.Answer.Laws as An′
 use Rattle.adapters.specs.declared.Device.{Device}
@@ -18,12 +21,12 @@ use Rattle.table.proofs.Record.{StoreDevice}
 use Rattle.table.proofs.Calls.{Restore}
 use Rattle.controller.specs.declared.Controller.{Controller}
 use Rattle.controller.specs.declared.Started.{Started}
-use Rattle.flic.specs.Surface.{Valid, Played}
+use Rattle.flic.specs.Surface.{Valid, Requested}
 use Rattle.controller.specs.Inner.{Replayed}
 use Rattle.controller.proofs.Controller as C
 use Rattle.controller.proofs.Started as St
 use Rattle.controller.proofs.Started.Laws as St′
-use Rattle.flic.proofs.Promises.{same-promises, play-promises, wrong-plays}
+use Rattle.flic.proofs.Promises.{same-promises, play-promises, wrong-promises}
 use Rattle.table.proofs.Locals.{Content, blank, holds, locals, frees-all, swaps, holds-true, holds-false}
 use Rattle.flic.proofs.Opened.{Has}
 use Rattle.flic.proofs.All.{Refs, refs, at-ctl, at-dev, at-tab, table, Owned, Tokens, Open, Closed, closes-all, takes-all, gives-all}
@@ -55,7 +58,7 @@ module _ {M : Type 1} (𝓤 : URA M) (H : Heap 𝓤) (A : Atoms 𝓤) (mem′ : 
   Replay = tripleOf 𝓤 H A replay.signature (replay.spec 𝓤 H A mem′ run)
 
 module _ {M : Type 1} (𝓤 : URA M) (H : Heap 𝓤) (A : Atoms 𝓤) (W : Given 𝓤 H A) (mem′ : Memory → SProp 𝓤) (run : Routine → Fun 𝓤) (a : Refs) (κp : Lft) (qp : Share) (bp op : ℕ) (γp : GName) (ps : List ℕ)
-    (room : Room P.the-row (length (a .t))) (room-p : Room u8 (length ps)) (valid : length (a .t) ≡ paperLimits .places → Valid (a .c) (a .d) (a .t)) where
+    (room : Room P.the-row (length (a .t))) (room-p : Room u8 (length ps)) (valid : length (a .t) ≡ limitsOf (a .c) .places → Valid (a .c) (a .d) (a .t)) where
   abbrev sp : Val
   sp = sliceVal (bp, op) (length ps)
 
@@ -74,14 +77,14 @@ module _ {M : Type 1} (𝓤 : URA M) (H : Heap 𝓤) (A : Atoms 𝓤) (W : Given
   abbrev OwnP : Fml
   OwnP = ShrSlice (named 3) κp u8 .own (at-array bp op γp ps) (sp ∷ [])
 
-  exits : (c′ : Controller) (m : Device) (zs : List Place) (z : Answer) → Played (a .c) c′ (a .d) m (a .t) zs ps z → length zs ≡ length (a .t) → Is An.the-row z (An′.lowered z ∷ []) → ent 𝓤 (⋆ 𝓤 H A (‵ (flft κp qp) ∷ Closed a zs m c′ [])) (Post (An′.lowered z))
+  exits : (c′ : Controller) (m : Device) (zs : List Place) (z : Answer) → Requested playList (a .c) c′ (a .d) m (a .t) zs ps (saw z ps) → length zs ≡ length (a .t) → Is An.the-row z (An′.lowered z ∷ []) → ent 𝓤 (⋆ 𝓤 H A (‵ (flft κp qp) ∷ Closed a zs m c′ [])) (Post (An′.lowered z))
   exits c′ m zs z played e g =
       qed W (‵ (flft κp qp) ∷ Closed a zs m c′ []) ∵ suffices ! _ (ends-at 𝓤 H A f.ended stayed (f.clauses 𝓤 H A mem′ run) W bound (An′.lowered z) z (c′, (m, (zs, (tt, tt)))) (tt, (tt, (e, (tt, tt))))) $ says ! played $
       nothing ! $ nothing ! $ fjoin ! $ nothing ! $ move ! (2 ∷ 0 ∷ []) $ join ! $ move ! (2 ∷ 3 ∷ 4 ∷ 5 ∷ 6 ∷ 7 ∷ 8 ∷ 9 ∷ 10 ∷ []) $ gives-all ! a zs m c′ e room $ frame ! $ frame ! $ owned ! An.the-row (Is An.the-row) (LL.makes An.the-type An′.the-plain 𝓤 H A) z _ g $ done !
 
   -- a wrong table: the list is still held
-  wrong-exits : (length (a .t) ≡ paperLimits .places → ⊥) → Is An.the-row (refused 14) (An′.lowered (refused 14) ∷ []) → ent 𝓤 (⋆ 𝓤 H A (‵ (flft κp qp) ∷ ‵ OwnP ∷ Closed a (a .t) (a .d) (a .c) [])) (Post (An′.lowered (refused 14)))
-  wrong-exits w g = qed W (‵ (flft κp qp) ∷ ‵ OwnP ∷ Closed a (a .t) (a .d) (a .c) []) ∵ move ! (1 ∷ []) $ drop ! $ by ! (exits (a .c) (a .d) (a .t) (refused 14) (wrong-plays (a .c) (a .d) (a .t) ps w) refl g)
+  wrong-exits : (length (a .t) ≡ limitsOf (a .c) .places → ⊥) → Is An.the-row (refused 14) (An′.lowered (refused 14) ∷ []) → ent 𝓤 (⋆ 𝓤 H A (‵ (flft κp qp) ∷ ‵ OwnP ∷ Closed a (a .t) (a .d) (a .c) [])) (Post (An′.lowered (refused 14)))
+  wrong-exits w g = qed W (‵ (flft κp qp) ∷ ‵ OwnP ∷ Closed a (a .t) (a .d) (a .c) []) ∵ move ! (1 ∷ []) $ drop ! $ by ! (exits (a .c) (a .d) (a .t) (refused 14) (wrong-promises (a .c) (a .d) (a .t) ps w playList tt) refl g)
 
   -- ---- the call of `replay`: after the arrays it takes the capability and the list
   abbrev T : Item 𝓤
@@ -109,7 +112,7 @@ module _ {M : Type 1} (𝓤 : URA M) (H : Heap 𝓤) (A : Atoms 𝓤) (W : Given
     abbrev Then : Kit.Post 𝓤 H
     Then = anyQ (afterSeq 𝓤 H (Wp 𝓤 H C′ Λ E mir.t-12 (atReturn 𝓤 H E Post)) (atReturn 𝓤 H E Post))
 
-    module _ (right : length (a .t) ≡ paperLimits .places) (gd : Is D.the-row (a .d) (D′.lowered (a .d) ∷ [])) where
+    module _ (right : length (a .t) ≡ limitsOf (a .c) .places) (gd : Is D.the-row (a .d) (D′.lowered (a .d) ∷ [])) where
       -- once the list is played, or refused by its form
       module _ (r : Started) (c′ : Controller) (gc′ : Has c′) (gr : Is St.the-row r (St′.lowered r ∷ [])) (same : c′ .ais ≡ a .c .ais) (φ : Replayed (a .c) c′ ps r) where
         -- nothing has changed
@@ -153,13 +156,13 @@ module _ {M : Type 1} (𝓤 : URA M) (H : Heap 𝓤) (A : Atoms 𝓤) (W : Given
       pass1 ! (init ! 28 refl (tt, tt)) $ pass1 ! (init ! 26 refl (tt, tt)) $ pass1 ! (init ! 24 refl (tt, (tt, (record { fits = room .0 }, tt)))) $ pass1 ! (init ! 22 refl (tt, (tt, (record { fits = room-p .0 }, tt)))) $ pass0 ! $
       keep ! (32 ∷ 33 ∷ 34 ∷ 35 ∷ 36 ∷ 37 ∷ 30 ∷ 31 ∷ 28 ∷ 29 ∷ 26 ∷ 27 ∷ 24 ∷ 25 ∷ 22 ∷ 23 ∷ 20 ∷ 21 ∷ 18 ∷ 19 ∷ 16 ∷ 17 ∷ 14 ∷ 15 ∷ 12 ∷ 13 ∷ 10 ∷ 11 ∷ 8 ∷ 9 ∷ 6 ∷ 7 ∷ 4 ∷ 5 ∷ 2 ∷ 3 ∷ 0 ∷ 1 ∷ 38 ∷ 39 ∷ []) $
       starts 𝓤 H A W mem′ run a room (sliceTy (tyRef (named 3) imm (tyInt w8))) sp Post C′ Λ fm known (‵ (flft κp qp) ∷ ‵ OwnP ∷ []) l₀ l₁ l₂ l₃ l₄ l₅ l₆ l₇ l₈ l₉ l₁₀ l₁₁ l₁₂ l₁₃ l₁₄ l₁₅
-      wrong-exits mir.t-8 (λ right gc gd. calls-it C′ Λ fm known known-replay l₀ l₁ l₂ l₃ l₄ l₅ l₆ l₇ l₈ l₉ l₁₀ l₁₁ l₁₂ l₁₃ l₁₄ l₁₅ right gd gc)))))))))))))))))
+      (λ w g. wrong-exits (wrong-length (a .c) _ w) g) mir.t-8 (λ right gc gd. calls-it C′ Λ fm known known-replay l₀ l₁ l₂ l₃ l₄ l₅ l₆ l₇ l₈ l₉ l₁₀ l₁₁ l₁₂ l₁₃ l₁₄ l₁₅ (right-length (a .c) _ right) gd gc)))))))))))))))))
 
 module _ {M : Type 1} (𝓤 : URA M) (H : Heap 𝓤) (A : Atoms 𝓤) (W : Given 𝓤 H A) (mem′ : Memory → SProp 𝓤) (run : Routine → Fun 𝓤) where
   walks : (C′ : Calls 𝓤 H) (Λ : Loops 𝓤 H) → FmC 𝓤 H (W .laws) C′ → Known 𝓤 H A mem′ run C′ → Triple 𝓤 (C′ replay-def.name) (Replay 𝓤 H A mem′ run) → Walks 𝓤 H A f.ended stayed (WpFn 𝓤 H C′ Λ code.function) (f.clauses 𝓤 H A mem′ run)
   walks C′ Λ fm known k = walked 𝓤 H A f.ended stayed (f.clauses 𝓤 H A mem′ run) (WpFn 𝓤 H C′ Λ code.function) (λ κs. (ptr-vals, (ptr-vals, (slice-vals, (slice-vals, tt)))))
       (λ κs. (mut-tells (named 0) (κs .0) C.the-row, (mut-tells (named 1) (κs .1 .0) D.the-row, (mut-slice-tells (named 2) (κs .1 .1 .0) P.the-row, (shr-slice-tells (named 3) (κs .1 .1 .1 .0) u8, tt)))))
-      (λ κs qs bounds a _ are. needs 𝓤 (length (a .1 .1 .0 .now) ≡ paperLimits .places → Valid (a .0 .now) (a .1 .0 .now) (a .1 .1 .0 .now)) _ (λ valid. walk 𝓤 H A W mem′ run (refs (κs .0) (κs .1 .0) (κs .1 .1 .0) (qs .0) (qs .1 .0) (qs .1 .1 .0) (a .0) (a .1 .0) (a .1 .1 .0)) (κs .1 .1 .1 .0) (qs .1 .1 .1 .0)
+      (λ κs qs bounds a _ are. needs 𝓤 (length (a .1 .1 .0 .now) ≡ limitsOf (a .0 .now) .places → Valid (a .0 .now) (a .1 .0 .now) (a .1 .1 .0 .now)) _ (λ valid. walk 𝓤 H A W mem′ run (refs (κs .0) (κs .1 .0) (κs .1 .1 .0) (qs .0) (qs .1 .0) (qs .1 .1 .0) (a .0) (a .1 .0) (a .1 .1 .0)) (κs .1 .1 .1 .0) (qs .1 .1 .1 .0)
       (a .1 .1 .1 .0 .ptr .0) (a .1 .1 .1 .0 .ptr .1) (a .1 .1 .1 .0 .name) (a .1 .1 .1 .0 .now) (are .1 .1 .0 .0 .1) (are .1 .1 .1 .0 .0 .1) valid C′ Λ fm known k))
 
   meets : (𝓣 : Tables 𝓤 H) → Known 𝓤 H A mem′ run (𝓣 .C) → Triple 𝓤 (𝓣 .C replay-def.name) (Replay 𝓤 H A mem′ run) → Meets 𝓤 H A f.signature (WpFn 𝓤 H (𝓣 .C) (𝓣 .Λ) code.function) (f.spec 𝓤 H A mem′ run)

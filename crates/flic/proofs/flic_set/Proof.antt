@@ -11,7 +11,9 @@ use borrow.Author.Tests.{eqb-true, eqb-false}
 use package.mir.Syntax.{return}
 use denote.Struct.Laws as LL
 use denote.Signature.{shrSliceOf}
-use Rattle.rules.specs.State.{paperLimits}
+use Rattle.controller.specs.Limits.{limitsOf}
+use Rattle.controller.proofs.Limits.{right-length, wrong-length}
+use Rattle.image.specs.Image.{imageSize}
 use Rattle.rules.specs.Machine.{setAttr}
 use Rattle.rules.proofs.Checks.{chosen, passed}
 use Rattle.rules.proofs.Lists.{all-get}
@@ -19,6 +21,7 @@ use Rattle.words.specs.declared.AdapterId.{AdapterId}
 use Rattle.words.proofs.AdapterId as I
 use Rattle.words.proofs.AdapterId.Laws as I′
 use Rattle.answers.specs.declared.Answer.{Answer}
+use Rattle.answers.specs.Answers.{saw}
 use Rattle.answers.proofs.Answer as An
 use Rattle.answers.proofs.Answer.Laws as An′
 use Rattle.answers.proofs.refuse.Symbol as refuse-def
@@ -33,7 +36,7 @@ use Rattle.adapters.proofs.Place.Laws as P′
 use Rattle.values.specs.States.{onPlace}
 use Rattle.values.proofs.on_place.Symbol as on-place-def
 use Rattle.values.proofs.on_place.Met as on-place-thm
-use Rattle.table.proofs.Count.{after, afters, taken}
+use Rattle.table.proofs.Count.{afters, taken}
 use Rattle.table.proofs.Places.{FitsId, fit-id, typed-id, makes-id}
 use Rattle.table.proofs.Locals.{Content, blank, holds, since, locals, frees-front, swaps, holds-true, holds-false, not-not}
 use Rattle.lent.proofs.Answered.{FitsAnswer, refused, Refuse, refuses}
@@ -103,7 +106,7 @@ module _ {M : Type 1} (𝓤 : URA M) (H : Heap 𝓤) (A : Atoms 𝓤) (mem′ : 
 
 module _ {M : Type 1} (𝓤 : URA M) (H : Heap 𝓤) (A : Atoms 𝓤) (W : Given 𝓤 H A) (mem′ : Memory → SProp 𝓤) (run : Routine → Fun 𝓤)
     (a : Refs) (κp : Lft) (qp : Share) (bp op : ℕ) (γp : GName) (group attr : ℕ) (ps : List ℕ)
-    (room : Room P.the-row (length (a .t))) (group-fits : group < 2 ^ 32) (attr-fits : attr < 2 ^ 64) (room-p : Room u8 (length ps)) (valid : length (a .t) ≡ paperLimits .places → Valid (a .c) (a .d) (a .t)) where
+    (room : Room P.the-row (length (a .t))) (group-fits : group < 2 ^ 32) (attr-fits : attr < 2 ^ 64) (room-p : Room u8 (length ps)) (valid : length (a .t) ≡ limitsOf (a .c) .places → Valid (a .c) (a .d) (a .t)) where
   abbrev sp : Val
   sp = sliceVal (bp, op) (length ps)
 
@@ -122,7 +125,7 @@ module _ {M : Type 1} (𝓤 : URA M) (H : Heap 𝓤) (A : Atoms 𝓤) (W : Given
   abbrev OwnP : Fml
   OwnP = ShrSlice (named 3) κp u8 .own (at-array bp op γp ps) (sp ∷ [])
 
-  exits : (c′ : Controller) (m : Device) (zs : List Place) (z : Answer) → length zs ≡ length (a .t) → Requested (setAttr group attr) (a .c) c′ (a .d) m (a .t) zs ps ps z → Is An.the-row z (An′.lowered z ∷ [])
+  exits : (c′ : Controller) (m : Device) (zs : List Place) (z : Answer) → length zs ≡ length (a .t) → Requested (setAttr group attr) (a .c) c′ (a .d) m (a .t) zs ps (saw z ps) → Is An.the-row z (An′.lowered z ∷ [])
       → ent 𝓤 (⋆ 𝓤 H A (Closed a zs m c′ (‵ (flft κp qp) ∷ []))) (Post (An′.lowered z))
   exits c′ m zs z e requested g =
       qed W (Closed a zs m c′ (‵ (flft κp qp) ∷ [])) ∵ suffices ! _ (ends-at 𝓤 H A f.ended stayed (f.clauses 𝓤 H A mem′ run) W bound (An′.lowered z) z (c′, (m, (zs, (tt, (tt, (tt, tt)))))) (tt, (tt, (e, (tt, (tt, (tt, tt))))))) $ says ! requested $
@@ -145,7 +148,7 @@ module _ {M : Type 1} (𝓤 : URA M) (H : Heap 𝓤) (A : Atoms 𝓤) (W : Given
     ys = a .t
 
     abbrev wrong : Bool
-    wrong = not (eqb (length ys) 64)
+    wrong = not (eqb (length ys) imageSize)
 
     -- what the locals after the result hold: what the injection's locals hold, the two flags, how far each class's operands are taken, and the last locals of three classes
     abbrev held : (c₇ c₈ c₉ c₁₀ : Content) (flag : Bool) (c₁₃ : Content) (records inject : ℕ) (c₂₅ c₂₆ c₂₇ c₂₈ : Content) (place : ℕ) (c₃₁ : Content) → List Content
@@ -165,7 +168,7 @@ module _ {M : Type 1} (𝓤 : URA M) (H : Heap 𝓤) (A : Atoms 𝓤) (W : Given
 
     -- the answer is the result: all is closed, and the function returns, in the midst of q
     ends : (q : Kit.Post 𝓤 H) → post 𝓤 H q returnsᴼ ≡ atReturn 𝓤 H E Post returnsᴼ → (c′ : Controller) (m : Device) (zs : List Place) (z : Answer) → length zs ≡ length ys → Has c′ → Is D.the-row m (D′.lowered m ∷ []) → FitsAnswer z
-        → Requested (setAttr group attr) c c′ d m ys zs ps ps z → (rest : List Content) → Sq W (At zs m c′ (holds (An′.lowered z) ∷ rest)) (runs C′ Λ E return q)
+        → Requested (setAttr group attr) c c′ d m ys zs ps (saw z ps) → (rest : List Content) → Sq W (At zs m c′ (holds (An′.lowered z) ∷ rest)) (runs C′ Λ E return q)
     ends q h c′ m zs z len gc′ gm gz requested rest =
         closes-all ! tt a zs m c′ len gm gc′ $ move ! (10 ∷ []) $ drop ! $ returns-within ! Post h (look ! 10 refl) $
         swaps ! (Closed a zs m c′ (‵ (flft κp qp) ∷ [])) (locals E (holds (An′.lowered z) ∷ rest) []) $ frees-front ! E (holds (An′.lowered z) ∷ rest) $ by ! (exits c′ m zs z len requested gz)
@@ -187,13 +190,13 @@ module _ {M : Type 1} (𝓤 : URA M) (H : Heap 𝓤) (A : Atoms 𝓤) (W : Given
     abbrev started : Content → List Content
     started v₀ = v₀ ∷ held blank blank blank blank wrong blank 0 0 blank blank blank blank 0 blank
 
-    refuses-it : eqb (length ys) 64 ≡ false → Sq W (Passed a (‵ (flft κp qp) ∷ ‵ OwnP ∷ locals E (started blank) [])) (runs C′ Λ E (taken mir.s-3) Then)
+    refuses-it : eqb (length ys) imageSize ≡ false → Sq W (Passed a (‵ (flft κp qp) ∷ ‵ OwnP ∷ locals E (started blank) [])) (runs C′ Λ E (taken mir.s-3) Then)
     refuses-it e =
         refuses ! mem′ run fm (known .refuse) 14 (omega arith) (λ i. (and-then ! (lit ! tt) (no-more !))) (λ g.
         land ! (from ! (stop !)) (init ! 8 refl (LL.lawful An.the-type An′.the-laws 𝓤 H A W .typed (refused 14) _ g .0)) $
-        opens-all ! tt a (λ gc gd. ends Then refl c d ys (refused 14) refl gc gd g (wrong-promises c d ys ps (eqb-false (length ys) 64 e) (setAttr group attr) tt) (held blank blank blank blank wrong blank 0 0 blank blank blank blank 0 blank)))
+        opens-all ! tt a (λ gc gd. ends Then refl c d ys (refused 14) refl gc gd g (wrong-promises c d ys ps (wrong-length c _ (eqb-false (length ys) imageSize e)) (setAttr group attr) tt) (held blank blank blank blank wrong blank 0 0 blank blank blank blank 0 blank)))
 
-    module _ (right : length ys ≡ paperLimits .places) (gc : Has c) (gd : Is D.the-row d (D′.lowered d ∷ [])) where
+    module _ (right : length ys ≡ limitsOf c .places) (gc : Has c) (gd : Is D.the-row d (D′.lowered d ∷ [])) where
       -- ---- a request about pending records alone: after the arrays `answer_records` takes two values and the payload
       module _ (yes : onRecords group ≡ true) where
         abbrev recorded : Content → ℕ → List Content
@@ -269,9 +272,9 @@ module _ {M : Type 1} (𝓤 : URA M) (H : Heap 𝓤) (A : Atoms 𝓤) (W : Given
         goes₂ n = qed W (Toks n (‵ ftrue) ∷ ‵ (Lent mutably n c (a .bc) (a .oc) O₂) ∷ []) ∵ says ! (valid right .ready, canonical) $ done !
 
         module _ (gp : Is P.the-row place (P′.lowered place ∷ [])) (r : Answer) (gr : FitsAnswer r) (c′ : Controller) (gc′ : Has c′) (same : c′ .ais ≡ c .ais) (φ : Injected attr c c′ d place r) where
-          promised : (m : Device) → notedIn (c .ais) d place r ≡ m → Requested (setAttr group attr) c c′ d m ys ys ps ps r
-          promised m e = subst (λ (x : Device). Requested (setAttr group attr) c c′ d x ys ys ps ps r) e
-              (subst (λ (g : ℕ). Requested (setAttr g attr) c c′ d (notedIn (c .ais) d place r) ys ys ps ps r) (sym (eqb-true group 10 is-inject)) (inject-promises attr c c′ d ys ps r right (valid right) same φ))
+          promised : (m : Device) → notedIn (c .ais) d place r ≡ m → Requested (setAttr group attr) c c′ d m ys ys ps (saw r ps)
+          promised m e = subst (λ (x : Device). Requested (setAttr group attr) c c′ d x ys ys ps (saw r ps)) e
+              (subst (λ (g : ℕ). Requested (setAttr g attr) c c′ d (notedIn (c .ais) d place r) ys ys ps (saw r ps)) (sym (eqb-true group 10 is-inject)) (inject-promises attr c c′ d ys ps r right (valid right) same φ))
 
           abbrev answered : Content → Bool → (c₂₆ c₂₇ : Content) → List Content
           answered v₀ flag c₂₆ c₂₇ = injected v₀ (holds (P′.lowered place)) (holds (D′.lowered d)) (holds (An′.lowered r)) 7 (holds (vbool flag)) c₂₆ c₂₇
@@ -378,8 +381,8 @@ module _ {M : Type 1} (𝓤 : URA M) (H : Heap 𝓤) (A : Atoms 𝓤) (W : Given
     starts-it =
         assigns ! (of-opd ! (load ! (from ! (fld ! refl (stop !))) (look-in ! 14 (sub ! 1 refl (whole !))))) (from ! (stop !)) (init ! 30 refl (tt, record { fits = room .0 })) $
         assigns ! (bin ! (load ! (from ! (stop !)) (look ! 30 refl)) (lit ! tt) tt) (from ! (stop !)) (init ! 32 refl (tt, tt)) $ first ! $ branches ! (load ! (from ! (stop !)) (look ! 32 refl))
-        (λ t. refuses-it (holds-false (eqb (length ys) 64) t))
-        (λ t. skips ! $ exec ! C′ Λ E mir.t-4 (atRet E Post) $ opens-all ! tt a (λ gc gd. asks-class (eqb-true (length ys) 64 (not-not (eqb (length ys) 64) t)) gc gd))
+        (λ t. refuses-it (holds-false (eqb (length ys) imageSize) t))
+        (λ t. skips ! $ exec ! C′ Λ E mir.t-4 (atRet E Post) $ opens-all ! tt a (λ gc gd. asks-class (right-length c _ (eqb-true (length ys) imageSize (not-not (eqb (length ys) imageSize) t))) gc gd))
 
   walk : (C′ : Calls 𝓤 H) (Λ : Loops 𝓤 H) (fm : FmC 𝓤 H (W .laws) C′) → Known 𝓤 H A mem′ run C′ → ent 𝓤 (onEntry 𝓤 H A f.signature (bound .0 .0) (bound .0 .1) x at) (WpFn 𝓤 H C′ Λ code.function (vptr (a .bc) (a .oc) ∷ vptr (a .bd) (a .od) ∷ table a ∷ vint w32 group ∷ vint w64 attr ∷ sp ∷ []) Post)
   walk C′ Λ fm known =
@@ -396,7 +399,7 @@ module _ {M : Type 1} (𝓤 : URA M) (H : Heap 𝓤) (A : Atoms 𝓤) (W : Given
   walks : (C′ : Calls 𝓤 H) (Λ : Loops 𝓤 H) → FmC 𝓤 H (W .laws) C′ → Known 𝓤 H A mem′ run C′ → Walks 𝓤 H A f.ended stayed (WpFn 𝓤 H C′ Λ code.function) (f.clauses 𝓤 H A mem′ run)
   walks C′ Λ fm known = walked 𝓤 H A f.ended stayed (f.clauses 𝓤 H A mem′ run) (WpFn 𝓤 H C′ Λ code.function) (λ κs. (ptr-vals, (ptr-vals, (slice-vals, (uint-vals w32, (uint-vals w64, (slice-vals, tt)))))))
       (λ κs. (mut-tells (named 0) (κs .0) C.the-row, (mut-tells (named 1) (κs .1 .0) D.the-row, (mut-slice-tells (named 2) (κs .1 .1 .0) P.the-row, (uint-tells w32, (uint-tells w64, (shr-slice-tells (named 3) (κs .1 .1 .1 .0) u8, tt)))))))
-      (λ κs qs bounds a _ are. needs 𝓤 (length (a .1 .1 .0 .now) ≡ paperLimits .places → Valid (a .0 .now) (a .1 .0 .now) (a .1 .1 .0 .now)) _ (λ valid. walk 𝓤 H A W mem′ run (refs (κs .0) (κs .1 .0) (κs .1 .1 .0) (qs .0) (qs .1 .0) (qs .1 .1 .0) (a .0) (a .1 .0) (a .1 .1 .0)) (κs .1 .1 .1 .0) (qs .1 .1 .1 .0)
+      (λ κs qs bounds a _ are. needs 𝓤 (length (a .1 .1 .0 .now) ≡ limitsOf (a .0 .now) .places → Valid (a .0 .now) (a .1 .0 .now) (a .1 .1 .0 .now)) _ (λ valid. walk 𝓤 H A W mem′ run (refs (κs .0) (κs .1 .0) (κs .1 .1 .0) (qs .0) (qs .1 .0) (qs .1 .1 .0) (a .0) (a .1 .0) (a .1 .1 .0)) (κs .1 .1 .1 .0) (qs .1 .1 .1 .0)
       (a .1 .1 .1 .1 .1 .0 .ptr .0) (a .1 .1 .1 .1 .1 .0 .ptr .1) (a .1 .1 .1 .1 .1 .0 .name) (a .1 .1 .1 .0) (a .1 .1 .1 .1 .0) (a .1 .1 .1 .1 .1 .0 .now) (are .1 .1 .0 .0 .1) (are .1 .1 .1 .0 .1) (are .1 .1 .1 .1 .0 .1) (are .1 .1 .1 .1 .1 .0 .0 .1) valid C′ Λ fm known))
 
   meets : (𝓣 : Tables 𝓤 H) → Known 𝓤 H A mem′ run (𝓣 .C) → Meets 𝓤 H A f.signature (WpFn 𝓤 H (𝓣 .C) (𝓣 .Λ) code.function) (f.spec 𝓤 H A mem′ run)

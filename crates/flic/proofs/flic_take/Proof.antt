@@ -2,6 +2,7 @@
 use Rattle.flic.proofs.Walk.{_≡_, refl, ℕ, _<_, _^_, Bool, [], _∷_, List, length, URA, named, erased, w8, w64, tyInt, tyBool, tyRef, mut, Val, vint, vbool, vptr, SProp, ent, id⊢, feq, GName, Lft, Share, Fml, ftrue, fsep, flft, fobs, fbor, Memory, Routine, Heap, Env, Calls, Loops, WpFn, Tables, Atoms, Fun, givenOf, tables, tablesOf, Given, Item, Sq, runs, atRet, ‵, ⋆, _⊛_, _$_, _∵_, !, qed, by, move, keep, drop, split, join, fsplit, fsplit3, fjoin, fjoin3, feqL, feqI, suffices, frame, done, look, init, stop, hop, fld, from, load, addr, and-then, no-more, assigns, land, returns, enter, alloc1, alloc0, params1, pass1, pass0, agg, whole, sub, look-in, Body, FmC, fmOf, WpFn-mono, owns, Is, mem, pointee, bool-vals, bool-tells, bool-makes, uint-vals, uint-tells, uint-makes, u8, RefT, MutRef, ptr-vals, mut-tells, finally, sliceVal, sliceTy, MutSlice, Room, slice-vals, mut-slice-tells, plain, owned, nothing, onEntry, Meets, tripleOf, Contract, Triple, entered, cited, says, Stays, stay-ref, walkOf, goes-ref, Walks, ends-at, walked, walk-meets, yes, _+_, tyArray, bool, needs, stay-dropped, goes-dropped, gave-slice, goes-gave-slice}
 use denote.Struct.Laws as LL
 use Rattle.answers.specs.declared.Answer.{Answer}
+use Rattle.answers.specs.Answers.{saw}
 use Rattle.answers.proofs.Answer as An
 use Rattle.answers.proofs.Answer.Laws as An′
 use Rattle.controller.specs.declared.Controller.{Controller}
@@ -56,7 +57,7 @@ module _ {M : Type 1} (𝓤 : URA M) (H : Heap 𝓤) (A : Atoms 𝓤) (W : Given
   abbrev Rest : Controller → List ℕ → List (Item 𝓤)
   Rest c′ ls = ‵ (fobs γc (C.the-row .coded .code c′)) ∷ ‵ (fbor κc (Body (mem C.the-row) bc oc γc)) ∷ ‵ (flft κc qc) ∷ ‵ (flft κo qo) ∷ ‵ (finally u8 γo ls) ∷ []
 
-  exits : (c′ : Controller) (ls : List ℕ) (z : Answer) (v : Val) → Taken subclasses external mcheck c c′ bytes ls z → length ls ≡ length bytes → Is An.the-row z (v ∷ []) → ent 𝓤 (⋆ 𝓤 H A (Rest c′ ls)) (Post v)
+  exits : (c′ : Controller) (ls : List ℕ) (z : Answer) (v : Val) → Taken subclasses external mcheck c c′ bytes (saw z ls) → length ls ≡ length bytes → Is An.the-row z (v ∷ []) → ent 𝓤 (⋆ 𝓤 H A (Rest c′ ls)) (Post v)
   exits c′ ls z v taken e is =
       qed W (Rest c′ ls) ∵ suffices ! _ (ends-at 𝓤 H A f.ended stayed (f.clauses 𝓤 H A mem′ run) W bound v z (c′, (tt, (tt, (tt, (ls, tt))))) (tt, (tt, (tt, (tt, (e, tt)))))) $ says ! taken $
       nothing ! $ move ! (5 ∷ 0 ∷ []) $ fjoin ! $ nothing ! $ fjoin ! $ nothing ! $ fjoin ! $ nothing ! $ fjoin ! $

@@ -1,6 +1,6 @@
 -- `flic_write_list`: a table of a wrong length is refused. Else the device record and the table are passed on and given up; the controller is looked into, and shut at the exit. The
 -- bytes are passed on whole.
-use Rattle.flic.proofs.Walk.{_≡_, refl, Bool, true, false, lit, bin, store, first, skips, branches, exec, returns-within, anyQ, afterSeq, Wp, atReturn, ℕ, [], _∷_, List, length, URA, named, erased, w8, w64, tyInt, tyBool, tyRef, imm, mut, Val, vint, vbool, vptr, SProp, ent, id⊢, feq, GName, Lft, Share, Fml, ftrue, fsep, flft, fobor, Memory, Routine, Heap, Env, Calls, Loops, WpFn, Tables, Atoms, Fun, Given, Item, Sq, runs, atRet, ‵, ⋆, _⊛_, _$_, _∵_, !, qed, by, move, keep, drop, split, join, fsplit, fsplit3, fjoin, feqL, suffices, frame, done, look, init, stop, hop, fld, from, load, addr, of-opd, and-then, no-more, assigns, land, returns, enter, alloc1, alloc0, params1, pass1, pass0, agg, whole, sub, look-in, FmC, fmOf, WpFn-mono, owns, Is, partAt, pointee, bool-makes, u8, RefT, ShrRef, ptr-vals, shr-tells, finally, sliceVal, sliceTy, MutSlice, ShrSlice, Room, slice-vals, mut-slice-tells, shr-slice-tells, plain, owned, nothing, onEntry, Meets, tripleOf, Contract, Triple, entered, cited, says, Stays, walkOf, Walks, ends-at, walked, walk-meets, yes, givenOf, tables, tablesOf, _+_, tyArray, bool, needs, stay-dropped, goes-dropped, gave-slice, goes-gave-slice}
+use Rattle.flic.proofs.Walk.{_≡_, refl, Bool, false, lit, bin, store, first, skips, branches, exec, returns-within, anyQ, afterSeq, Wp, atReturn, ℕ, [], _∷_, List, length, URA, named, erased, w8, w64, tyInt, tyBool, tyRef, imm, mut, Val, vint, vbool, vptr, SProp, ent, id⊢, feq, GName, Lft, Share, Fml, ftrue, fsep, flft, fobor, Memory, Routine, Heap, Env, Calls, Loops, WpFn, Tables, Atoms, Fun, Given, Item, Sq, runs, atRet, ‵, ⋆, _⊛_, _$_, _∵_, !, qed, by, move, keep, drop, split, join, fsplit, fsplit3, fjoin, feqL, suffices, frame, done, look, init, stop, hop, fld, from, load, addr, of-opd, and-then, no-more, assigns, land, returns, enter, alloc1, alloc0, params1, pass1, pass0, agg, whole, sub, look-in, FmC, fmOf, WpFn-mono, owns, Is, partAt, pointee, bool-makes, u8, RefT, ShrRef, ptr-vals, shr-tells, finally, sliceVal, sliceTy, MutSlice, ShrSlice, Room, slice-vals, mut-slice-tells, shr-slice-tells, plain, owned, nothing, onEntry, Meets, tripleOf, Contract, Triple, entered, cited, says, Stays, walkOf, Walks, ends-at, walked, walk-meets, yes, givenOf, tables, tablesOf, _+_, tyArray, bool, needs, stay-dropped, goes-dropped, gave-slice, goes-gave-slice}
 use types.Kit as Kit
 use native.Mathlib.Omega.{arith}
 use lib.Dec.{eqb}
@@ -8,9 +8,11 @@ use mathlib.Core.Bool.{not}
 use borrow.Author.Tests.{eqb-true, eqb-false}
 use denote.Struct.Laws as LL
 use denote.Signature.{shrRefTo, shrSliceOf}
-use Rattle.rules.specs.State.{paperLimits}
+use Rattle.controller.specs.Limits.{limitsOf}
+use Rattle.controller.proofs.Limits.{right-length, wrong-length}
 use Rattle.rules.specs.Machine.{writeList}
 use Rattle.answers.specs.declared.Answer.{Answer}
+use Rattle.answers.specs.Answers.{saw}
 use Rattle.answers.proofs.Answer as An
 use Rattle.answers.proofs.Answer.Laws as An′
 use Rattle.adapters.specs.declared.Device.{Device}
@@ -65,7 +67,7 @@ module _ {M : Type 1} (𝓤 : URA M) (H : Heap 𝓤) (A : Atoms 𝓤) (mem′ : 
     pub write-from : Triple 𝓤 (C′ write-from-def.name) WriteFrom
 
 module _ {M : Type 1} (𝓤 : URA M) (H : Heap 𝓤) (A : Atoms 𝓤) (W : Given 𝓤 H A) (mem′ : Memory → SProp 𝓤) (run : Routine → Fun 𝓤) (a : Refs) (κo : Lft) (qo : Share) (bo oo : ℕ) (γo : GName) (bytes : List ℕ)
-    (room : Room P.the-row (length (a .t))) (room-o : Room u8 (length bytes)) (valid : length (a .t) ≡ paperLimits .places → Valid (a .c) (a .d) (a .t)) where
+    (room : Room P.the-row (length (a .t))) (room-o : Room u8 (length bytes)) (valid : length (a .t) ≡ limitsOf (a .c) .places → Valid (a .c) (a .d) (a .t)) where
   abbrev out : Val
   out = sliceVal (bo, oo) (length bytes)
 
@@ -88,7 +90,7 @@ module _ {M : Type 1} (𝓤 : URA M) (H : Heap 𝓤) (A : Atoms 𝓤) (W : Given
   abbrev Rest : List ℕ → List (Item 𝓤)
   Rest ls = ‵ (flft (a .κc) (a .qc)) ∷ ‵ (flft (a .κd) (a .qd)) ∷ ‵ (flft (a .κt) (a .qt)) ∷ ‵ (flft κo qo) ∷ ‵ (finally u8 γo ls) ∷ []
 
-  exits : (ls : List ℕ) (z : Answer) (v : Val) → Requested writeList (a .c) (a .c) (a .d) (a .d) (a .t) (a .t) bytes ls z → length ls ≡ length bytes → Is An.the-row z (v ∷ []) → ent 𝓤 (⋆ 𝓤 H A (Rest ls)) (Post v)
+  exits : (ls : List ℕ) (z : Answer) (v : Val) → Requested writeList (a .c) (a .c) (a .d) (a .d) (a .t) (a .t) bytes (saw z ls) → length ls ≡ length bytes → Is An.the-row z (v ∷ []) → ent 𝓤 (⋆ 𝓤 H A (Rest ls)) (Post v)
   exits ls z v requested e is =
       qed W (Rest ls) ∵ suffices ! _ (ends-at 𝓤 H A f.ended stayed (f.clauses 𝓤 H A mem′ run) W bound v z (tt, (tt, (tt, (ls, tt)))) (tt, (tt, (tt, (e, tt))))) $ says ! requested $
       nothing ! $ move ! (4 ∷ 0 ∷ []) $ join ! $ move ! (3 ∷ 0 ∷ []) $ join ! $ move ! (2 ∷ 0 ∷ []) $ join ! $ move ! (1 ∷ 0 ∷ []) $ join ! $ frame ! $
@@ -113,7 +115,7 @@ module _ {M : Type 1} (𝓤 : URA M) (H : Heap 𝓤) (A : Atoms 𝓤) (W : Given
   abbrev to-write : Loan → WriteFrom 𝓤 H A mem′ run .Ghost
   to-write n = ((lent-lfts n (κo, tt), lent-shares (qo, tt), tt, lent-args n (a .c) (a .bc) (a .oc) (a .c .ais, (a .d, (snapTo (a .t) imageSize, (at-array bo oo γo bytes, tt)))), lent-vals (a .bc) (a .oc) (vbool (a .c .ais) ∷ [], (D′.lowered (a .d) ∷ [], (low-image (snapTo (a .t) imageSize) ∷ [], (out ∷ [], tt))))), tt)
 
-  goes : length (a .t) ≡ paperLimits .places → (sh : Share) (n : Loan) → ent 𝓤 (⋆ 𝓤 H A (Toks n T ∷ ‵ (Lent (shared sh) n (a .c) (a .bc) (a .oc) O) ∷ [])) (WriteFrom 𝓤 H A mem′ run .pre (to-write n))
+  goes : length (a .t) ≡ limitsOf (a .c) .places → (sh : Share) (n : Loan) → ent 𝓤 (⋆ 𝓤 H A (Toks n T ∷ ‵ (Lent (shared sh) n (a .c) (a .bc) (a .oc) O) ∷ [])) (WriteFrom 𝓤 H A mem′ run .pre (to-write n))
   goes right sh n = qed W (Toks n T ∷ ‵ (Lent (shared sh) n (a .c) (a .bc) (a .oc) O) ∷ []) ∵ says ! (valid right .ready) $ done !
 
   module _ (C′ : Calls 𝓤 H) (Λ : Loops 𝓤 H) (fm : FmC 𝓤 H (W .laws) C′) (known : Known 𝓤 H A mem′ run C′) (l₀ l₁ l₂ l₃ l₄ l₅ l₆ l₇ l₈ l₉ l₁₀ l₁₁ l₁₂ l₁₃ l₁₄ : ℕ) where
@@ -122,7 +124,7 @@ module _ {M : Type 1} (𝓤 : URA M) (H : Heap 𝓤) (A : Atoms 𝓤) (W : Given
 
     -- what the locals hold after n statements, and the result's v₀; the flag is whether the length is wrong, then the capability
     abbrev wrong : Bool
-    wrong = not (eqb (length (a .t)) 64)
+    wrong = not (eqb (length (a .t)) imageSize)
 
     abbrev held : Content → Bool → ℕ → List Content
     held v₀ flag n = v₀ ∷ holds (vptr (a .bc) (a .oc)) ∷ holds (vptr (a .bd) (a .od)) ∷ holds (table a) ∷ holds out ∷ since 4 n (D′.lowered (a .d)) ∷ since 5 n (low-image (snapTo (a .t) imageSize)) ∷ since 1 n (vint w64 (length (a .t))) ∷ since 2 n (vbool flag)
@@ -132,7 +134,7 @@ module _ {M : Type 1} (𝓤 : URA M) (H : Heap 𝓤) (A : Atoms 𝓤) (W : Given
     abbrev Open : Share → List (Item 𝓤) → List (Item 𝓤)
     Open sh Γ = Cells H sh (a .c) (a .bc) (a .oc) (‵ (fobor (a .κc) (a .qc) (partAt C.the-row sh (a .c) (a .bc) (a .oc))) ∷ Γ)
 
-    module _ (right : length (a .t) ≡ paperLimits .places) where
+    module _ (right : length (a .t) ≡ limitsOf (a .c) .places) where
       -- the controller is shut
       ends : (sh : Share) → Has (a .c) → (z : Answer) (v : Val) (y : Y) → Wrote (a .c) (a .d) (snapTo (a .t) imageSize) bytes (last y) z → Is An.the-row z (v ∷ [])
           → Sq W (Open sh (T ∷ ‵ (Leaves y) ∷ ‵ (flft (a .κd) (a .qd)) ∷ ‵ (flft (a .κt) (a .qt)) ∷ locals E (held (holds v) (a .c .ais) 12) [])) (runs C′ Λ E mir.t-14 (atRet E Post))
@@ -167,7 +169,7 @@ module _ {M : Type 1} (𝓤 : URA M) (H : Heap 𝓤) (A : Atoms 𝓤) (W : Given
     Passed Γ = ‵ (flft (a .κd) (a .qd)) ∷ ‵ (ShrRef (named 1) (a .κd) D.the-row .own (x .1 .0) (vptr (a .bd) (a .od) ∷ [])) ∷ ‵ (ShrRef (named 0) (a .κc) C.the-row .own (x .0) (vptr (a .bc) (a .oc) ∷ [])) ∷ ‵ (flft (a .κc) (a .qc)) ∷ ‵ OwnO ∷ ‵ (flft κo qo) ∷ ‵ (flft (a .κt) (a .qt)) ∷ ‵ (ShrSlice (named 2) (a .κt) P.the-row .own (x .1 .1 .0) (table a ∷ [])) ∷ Γ
 
     -- `read_device` and `snapshot` are called, and the controller is looked into
-    reads-it : length (a .t) ≡ paperLimits .places → Sq W (Passed (locals E (held blank wrong 2) [])) (runs C′ Λ E mir.t-4 (atRet E Post))
+    reads-it : length (a .t) ≡ limitsOf (a .c) .places → Sq W (Passed (locals E (held blank wrong 2) [])) (runs C′ Λ E mir.t-4 (atRet E Post))
     reads-it right =
         reads-passed ! mem′ run fm (known .read-device) (a .κd) (a .qd) (a .bd) (a .od) (a .γd) (a .d) (λ _. (and-then ! (load ! (from ! (stop !)) (look ! 11 refl)) (no-more !))) (λ gd. land ! (from ! (stop !)) (init ! 17 refl (LL.lawful D.the-type D′.the-laws 𝓤 H A W .typed (a .d) _ gd .0)) $ move ! (5 ∷ 6 ∷ []) $
         snapshots-shared ! mem′ run fm (known .snapshot) (a .t) (a .bt) (a .ot) (a .κt) (a .qt) (a .γt) (λ _ _. (and-then ! (load ! (from ! (stop !)) (look ! 13 refl)) (no-more !))) (λ gi. land ! (from ! (stop !)) (init ! 19 refl (image-typed 𝓤 H A W (snapTo (a .t) imageSize) gi)) $
@@ -178,21 +180,21 @@ module _ {M : Type 1} (𝓤 : URA M) (H : Heap 𝓤) (A : Atoms 𝓤) (W : Given
     Then = anyQ (afterSeq 𝓤 H (Wp 𝓤 H C′ Λ E mir.t-4 (atReturn 𝓤 H E Post)) (atReturn 𝓤 H E Post))
 
     -- a wrong table: the bytes are given up as they are
-    refuses-it : eqb (length (a .t)) 64 ≡ false → Sq W (Passed (locals E (held blank wrong 2) [])) (runs C′ Λ E (taken mir.s-3) Then)
+    refuses-it : eqb (length (a .t)) imageSize ≡ false → Sq W (Passed (locals E (held blank wrong 2) [])) (runs C′ Λ E (taken mir.s-3) Then)
     refuses-it e =
         refuses ! mem′ run fm (known .refuse) 14 (omega arith) (λ i. (and-then ! (lit ! tt) (no-more !))) (λ g.
         land ! (from ! (stop !)) (init ! 8 refl (LL.lawful An.the-type An′.the-laws 𝓤 H A W .typed (refused 14) _ g .0)) $ move ! (4 ∷ []) $ gives-up ! κo bo oo γo bytes $
         move ! (4 ∷ 1 ∷ 6 ∷ 5 ∷ 0 ∷ []) $ move ! (5 ∷ []) $ drop ! $ move ! (5 ∷ []) $ drop ! $ move ! (5 ∷ []) $ drop ! $ returns-within ! Post refl (look ! 5 refl) $
         swaps ! (Rest bytes) (locals E (held (holds (An′.lowered (refused 14))) wrong 2) []) $ frees-all ! E (held (holds (An′.lowered (refused 14))) wrong 2) $
-        by ! (exits bytes (refused 14) (An′.lowered (refused 14)) (wrong-promises (a .c) (a .d) (a .t) bytes (eqb-false (length (a .t)) 64 e) writeList tt) refl g))
+        by ! (exits bytes (refused 14) (An′.lowered (refused 14)) (wrong-promises (a .c) (a .d) (a .t) bytes (wrong-length (a .c) _ (eqb-false (length (a .t)) imageSize e)) writeList tt) refl g))
 
     -- the length is looked at
     starts : Sq W (Passed (locals E (held blank wrong 0) [])) (runs C′ Λ E mir.t-1 (atRet E Post))
     starts =
         assigns ! (of-opd ! (load ! (from ! (fld ! refl (stop !))) (look-in ! 14 (sub ! 1 refl (whole !))))) (from ! (stop !)) (init ! 22 refl (tt, record { fits = room .0 })) $
         assigns ! (bin ! (load ! (from ! (stop !)) (look ! 22 refl)) (lit ! tt) tt) (from ! (stop !)) (init ! 24 refl (tt, tt)) $
-        first ! $ branches ! (load ! (from ! (stop !)) (look ! 24 refl)) (λ t. refuses-it (holds-false (eqb (length (a .t)) 64) t))
-        (λ t. skips ! $ exec ! C′ Λ E mir.t-4 (atRet E Post) $ reads-it (eqb-true (length (a .t)) 64 (not-not (eqb (length (a .t)) 64) t)))
+        first ! $ branches ! (load ! (from ! (stop !)) (look ! 24 refl)) (λ t. refuses-it (holds-false (eqb (length (a .t)) imageSize) t))
+        (λ t. skips ! $ exec ! C′ Λ E mir.t-4 (atRet E Post) $ reads-it (right-length (a .c) _ (eqb-true (length (a .t)) imageSize (not-not (eqb (length (a .t)) imageSize) t))))
 
   walk : (C′ : Calls 𝓤 H) (Λ : Loops 𝓤 H) (fm : FmC 𝓤 H (W .laws) C′) → Known 𝓤 H A mem′ run C′ → ent 𝓤 (onEntry 𝓤 H A f.signature (bound .0 .0) (bound .0 .1) x at) (WpFn 𝓤 H C′ Λ code.function (vptr (a .bc) (a .oc) ∷ vptr (a .bd) (a .od) ∷ table a ∷ out ∷ []) Post)
   walk C′ Λ fm known =
@@ -210,7 +212,7 @@ module _ {M : Type 1} (𝓤 : URA M) (H : Heap 𝓤) (A : Atoms 𝓤) (W : Given
   walks : (C′ : Calls 𝓤 H) (Λ : Loops 𝓤 H) → FmC 𝓤 H (W .laws) C′ → Known 𝓤 H A mem′ run C′ → Walks 𝓤 H A f.ended stayed (WpFn 𝓤 H C′ Λ code.function) (f.clauses 𝓤 H A mem′ run)
   walks C′ Λ fm known = walked 𝓤 H A f.ended stayed (f.clauses 𝓤 H A mem′ run) (WpFn 𝓤 H C′ Λ code.function) (λ κs. (ptr-vals, (ptr-vals, (slice-vals, (slice-vals, tt)))))
       (λ κs. (shr-tells (named 0) (κs .0) C.the-row, (shr-tells (named 1) (κs .1 .0) D.the-row, (shr-slice-tells (named 2) (κs .1 .1 .0) P.the-row, (mut-slice-tells (named 3) (κs .1 .1 .1 .0) u8, tt)))))
-      (λ κs qs bounds a _ are. needs 𝓤 (length (a .1 .1 .0 .now) ≡ paperLimits .places → Valid (a .0 .now) (a .1 .0 .now) (a .1 .1 .0 .now)) _ (λ valid. walk 𝓤 H A W mem′ run (refs (κs .0) (κs .1 .0) (κs .1 .1 .0) (qs .0) (qs .1 .0) (qs .1 .1 .0) (a .0) (a .1 .0) (a .1 .1 .0)) (κs .1 .1 .1 .0) (qs .1 .1 .1 .0)
+      (λ κs qs bounds a _ are. needs 𝓤 (length (a .1 .1 .0 .now) ≡ limitsOf (a .0 .now) .places → Valid (a .0 .now) (a .1 .0 .now) (a .1 .1 .0 .now)) _ (λ valid. walk 𝓤 H A W mem′ run (refs (κs .0) (κs .1 .0) (κs .1 .1 .0) (qs .0) (qs .1 .0) (qs .1 .1 .0) (a .0) (a .1 .0) (a .1 .1 .0)) (κs .1 .1 .1 .0) (qs .1 .1 .1 .0)
       (a .1 .1 .1 .0 .ptr .0) (a .1 .1 .1 .0 .ptr .1) (a .1 .1 .1 .0 .name) (a .1 .1 .1 .0 .now) (are .1 .1 .0 .0 .1) (are .1 .1 .1 .0 .0 .1) valid C′ Λ fm known))
 
   meets : (𝓣 : Tables 𝓤 H) → Known 𝓤 H A mem′ run (𝓣 .C) → Meets 𝓤 H A f.signature (WpFn 𝓤 H (𝓣 .C) (𝓣 .Λ) code.function) (f.spec 𝓤 H A mem′ run)

@@ -8,7 +8,7 @@ use lib.Dec.{leb, eqb}
 use borrow.Author.Needs.{needs}
 use borrow.Author.Tests.{eq-eqb, ne-eqb, le-leb, lt-leb, not-true, not-false}
 use Rattle.rules.specs.State.{Limits, State}
-use Rattle.rules.specs.MoveList.{oneIf, headerBytes, countIn, tableOffsetIn, payloadOffsetIn, payloadOffset, formed, plays}
+use Rattle.rules.specs.MoveList.{oneIf, headerBytes, countIn, tableOffsetIn, payloadOffsetIn, payloadOffset, formed, mostRequests, plays}
 use Rattle.rules.proofs.Checks.{passes, fails}
 use Rattle.list_form.specs.Form.{slotsOf}
 use Rattle.list_form.proofs.Laws.{fromAis, fromSlots, fromOffsets, fromCount, fromFlag, fromTotal, refused-with, offsets-say}
@@ -26,7 +26,7 @@ past-flag : (c : tie.Else3) (L : Limits) (s : State) → let b = c .before .befo
 past-flag c L s = past-total (c .before .before) L s ∙ passes _ _ _ (rw (← c .before .read-be2 .ensures .0) (le-leb _ 1 (c .if3 .left)))
 
 past-count : (c : tie.Else4) (L : Limits) (s : State) → let b = c .before .before .before .before .before .before .before .before .args .list .now in plays L s b ≡ fromOffsets L s b
-past-count c L s = past-flag (c .before .before) L s ∙ passes _ _ _ (rw (← c .before .read-be3 .ensures .0) (le-leb _ 131 (c .if4 .left)))
+past-count c L s = past-flag (c .before .before) L s ∙ passes _ _ _ (rw (← c .before .read-be3 .ensures .0) (le-leb _ mostRequests (c .if4 .left)))
 
 -- the offsets' test and the entries' test, with the count as the list has it
 offsets-pass : (c : tie.Else5) → let b = c .before .before .before .before .before .before .before .before .before .before .args .list .now in
@@ -68,7 +68,7 @@ read-be-requires-3 : tie.Need-read-be-requires-3
 read-be-requires-3 c κs = search needs
 
 returns-4 : tie.Need-returns-4
-returns-4 c = refused-with _ _ 7 (omega arith) (λ L s e. past-flag (c .before .before) L s ∙ fails _ _ _ (rw (← c .before .read-be3 .ensures .0) (lt-leb _ 131 (c .if4 .taken))))
+returns-4 c = refused-with _ _ 7 (omega arith) (λ L s e. past-flag (c .before .before) L s ∙ fails _ _ _ (rw (← c .before .read-be3 .ensures .0) (lt-leb _ mostRequests (c .if4 .taken))))
 
 offsets-requires : tie.Need-offsets-requires
 offsets-requires c κs = search needs

@@ -5,7 +5,7 @@ use borrow.Author.Needs.{needs}
 use Rattle.rules.specs.Requests.{request}
 use Rattle.rules.specs.MoveList.{movable}
 use Rattle.answers.proofs.Laws.{as-answer}
-use Rattle.play.specs.Play.{limitsOf}
+use Rattle.play.specs.Play.{limitsFrom}
 use Rattle.play.proofs.Laws.{as-state}
 use Rattle.play.proofs.apply.Statement.{statement}
 use Rattle.play.proofs.apply.Tie as tie
@@ -21,7 +21,7 @@ unfolding request
 returns c =
     let f = c .before .before .before .before .before .before .before .before in
     let e = c .before .enqueue-irqs .ensures in (
-      as-answer (limitsOf (f .args .places) (f .args .room)) _ (f .args .attr) (f .args .payload .now) _ 2 (c .before .before .before .before .before .before .if1 .taken) (c .by-fields .ensures) (e .0 _ _ refl refl),
+      as-answer (limitsFrom (f .args .places) (f .args .room)) _ (f .args .attr) (f .args .payload .now) _ 2 (c .before .before .before .before .before .before .if1 .taken) (c .by-fields .ensures) (e .0 _ _ refl refl),
       (e .1 .0, f .pre .3),
     )
 

@@ -23,7 +23,7 @@ returns c =
       λ L t e1 e2 e3. not-played L t _ _ _ _ (c .before .before .form .ensures .refused (c .before .if1 .taken) L t e3) refl,
       (
         (s .pre .3, canonical-take (s .args .places) (replicate imageSize 0) (canonical-zeros imageSize)),
-        (λ n. absurd (n refl), (λ L t e code f. refl, λ z. (refl, refl, refl, refl))),
+        (λ n. absurd (n refl), (λ L t e code count f. refl, λ z. (refl, refl, refl, refl))),
       ),
     )
 
@@ -65,7 +65,7 @@ returns-2 c =
           (fresh-is (a .places) (a .room) (a .ais) _ _ (s .pre .2) (c .before .before .before .before .before .before .before .before .before .before .before .before .before .before .before .before .before .before .fresh .ensures .1 _) (c .before .before .before .before .before .before .before .before .before .before .before .before .fresh-device .ensures))
           (rw (c .before .before .before .before .before .before .before .before .before .before .before .before .before .before .before .before .before .before .before .before .before .before .empty .ensures) at (r .ensures .0)) L t e1 e2 e3 (c .before .before .before .before .before .before .before .before .before .before .before .before .before .before .before .before .before .before .before .before .before .before .before .before .form .ensures .played (c .before .before .before .before .before .before .before .before .before .before .before .before .before .before .before .before .before .before .before .before .before .before .before .if1 .left) L t e3) _
           (fresh-is (a .places) (a .room) (a .ais) _ _ (s .pre .2) (c .before .before .fresh2 .ensures .1 _) (c .before .fresh-device2 .ensures)) (c .before .before .before .before .before .before .if2 .taken),
-      ((c .before .before .fresh2 .ensures .0, blank), (λ n. refl, (λ L t e code f. absurd (not-refused _ _ _ _ code _ (c .before .before .before .before .before .before .before .before .before .before .before .before .before .before .before .before .before .before .before .before .before .before .before .before .form .ensures .played (c .before .before .before .before .before .before .before .before .before .before .before .before .before .before .before .before .before .before .before .before .before .before .before .if1 .left) L t e) f), λ z. absurd (omega (arith, s .pre .1, z))))),
+      ((c .before .before .fresh2 .ensures .0, blank), (λ n. refl, (λ L t e code count f. absurd (not-refused _ _ _ _ code count _ (c .before .before .before .before .before .before .before .before .before .before .before .before .before .before .before .before .before .before .before .before .before .before .before .before .form .ensures .played (c .before .before .before .before .before .before .before .before .before .before .before .before .before .before .before .before .before .before .before .before .before .before .before .if1 .left) L t e) f), λ z. absurd (omega (arith, s .pre .1, z))))),
     )
 
 returns-3 : tie.Need-returns-3
@@ -79,7 +79,7 @@ returns-3 c =
           (rw (c .before .before .before .before .before .before .before .before .before .before .before .before .before .before .before .before .empty .ensures) at (r .ensures .0)) L t e1 e2 e3 (c .before .before .before .before .before .before .before .before .before .before .before .before .before .before .before .before .before .before .form .ensures .played (c .before .before .before .before .before .before .before .before .before .before .before .before .before .before .before .before .before .if1 .left) L t e3) (c .if2 .left),
       (
         (r .ensures .1 .0, canonical-take (a .places) _ (r .ensures .1 .1)),
-        (λ n. refl, (λ L t e code f. absurd (not-refused _ _ _ _ code _ (c .before .before .before .before .before .before .before .before .before .before .before .before .before .before .before .before .before .before .form .ensures .played (c .before .before .before .before .before .before .before .before .before .before .before .before .before .before .before .before .before .if1 .left) L t e) f), λ z. absurd (omega (arith, s .pre .1, z)))),
+        (λ n. refl, (λ L t e code count f. absurd (not-refused _ _ _ _ code count _ (c .before .before .before .before .before .before .before .before .before .before .before .before .before .before .before .before .before .before .form .ensures .played (c .before .before .before .before .before .before .before .before .before .before .before .before .before .before .before .before .before .if1 .left) L t e) f), λ z. absurd (omega (arith, s .pre .1, z)))),
       ),
     )
 

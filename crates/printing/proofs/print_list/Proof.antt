@@ -8,6 +8,7 @@ use Rattle.rules.specs.State.{paperLimits, fresh, listing}
 use Rattle.rules.specs.Listing.{shown, refusal, printed}
 use Rattle.rules.proofs.Checks.{chosen, passed}
 use Rattle.records.specs.Memory.{pendingOf}
+use Rattle.play.proofs.Sized.{paper-sized}
 use Rattle.printing.proofs.Laws.{whole, too-long, printed-is}
 use Rattle.printing.proofs.print_list.Statement.{statement}
 use Rattle.printing.proofs.print_list.Tie as tie
@@ -22,7 +23,7 @@ answered c =
     let f = c .before .before .before .before .before .before in
     let p = c .play-list in
     let e = f .fresh .ensures .1 _ in
-    let a = p .ensures .0 paperLimits (fresh paperLimits _) refl refl refl in
+    let a = p .ensures .0 paperLimits (fresh paperLimits _) (paper-sized .places) (paper-sized .room) refl in
     printed-is _ _ _ (p .result .restored) _ _ (f .before .before .before .before .if1 .left) (c .before .capable .ensures) a refl
     (λ z. let k = p .ensures .1 .1 .1 .1 z in rw (k .0, k .1, k .2, k .3) (sym e))
 

@@ -7,7 +7,7 @@ use lib.ListN.{length}
 use borrow.Author.Tests.{eq-eqb, ne-eqb, le-leb, lt-leb}
 use borrow.Author.Needs.{needs}
 use Rattle.rules.specs.State.{Pending, addAll, queued}
-use Rattle.rules.specs.Requests.{recordsIn, allWant, request}
+use Rattle.rules.specs.Requests.{enqueueBytes, recordsIn, allWant, request}
 use Rattle.rules.proofs.Checks.{fails}
 use Rattle.answers.proofs.Laws.{refused}
 use Rattle.slots.specs.Slots.{slotCount}
@@ -38,7 +38,7 @@ unfolding request
 returns-2 c =
     let f = c .before .before .before .before in (
       λ L s er ep. refused L s _ _ _ 22 _ ep
-          (fails _ _ _ (rw (ne-eqb (f .args .attr) 0 (c .before .before .if1 .left), lt-leb (f .args .attr) 18576 (c .before .if2 .taken)))) (c .refuse2 .ensures),
+          (fails _ _ _ (rw (ne-eqb (f .args .attr) 0 (c .before .before .if1 .left), lt-leb (f .args .attr) enqueueBytes (c .before .if2 .taken)))) (c .refuse2 .ensures),
       (f .pre .1, λ k. (refl, refl, refl, refl)),
     )
 
@@ -53,7 +53,7 @@ returns-3 c =
       λ L s er ep. refused L s _ _ _ 22 _ ep
           (fails _ _ _ (rw (
             ne-eqb (a .attr) 0 (c .before .before .before .if1 .left),
-            le-leb (a .attr) 18576 (c .before .before .if2 .left),
+            le-leb (a .attr) enqueueBytes (c .before .before .if2 .left),
             ne-eqb (a .attr % 72) 0 (c .before .if3 .taken),
           ))) (c .refuse3 .ensures),
       (f .pre .1, λ k. (refl, refl, refl, refl)),
@@ -94,7 +94,7 @@ all-counted j =
 
 added-fit : (j : tie.Joined5)
     → let b = start j .args .payload .now in
-    ((j .if5 .added ≤ 258) × (j .if5 .added * 72 ≤ length b) × (sum (start j .args .counts .now) + allWant (recordsIn (j .if5 .added) b) ≤ slotCount))
+    ((j .if5 .added * 72 ≤ enqueueBytes) × (j .if5 .added * 72 ≤ length b) × (sum (start j .args .counts .now) + allWant (recordsIn (j .if5 .added) b) ≤ slotCount))
 unfolding recordsIn allWant
 added-fit j =
     let f = start j in

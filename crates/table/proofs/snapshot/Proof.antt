@@ -118,7 +118,7 @@ module _ {M : Type 1} (𝓤 : URA M) (H : Heap 𝓤) (A : Atoms 𝓤) (W : Given
         abbrev found : Place
         found = getD ys (i .0) unused
 
-        small : {j : ℕ} → j ≤ 64 → j < 2 ^ 64
+        small : {j : ℕ} → j ≤ imageSize → j < 2 ^ 64
         small h = fits-upto h (lit< tt)
 
         fits : FitsId k

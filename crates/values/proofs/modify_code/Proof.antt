@@ -10,12 +10,12 @@ use borrow.Author.Tests.{eq-eqb, ne-eqb, le-leb, lt-leb, lt-ltb, le-ltb, not-tru
 use Rattle.rules.specs.Bytes.{choose, byte, field}
 use Rattle.rules.specs.State.{Limits, State, free, withAdapter}
 use Rattle.rules.specs.Outcome.{accept, need_else_⨾_}
-use Rattle.rules.specs.Requests.{adapterModify, request, modifies, withMask, nonZero}
-use Rattle.rules.proofs.Checks.{passes, fails, found, both}
+use Rattle.rules.specs.Requests.{holding, adapterModify, request, modifies, withMask, nonZero}
+use Rattle.rules.proofs.Checks.{passes, fails, found, missing, both}
 use Rattle.adapters.specs.Values.{placeOf, adapterOf}
 use Rattle.adapters.proofs.Laws.{place-used, place-free}
 use Rattle.values.specs.States.{payloadId, decided, placeAfter, withPlace}
-use Rattle.values.proofs.Laws.{not-accepted, modifying, id-there, place-there, unheld, modified}
+use Rattle.values.proofs.Laws.{not-accepted, modifying, id-there, place-there, modified}
 use Rattle.values.proofs.modify_code.Statement.{statement}
 use Rattle.values.proofs.modify_code.Tie as tie
 
@@ -49,7 +49,7 @@ returns-4 c =
     let b = a .payload .now in (
       λ L s e1 e4. modifying L s _ b (k .before .if1 .left) (k .if2 .left)
           ∙ passes _ _ _ (lt-ltb (field 0 4 b) (L .places) (omega (arith, e1, h .if3 .left, h .before .read-be .ensures .0)))
-          ∙ unheld _ _ _ (place-there b (omega (arith, k .if2 .left)) (s .adapters) e4 ∙ place-free (a .place) (not-true _ (c .if4 .taken))),
+          ∙ missing _ _ _ (ap holding (place-there b (omega (arith, k .if2 .left)) (s .adapters) e4 ∙ place-free (a .place) (not-true _ (c .if4 .taken)))),
       not-accepted (omega arith),
     )
 
@@ -67,7 +67,7 @@ begun c L s e1 e4 =
     let b = a .payload .now in
     modifying L s _ b (k .before .if1 .left) (k .if2 .left)
     ∙ passes _ _ _ (lt-ltb (field 0 4 b) (L .places) (omega (arith, e1, h .if3 .left, h .before .read-be .ensures .0)))
-    ∙ found _ (adapterOf (a .place)) _ _ (place-there b (omega (arith, k .if2 .left)) (s .adapters) e4 ∙ place-used (a .place) (not-false _ (c .if4 .left)))
+    ∙ found _ (adapterOf (a .place)) _ _ (ap holding (place-there b (omega (arith, k .if2 .left)) (s .adapters) e4 ∙ place-used (a .place) (not-false _ (c .if4 .left))))
 
 leaves : (c : tie.Else4) (s : State) → let a = c .before .before .before .before .before .before .before .args in
     getD (s .adapters) (payloadId (a .payload .now)) free ≡ placeOf (a .place)

@@ -6,7 +6,6 @@ use lib.ListN.{getD}
 use borrow.Author.Needs.{needs}
 use Rattle.rules.specs.State.{State, free}
 use Rattle.rules.specs.Outcome.{accept}
-use Rattle.rules.specs.Requests.{request}
 use Rattle.adapters.specs.Values.{placeOf}
 use Rattle.values.specs.States.{modesAfter}
 use Rattle.values.proofs.Laws.{decided-refused, decided-accepted, about-place, keeps-place, entered, devised, refused, accepted}

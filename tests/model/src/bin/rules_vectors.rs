@@ -49,10 +49,10 @@ fn file(scripts: &[Script], names: &[(&str, &str)], mode: &str) -> String {
          use lib.ListN.{replicate}\n",
     );
     let mut modules: BTreeMap<&str, Vec<&str>> = BTreeMap::new();
-    modules.insert("State", vec!["paperLimits"]);
+    modules.insert("Outcome", vec!["Seen"]);
     modules.insert(
         "Machine",
-        vec!["Ask", "setAttr", "getAttr", "guestTake", "writeList", "playList", "Call", "Seen"],
+        vec!["Ask", "setAttr", "getAttr", "guestTake", "writeList", "playList", "Call"],
     );
     for (module, name) in names {
         modules.entry(module).or_default().push(name);
@@ -66,7 +66,7 @@ fn file(scripts: &[Script], names: &[(&str, &str)], mode: &str) -> String {
          call ask buffer table = record { ask = ask; buffer = buffer; tableLength = table }\n\
          \n\
          saw : ℕ → ℕ → List ℕ → Seen\n\
-         saw code count buffer = record { code = code; count = count; buffer = buffer }\n",
+         saw code count buffer = record { code = code; count = count; further = 0; buffer = buffer }\n",
     );
     let mut unfolding = String::from("flatten zipWith call saw");
     for (_, name) in names {

@@ -1,4 +1,5 @@
--- 01, 'How much each promise says': the limits of a controller, of which its contracts here and in the public crate speak. They are the paper's, always.
+-- 01, 'How much each promise says': the limits of a controller, of which its contracts here and in the public crate
+-- speak. They are the paper's, always.
 use Rattle.rules.specs.State.{Limits, paperLimits}
 use Rattle.controller.specs.declared.Controller.{Controller}
 

@@ -1,4 +1,5 @@
--- 01, 'How much each promise says': lists of calls on the code's own controllers. Each step is what that function's contract says of that call.
+-- 01, 'How much each promise says': lists of calls on the code's own controllers. Each step is what that function's
+-- contract says of that call.
 use Prim.Native.Nat.{ℕ}
 use mathlib.Core.Path.{_≡_}
 use mathlib.Core.Bool.{Bool}
@@ -19,8 +20,8 @@ pub record Host : Type 0 where
   pub dev : Device
   pub tab : List Place
 
--- The table that a call is lent, what is in it afterwards, and what is then in the controller's own: it is lent its own, or one of another length,
--- and then its own stays.
+-- The table that a call is lent, what is in it afterwards, and what is then in the controller's own: it is lent its
+-- own, or one of another length, and then its own stays.
 pub data Lends (L : Limits) (own lent left : List Place) : List Place → Type 0 where
   its-own : lent ≡ own → Lends L own lent left left
   another : (length lent ≡ L .places → ⊥) → Lends L own lent left own
@@ -28,8 +29,8 @@ pub data Lends (L : Limits) (own lent left : List Place) : List Place → Type 0
 abbrev pub asked : Ask → List ℕ → ℕ → Call
 asked ask b n = record { ask = ask; buffer = b; tableLength = n }
 
--- What a call that is lent a table leaves, because it borrows it shared: a set its payload and the playing of a list the list; a get and the writing
--- of a list everything but the buffer. A take is lent no table.
+-- What a call that is lent a table leaves, because it borrows it shared: a set its payload and the playing of a list
+-- the list; a get and the writing of a list everything but the buffer. A take is lent no table.
 abbrev pub Leaves : Ask → (c c′ : Controller) (d d′ : Device) (t t′ : List Place) (b b′ : List ℕ) → Type 0
 Leaves (setAttr group attr) c c′ d d′ t t′ b b′ = b′ ≡ b
 Leaves (getAttr group attr) c c′ d d′ t t′ b b′ = (c′ ≡ c) × (d′ ≡ d) × (t′ ≡ t)

@@ -1,4 +1,5 @@
--- Demand 3 (paper 01, 'How much each promise says'): one claim about whole lists of calls on the code's own controllers.
+-- Demand 3 (paper 01, 'How much each promise says'): one claim about whole lists of calls on the code's own
+-- controllers.
 use Prim.Native.Nat.{ℕ, _≤_}
 use mathlib.Core.Path.{_≡_}
 use mathlib.Core.Bool.{Bool}
@@ -24,15 +25,17 @@ pub record Fresh (L : Limits) (ais : Bool) (f : Host) : Type 0 where
   pub answer : Answer
   pub made : Made L ais ctl (f .ctl) dev (f .dev) tab (f .tab) answer
 
--- The plain machine with these limits and this capability, fresh at the start: its state after a list of calls, and its answers to a further list.
+-- The plain machine with these limits and this capability, fresh at the start: its state after a list of calls, and its
+-- answers to a further list.
 abbrev pub machine : Limits → Bool → List Call → State
 machine L ais cs = after L (fresh L ais) cs
 
 abbrev pub machineAnswers : Limits → Bool → List Call → List Call → List Seen
 machineAnswers L ais cs ds = answers L (machine L ais cs) ds
 
--- A move. Any list of calls on a fresh first host; the move list written into a buffer that is long enough; exactly as many bytes as the count says
--- played on a second host, which any list of calls on a fresh one of the same limits and capability left. Both calls are lent their host's own table.
+-- A move. Any list of calls on a fresh first host; the move list written into a buffer that is long enough; exactly as
+-- many bytes as the count says played on a second host, which any list of calls on a fresh one of the same limits and
+-- capability left. Both calls are lent their host's own table.
 pub record Moved : Type 0 where
   pub limits : Limits
   pub ais : Bool
@@ -69,7 +72,8 @@ pub record Claim (m : Moved) : Type 0 where
   pub first-seen : m .seen₁ ++ (m .wrote ∷ []) ≡ machineAnswers (m .limits) (m .ais) [] (callsOf m)
   -- the writing is accepted, and its count is the list's length
   pub written : (m .wrote .code ≡ 0) × (m .wrote .count ≡ total (listRequests (machine (m .limits) (m .ais) (m .calls₁)))) × (length (listOf m) ≡ m .wrote .count)
-  -- the second controller accepts exactly those bytes, whatever it held, and applies as many requests as they say, at most 131
+  -- the second controller accepts exactly those bytes, whatever it held, and applies as many requests as they say, at
+  -- most 131
   pub accepted : (m .played .code ≡ 0) × (m .played .count ≡ countIn (listOf m)) × (m .played .count ≤ mostRequests)
   -- from then on both give the plain machine's answers, counts and bytes, for every further list of calls
   pub alike : (ds : List Call) (xs ys : List Seen) (e₁ e₂ : Host) → Ran (m .first) ds xs e₁ → Ran (m .second) ds ys e₂

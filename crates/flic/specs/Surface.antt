@@ -1,4 +1,5 @@
--- What the public calls promise: the plain machine's step, through what a controller, a device record and a table stand for.
+-- What the public calls promise: the plain machine's step, through what a controller, a device record and a table stand
+-- for.
 use Prim.Native.Nat.{ℕ}
 use mathlib.Core.Path.{_≡_}
 use mathlib.Core.Bool.{Bool}
@@ -28,14 +29,16 @@ stateOf c d t =
       device = deviceOf d;
     }
 
--- 01, 'How much each promise says': the one premise is a record of facts that a fresh controller has and every call keeps. Of the controller alone:
--- no slot stands twice in the order, and the nine queues hold at most as many records as there are slots. The rules leave open: in which slot a
--- pending record lies; what the other slots hold and in which order they stand; which number, other than 0, says that a service record or a
--- machine check is there; the bytes of one that is not there. Of these nothing more holds.
+-- 01, 'How much each promise says': the one premise is a record of facts that a fresh controller has and every call
+-- keeps. Of the controller alone: no slot stands twice in the order, and the nine queues hold at most as many records
+-- as there are slots. The rules leave open: in which slot a pending record lies; what the other slots hold and in which
+-- order they stand; which number, other than 0, says that a service record or a machine check is there; the bytes of
+-- one that is not there. Of these nothing more holds.
 abbrev pub Ready : Controller → Type 0
 Ready c = Held (c .order) (c .counts)
 
--- With its device record and its table: a free place is the one free place, and the state has what every state has that a fresh one can reach.
+-- With its device record and its table: a free place is the one free place, and the state has what every state has that
+-- a fresh one can reach.
 pub record Valid (c : Controller) (d : Device) (t : List Place) : Type 0 where
   pub ready : Ready c
   pub places : All Canonical t
@@ -45,15 +48,16 @@ pub record Valid (c : Controller) (d : Device) (t : List Place) : Type 0 where
 abbrev pub Premise : Controller → Device → List Place → Type 0
 Premise c d t = length t ≡ limitsOf c .places → Valid c d t
 
--- 01, 'How much each promise says': code, count, next state and each byte of the buffer are the plain machine's. What the caller sees, x, is the code,
--- the count and the buffer as the call left it.
+-- 01, 'How much each promise says': code, count, next state and each byte of the buffer are the plain machine's. What
+-- the caller sees, x, is the code, the count and the buffer as the call left it.
 abbrev pub Steps : Ask → (c c′ : Controller) (d d′ : Device) (t t′ : List Place) (b : List ℕ) → Seen → Type 0
 Steps ask c c′ d d′ t t′ b x =
     step (limitsOf c) (stateOf c d t) (record { ask = ask; buffer = b; tableLength = length t }) ≡ answering x (stateOf c′ d′ t′)
 
--- What every call promises that is lent a table and does not make a controller: of the controller, the device record and the table before and after
--- it, of the buffer before it, and of what its caller sees. A refusal leaves each lent value equal, not only what it stands for. (The refusal of a
--- list part-way, which is no `refuseWith`, leaves a fresh controller, by the machine's step.) The controller's limits stay.
+-- What every call promises that is lent a table and does not make a controller: of the controller, the device record
+-- and the table before and after it, of the buffer before it, and of what its caller sees. A refusal leaves each lent
+-- value equal, not only what it stands for. (The refusal of a list part-way, which is no `refuseWith`, leaves a fresh
+-- controller, by the machine's step.) The controller's limits stay.
 pub record Requested (ask : Ask) (c c′ : Controller) (d d′ : Device) (t t′ : List Place) (b : List ℕ) (x : Seen) : Type 0 where
   pub steps : Steps ask c c′ d d′ t t′ b x
   pub kept : (code count : ℕ) → outcome (limitsOf c) (stateOf c d t) ask (length t) b ≡ refuseWith code count
@@ -68,8 +72,8 @@ pub record Taken (subclasses : ℕ) (external mcheck : Bool) (c c′ : Controlle
   pub ready : Ready c′
   pub limits : limitsOf c′ ≡ limitsOf c
 
--- What making a fresh controller promises: with the right table it is the fresh one of these limits and this capability; with another, 14, and everything
--- stays.
+-- What making a fresh controller promises: with the right table it is the fresh one of these limits and this
+-- capability; with another, 14, and everything stays.
 pub record Made (L : Limits) (ais : Bool) (c c′ : Controller) (d d′ : Device) (t t′ : List Place) (r : Answer) : Type 0 where
   pub right : length t ≡ L .places → (r ≡ answered 0 0) × (limitsOf c′ ≡ L) × (stateOf c′ d′ t′ ≡ fresh L ais) × Valid c′ d′ t′
   pub wrong : (length t ≡ L .places → ⊥) → (r ≡ answered 14 0) × (c′ ≡ c) × (d′ ≡ d) × (t′ ≡ t)

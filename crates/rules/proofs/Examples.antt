@@ -7,7 +7,7 @@ use mathlib.Core.List.{List, [], _∷_, _++_, map}
 use lib.ListN.{length, drop, replicate}
 use Rattle.rules.specs.Bytes.{bytes}
 use Rattle.rules.specs.State.{paperLimits, fresh}
-use Rattle.rules.specs.Outcome.{Seen, sees}
+use Rattle.rules.specs.Outcome.{Seen}
 use Rattle.rules.specs.Machine.{Ask, setAttr, getAttr, guestTake, writeList, playList, Call, answers}
 use Rattle.rules.proofs.Computes.{computes}
 
@@ -48,8 +48,9 @@ pub record Outlook (A : Type 0) : Type 0 where
 unfoldable pub callOf : Line → Call
 callOf l = record { ask = l .ask; buffer = l .buffer; tableLength = l .table }
 
+-- It is written out here, and not by `sees`, so that a wrong `seen` does not change both sides.
 unfoldable pub expectedOf : Line → Seen
-expectedOf l = sees (l .code) (l .count) (l .written ++ drop (length (l .written)) (l .buffer))
+expectedOf l = record { code = l .code; count = l .count; further = 0; buffer = l .written ++ drop (length (l .written)) (l .buffer) }
 
 unfoldable pub given : {A : Type 0} → Example A → Outlook A
 given e = record { label = e .label; seen = answers paperLimits (fresh paperLimits (e .ais)) (map callOf (e .lines)) }

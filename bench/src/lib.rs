@@ -1,6 +1,7 @@
-//! The library measured against plain Rust.
+//! The libraries measured against plain Rust.
 
 pub mod plain;
 pub mod stack;
 pub mod subject;
 pub mod work;
+pub mod xive;

@@ -3,11 +3,13 @@
 //!        bench run WORK SECONDS [SUBJECT]
 //!                                  one piece of work over and over, for a profile
 
-use bench::plain;
 use bench::subject::{Library, Model, Subject};
-use bench::work::{all, goals, Work};
+use bench::work::Work;
+use bench::xive::subject::Subject as _;
+use bench::{plain, work, xive};
 use code::lists::list;
 use code::steps::Step;
+use model::xive::SOURCES;
 use model::{Ask, Controller};
 use std::hint::black_box;
 use std::process::exit;
@@ -24,10 +26,33 @@ fn main() {
     let args: Vec<String> = std::env::args().skip(1).collect();
     let number = |at: usize| args.get(at).and_then(|word| word.parse::<usize>().ok());
     match args.first().map(String::as_str) {
-        Some("check") => check(number(1).unwrap_or(1) as u64, number(2).unwrap_or(100_000)),
+        Some("check") => {
+            let (seed, calls) = (number(1).unwrap_or(1) as u64, number(2).unwrap_or(100_000));
+            check(seed, calls);
+            check_xive(seed, calls);
+        }
         Some("run") => run(number(1).unwrap_or(1), number(2).unwrap_or(3), args.get(3)),
         _ => figures(number(0).unwrap_or(301)),
     }
+}
+
+/// All work for a controller and for sources, in the order of the goals.
+fn all<S: Subject + 'static, X: xive::subject::Subject + 'static>() -> Vec<Work> {
+    let mut works = work::all::<S>();
+    works.extend(xive::work::all::<X>());
+    works
+}
+
+fn proved() -> Vec<Work> {
+    all::<Library, xive::subject::Library>()
+}
+
+fn plain() -> Vec<Work> {
+    all::<plain::Controller, Box<xive::plain::Sources>>()
+}
+
+fn model() -> Vec<Work> {
+    all::<Model, xive::subject::Model>()
 }
 
 fn time(work: &mut Work, times: usize) -> Duration {
@@ -44,14 +69,14 @@ fn spread(mut values: Vec<f64>) -> [f64; 3] {
 
 fn figures(rounds: usize) {
     let subjects = [Library::NAME, plain::Controller::NAME, Model::NAME];
-    let mut works = [all::<Library>(), all::<plain::Controller>(), all::<Model>()];
+    let mut works = [proved(), plain(), model()];
     println!("# nanoseconds of one piece of work, median, least and most of {rounds} rounds;");
     println!("# ratio of the proved code to plain Rust, and to the tests' model, in each round");
     println!(
         "# work; goal; {}; {}; {}; ratio to plain; ratio to model",
         subjects[0], subjects[1], subjects[2]
     );
-    let goals = goals();
+    let goals = [work::goals(), xive::work::goals()].concat();
     let mut times = vec![1; goals.len()];
     for (at, times) in times.iter_mut().enumerate() {
         while works.iter_mut().any(|works| time(&mut works[at], *times) < BATCH) {
@@ -116,9 +141,9 @@ fn copies(rounds: usize) -> Vec<f64> {
 /// One piece of work, from 1, for so many seconds.
 fn run(which: usize, seconds: usize, subject: Option<&String>) {
     let mut works = match subject.map(String::as_str) {
-        Some("plain") => all::<plain::Controller>(),
-        Some("model") => all::<Model>(),
-        _ => all::<Library>(),
+        Some("plain") => plain(),
+        Some("model") => model(),
+        _ => proved(),
     };
     let work = &mut works[which - 1];
     let (start, mut times) = (Instant::now(), 0);
@@ -161,5 +186,32 @@ fn check(seed: u64, wanted: usize) {
     }
     println!(
         "bench: seed {seed}: plain Rust and the model equal on {calls} calls in {lists} lists"
+    );
+}
+
+/// The same for the sources: answers of all calls, and all readings after each list.
+fn check_xive(seed: u64, wanted: usize) {
+    let (mut calls, mut lists) = (0, 0);
+    while calls < wanted {
+        let list = code::xive::lists::list(seed, lists);
+        lists += 1;
+        let mut plain = Box::<xive::plain::Sources>::fresh();
+        let mut model = xive::subject::Model::fresh();
+        calls += list.calls.len();
+        let readings =
+            (0..SOURCES as u64).map(|number| (model::xive::Ask::Read { number }, &[][..]));
+        let asked = list.calls.iter().map(|call| (call.ask, &call.payload[..]));
+        for (at, (ask, payload)) in asked.chain(readings).enumerate() {
+            if plain.call(ask, payload) != model.call(ask, payload) {
+                println!(
+                    "bench: seed {seed}, XIVE list {lists}, step {}: plain Rust and the model differ",
+                    at + 1
+                );
+                exit(1);
+            }
+        }
+    }
+    println!(
+        "bench: seed {seed}: plain Rust and the model equal on {calls} XIVE calls in {lists} lists"
     );
 }

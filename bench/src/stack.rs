@@ -3,6 +3,9 @@
 //! does nothing takes on the same way is left out.
 
 use crate::subject::{Library, Subject};
+use crate::xive;
+use crate::xive::subject::Subject as _;
+use code::xive::{xive_initialise, xive_make, xive_read, xive_sync, xive_target, Reading};
 use code::{flic_get, flic_make, flic_play_list, flic_set, flic_take, flic_write_list, Answer};
 use model::{ADAPTER_MODIFY, ADAPTER_REGISTER, AIRQ_INJECT, CLEAR_IO_IRQ, ENQUEUE, GET_ALL_IRQS};
 use std::arch::asm;
@@ -13,7 +16,7 @@ const PAINT: u8 = 0xa7;
 #[repr(align(64))]
 struct Stack([u8; BYTES]);
 
-/// Any of the six: their arguments are all passed like whole registers.
+/// Any of the calls: their arguments are all passed like whole registers.
 type Function =
     unsafe extern "C" fn(usize, usize, usize, usize, usize, usize, usize, usize) -> Answer;
 
@@ -82,6 +85,10 @@ fn used(call: *const (), arguments: [usize; 8]) -> (usize, Answer) {
 
 /// The bytes of stack that each call takes beyond its return address.
 pub fn all() -> Vec<(&'static str, usize)> {
+    [controller(), sources()].concat()
+}
+
+fn controller() -> Vec<(&'static str, usize)> {
     let mut it = Library::fresh(true);
     let c = &raw mut *it.c as usize;
     let d = &raw mut it.d as usize;
@@ -119,4 +126,26 @@ pub fn all() -> Vec<(&'static str, usize)> {
     let arguments = [c, d, t, 64, b, list as usize, 0, 0];
     add("flic_play_list", flic_play_list as *const (), arguments, 2);
     rows
+}
+
+fn sources() -> Vec<(&'static str, usize)> {
+    let mut it = xive::subject::Library::fresh();
+    let s = &raw mut *it.0 as usize;
+    let mut reading = Reading::default();
+    let (setting, targeting) = (3u64.to_be_bytes(), 5u64.to_be_bytes());
+    let lent = |word: &[u8; 8]| [s, 7, word.as_ptr() as usize, 8, 0, 0, 0, 0];
+    // A reading is returned in memory, whose address comes first.
+    let out = &raw mut reading as usize;
+    let rows = [
+        ("xive_make", used(xive_make as *const (), [s, 0, 0, 0, 0, 0, 0, 0])),
+        ("xive_initialise", used(xive_initialise as *const (), lent(&setting))),
+        ("xive_target", used(xive_target as *const (), lent(&targeting))),
+        ("xive_sync", used(xive_sync as *const (), [s, 7, 0, 0, 0, 0, 0, 0])),
+        ("xive_read", used(xive_read as *const (), [out, s, 7, 0, 0, 0, 0, 0])),
+    ];
+    for (name, (_, answer)) in &rows[1..4] {
+        assert_eq!((answer.code, answer.count), (0, 0), "{name}");
+    }
+    assert_eq!(reading, Reading { level: 1, kind: 1, word: 5, ..Reading::default() });
+    rows.map(|(name, (bytes, _))| (name, bytes)).to_vec()
 }

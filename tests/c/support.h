@@ -1,25 +1,9 @@
-/* Calls in lent memory of exact size, each held to a code, a count and every byte. */
+/* Calls of the FLIC in lent memory of exact size, each held to a code, a count and every byte. */
 #ifndef SUPPORT_H
 #define SUPPORT_H
 
 #include "flic.h"
-
-/*
- * Lent memory of exactly so many bytes: at the end of a page or at the start of one, between pages that cannot be
- * touched, or on the heap. The rest of its own pages holds a filler that must stay.
- */
-enum placement { PAGE_END, PAGE_START, HEAP, PLACEMENTS };
-extern enum placement placement;
-
-struct lent {
-    uint8_t *at;
-    size_t size;
-    uint8_t *map; /* NULL on the heap */
-    size_t span;
-};
-
-struct lent lend(size_t size);
-void give_back(struct lent *m);
+#include "lent.h"
 
 /* A controller, its device record and its own table. */
 struct host {
@@ -65,14 +49,8 @@ struct flic_answer run(int line, struct host *h, const struct call *call, uint8_
 void expect(int line, struct host *h, struct call call, uint32_t code, uint64_t count, const uint8_t *written,
             size_t size);
 
-_Noreturn void fail(int line, const char *what, uint64_t got, uint64_t wanted);
-void same_bytes(int line, const char *what, const uint8_t *got, const uint8_t *wanted, size_t size);
-
 /* Before the first call. */
 void begin(const char *name);
-
-/* What is tried just now, for the message of a failure; or NULL. */
-extern const char *subject;
 
 /* Bytes that an output buffer holds before a call. */
 #define MOST 65536
@@ -119,13 +97,6 @@ void expect_wrong_tables(int line, struct host *h);
 #define is_fresh(h, ais) expect_fresh(__LINE__, h, ais)
 #define wrong_makes(h) expect_wrong_makes(__LINE__, h)
 #define wrong_tables(h) expect_wrong_tables(__LINE__, h)
-
-/* Bytes of any value, no two runs of them alike. */
-void random_bytes(struct lent *m);
-
-/* Big-endian numbers. */
-void put(uint8_t *at, unsigned bytes, uint64_t n);
-uint64_t number(const uint8_t *at, unsigned bytes);
 
 /* An I/O record, or with the same fields any other type; the bytes after them are 0. */
 void io_record(uint8_t *at, uint64_t type, uint16_t id, uint16_t nr, uint32_t parm, uint32_t word);

@@ -3,6 +3,7 @@
 //! writes over that end stops the program; bytes at the other end are watched.
 
 use std::sync::atomic::{AtomicUsize, Ordering};
+use std::sync::OnceLock;
 
 extern "C" {
     fn mmap(at: *mut u8, bytes: usize, prot: i32, flags: i32, file: i32, from: i64) -> *mut u8;
@@ -81,8 +82,11 @@ impl Drop for Area {
 pub static LIST: AtomicUsize = AtomicUsize::new(0);
 pub static STEP: AtomicUsize = AtomicUsize::new(0);
 
-/// From now on, memory touched outside an area is reported.
-pub fn report_faults() {
+static PROGRAM: OnceLock<&str> = OnceLock::new();
+
+/// From now on, memory touched outside an area is reported by this program.
+pub fn report_faults(program: &'static str) {
+    PROGRAM.get_or_init(|| program);
     // Sound: the handler only writes and ends the program.
     unsafe {
         for number in [7, 11] {
@@ -106,7 +110,8 @@ extern "C" fn stopped(_: i32) {
         }
         put(&digits[at..]);
     };
-    put(b"calls: memory that was not lent was touched: list ");
+    put(PROGRAM.get().unwrap_or(&"").as_bytes());
+    put(b": memory that was not lent was touched: list ");
     put_number(&LIST);
     put(b", step ");
     put_number(&STEP);

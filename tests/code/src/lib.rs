@@ -1,11 +1,21 @@
 //! The controller's six calls as its library has them, and a controller of
-//! them that watches all memory lent to it.
+//! them that watches all memory lent to it. The calls of the second controller
+//! are in `xive`.
+
+use std::fmt::Write;
 
 pub mod area;
+pub mod compare;
 pub mod lists;
 pub mod machine;
 pub mod reach;
+pub mod shrink;
 pub mod steps;
+pub mod tally;
+pub mod xive;
+
+/// What a caller must not see.
+pub type Complaint = String;
 
 /// Bytes of the pending records' slots; entries of their order; queues; bytes
 /// of the service record and the machine check.
@@ -109,4 +119,30 @@ extern "C" {
         list: *const u8,
         length: usize,
     ) -> Answer;
+}
+
+fn check(holds: bool, complaint: &str) -> Result<(), Complaint> {
+    if holds {
+        Ok(())
+    } else {
+        Err(complaint.into())
+    }
+}
+
+/// Bytes in hex, runs written short.
+fn hex(bytes: &[u8]) -> String {
+    let mut out = String::new();
+    let mut at = 0;
+    while at < bytes.len() {
+        let run = bytes[at..].iter().take_while(|&&byte| byte == bytes[at]).count();
+        if run > 3 {
+            write!(out, "{:02x}*{run} ", bytes[at]).unwrap();
+            at += run;
+        } else {
+            write!(out, "{:02x} ", bytes[at]).unwrap();
+            at += 1;
+        }
+    }
+    out.pop();
+    out
 }

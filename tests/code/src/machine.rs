@@ -3,8 +3,8 @@
 
 use crate::area::Area;
 use crate::{
-    flic_get, flic_make, flic_play_list, flic_set, flic_take, flic_write_list, Answer, Controller,
-    Device, Place,
+    check, flic_get, flic_make, flic_play_list, flic_set, flic_take, flic_write_list, Answer,
+    Complaint, Controller, Device, Place,
 };
 use model::calls::Rng;
 use model::{Ask, PLACES};
@@ -13,9 +13,6 @@ use std::mem::size_of;
 /// Most bytes lent with one call, and most places of a table.
 pub const MOST_BYTES: usize = 1 << 17;
 pub const MOST_PLACES: usize = 512;
-
-/// What a caller must not see.
-pub type Complaint = String;
 
 pub struct Machine {
     controller: Area,
@@ -198,13 +195,5 @@ fn any_places(rng: &mut Rng, bytes: &mut [u8]) {
     for place in bytes.as_chunks_mut::<6>().0 {
         let any = rng.next().to_le_bytes();
         *place = [any[0] & 1, any[1], any[2] & 1, any[3] & 1, any[4] & 1, any[5] & 1];
-    }
-}
-
-fn check(holds: bool, complaint: &str) -> Result<(), Complaint> {
-    if holds {
-        Ok(())
-    } else {
-        Err(complaint.into())
     }
 }

@@ -1,18 +1,8 @@
-//! What lists of calls have reached: pairs of call and code, situations that
-//! the rules speak of, and pairs of faults in one call.
+//! What lists of calls reach: situations that the rules speak of, and faults of a call.
 
+use crate::tally::{Goal, Tally};
 use model::calls::{name, reachable, Call};
 use model::*;
-use std::collections::BTreeMap;
-
-#[derive(Default)]
-pub struct Reach {
-    pub calls: usize,
-    pub moves: usize,
-    pairs: BTreeMap<(String, u32), usize>,
-    situations: BTreeMap<&'static str, usize>,
-    faults: BTreeMap<(String, Fault, Fault), usize>,
-}
 
 /// What can be wrong with a call, in the order of the checks.
 #[derive(Clone, Copy, Debug, PartialEq, Eq, PartialOrd, Ord)]
@@ -82,72 +72,23 @@ pub const SITUATIONS: [&str; 45] = [
     "table of 0, 63 and 65",
 ];
 
-impl Reach {
-    pub fn note(
-        &mut self,
-        before: &Controller,
-        call: &Call,
-        answer: (u32, u64),
-        after: &Controller,
-    ) {
-        self.calls += 1;
-        let (code, _) = answer;
-        *self.pairs.entry((name(&call.ask), code)).or_default() += 1;
-        let faults = faults(before, call);
-        for (at, &one) in faults.iter().enumerate() {
-            for &two in &faults[at + 1..] {
-                *self.faults.entry((name(&call.ask), one, two)).or_default() += 1;
-            }
-        }
-        let mut seen = |situation: &'static str, holds: bool| {
-            if holds {
-                *self.situations.entry(situation).or_default() += 1;
-            }
-        };
-        situations(&mut seen, before, call, answer, after);
-    }
+/// All that there is to reach.
+pub fn goal() -> Goal<Fault> {
+    Goal { pairs: reachable(), situations: &SITUATIONS, faults: possible(), beside: "moves" }
+}
 
-    /// What was not reached.
-    pub fn missing(&self) -> Vec<String> {
-        let pairs = reachable().into_iter().filter(|pair| !self.pairs.contains_key(pair));
-        let situations = SITUATIONS.iter().filter(|name| !self.situations.contains_key(*name));
-        let faults = possible().into_iter().filter(|pair| !self.faults.contains_key(pair));
-        pairs
-            .map(|(call, code)| format!("{call}: {code}"))
-            .chain(situations.map(|name| name.to_string()))
-            .chain(faults.map(|(call, one, two)| format!("{call}: {one:?} and {two:?}")))
-            .collect()
-    }
-
-    /// Counts, a line each.
-    pub fn text(&self) -> String {
-        let mut out = String::new();
-        for ((call, code), count) in &self.pairs {
-            out += &format!("{count:8}  {call}: {code}\n");
-        }
-        for (situation, count) in &self.situations {
-            out += &format!("{count:8}  {situation}\n");
-        }
-        for ((call, one, two), count) in &self.faults {
-            out += &format!("{count:8}  {call}: {one:?} and {two:?}\n");
-        }
-        out
-    }
-
-    pub fn summary(&self) -> String {
-        let all = reachable();
-        let pairs = all.iter().filter(|pair| self.pairs.contains_key(pair)).count();
-        format!(
-            "{} calls, {} moves; {pairs} of {} pairs of call and code, {} of {} situations, {} of {} pairs of faults in one call",
-            self.calls,
-            self.moves,
-            all.len(),
-            self.situations.len(),
-            SITUATIONS.len(),
-            self.faults.len(),
-            possible().len(),
-        )
-    }
+/// Notes one call.
+pub fn note(
+    tally: &mut Tally<Fault>,
+    before: &Controller,
+    call: &Call,
+    answer: (u32, u64),
+    after: &Controller,
+) {
+    let (code, _) = answer;
+    tally.call(&name(&call.ask), code, &faults(before, call));
+    let mut seen = |situation, holds| tally.situation(situation, holds);
+    situations(&mut seen, before, call, answer, after);
 }
 
 /// The pairs of faults that one call can have.

@@ -1,10 +1,12 @@
-//! Lists of steps, made on the library and on the model alike, and the
-//! shortest list that shows a difference.
+//! Lists of steps, made on the library and on the model alike.
 
 use crate::area::STEP;
-use crate::machine::{Complaint, Machine};
-use crate::reach::Reach;
-use crate::{Device, Place};
+use crate::compare::Comparison;
+use crate::machine::Machine;
+use crate::reach::{goal, note, Fault};
+use crate::shrink::{shrink, Difference};
+use crate::tally::Tally;
+use crate::{hex, lists, Complaint, Device, Place};
 use model::calls::Call;
 use model::{Ask, Controller, ENQUEUE, PLACES, RECORD};
 use std::fmt::Write;
@@ -40,13 +42,6 @@ pub struct List {
     /// Of the bytes in the memory that is made a controller.
     pub seed: u64,
     pub steps: Vec<Step>,
-}
-
-/// Where library and model part.
-#[derive(Clone, Debug)]
-pub struct Difference {
-    pub at: usize,
-    pub what: Complaint,
 }
 
 /// A controller of the library and the model's, in step.
@@ -131,9 +126,28 @@ impl Side<'_> {
     }
 }
 
-impl Pair {
-    /// Plays a list on both; what is reached is noted.
-    pub fn play(&mut self, list: &List, mut reach: Option<&mut Reach>) -> Result<(), Difference> {
+impl Comparison for Pair {
+    const NAME: &'static str = "calls";
+    type List = List;
+    type Fault = Fault;
+
+    fn tally() -> Tally<Fault> {
+        Tally::new(goal())
+    }
+
+    fn list(seed: u64, number: usize) -> List {
+        lists::list(seed, number)
+    }
+
+    fn text(list: &List) -> String {
+        text(list)
+    }
+
+    fn play(
+        &mut self,
+        list: &List,
+        mut tally: Option<&mut Tally<Fault>>,
+    ) -> Result<(), Difference> {
         let model = Controller::fresh(list.capable);
         let mut first = Side { machine: &mut self.first, model: model.clone() };
         let mut second = Side { machine: &mut self.second, model };
@@ -146,11 +160,11 @@ impl Pair {
             match step {
                 Step::Part => in_step = false,
                 Step::Call(call) => {
-                    let before = reach.is_some().then(|| first.model.clone());
+                    let before = tally.is_some().then(|| first.model.clone());
                     let (answer, _) = first.call(call).map_err(different)?;
                     first.compare_state().map_err(different)?;
-                    if let (Some(reach), Some(before)) = (&mut reach, before) {
-                        reach.note(&before, call, answer, &first.model);
+                    if let (Some(tally), Some(before)) = (&mut tally, before) {
+                        note(tally, &before, call, answer, &first.model);
                     }
                     if in_step {
                         let (other, _) = second.call(call).map_err(in_second).map_err(different)?;
@@ -170,8 +184,8 @@ impl Pair {
                     }
                     moved(&mut first, &mut second, *more).map_err(different)?;
                     in_step = true;
-                    if let Some(reach) = &mut reach {
-                        reach.moves += 1;
+                    if let Some(tally) = &mut tally {
+                        tally.beside += 1;
                     }
                 }
             }
@@ -179,91 +193,18 @@ impl Pair {
         Ok(())
     }
 
-    /// A shorter list with a difference, from which no step and no two steps
-    /// can be left out, its calls made simpler where that still shows one.
-    pub fn shrink(&mut self, list: &List, difference: Difference) -> (List, Difference) {
-        let mut best = list.clone();
-        best.steps.truncate(difference.at + 1);
-        let mut shrinking = Shrinking { pair: self, best, shown: difference };
-        loop {
-            shrinking.leave_out();
-            if !shrinking.simplify() {
-                return (shrinking.best, shrinking.shown);
-            }
-        }
+    fn shrink(&mut self, list: &List, difference: Difference) -> (List, Difference) {
+        let of = |steps: &[Step]| List { steps: steps.to_vec(), ..*list };
+        let play = |steps: &[Step]| self.play(&of(steps), None);
+        let (steps, difference) = shrink(&list.steps, difference, play, simpler_step);
+        (of(&steps), difference)
     }
 }
 
-/// The shortest list so far, and its difference.
-struct Shrinking<'a> {
-    pair: &'a mut Pair,
-    best: List,
-    shown: Difference,
-}
-
-impl Shrinking<'_> {
-    /// Takes other steps if they still show a difference.
-    fn takes(&mut self, steps: Vec<Step>) -> bool {
-        let mut next = List { steps, ..self.best };
-        let Err(difference) = self.pair.play(&next, None) else { return false };
-        next.steps.truncate(difference.at + 1);
-        self.best = next;
-        self.shown = difference;
-        true
-    }
-
-    /// Leaves out runs of steps, then single steps, then two at once.
-    fn leave_out(&mut self) {
-        let mut run = self.best.steps.len().div_ceil(2);
-        while run > 0 {
-            let mut at = 0;
-            let mut shorter = false;
-            while at < self.best.steps.len() {
-                let mut steps = self.best.steps.clone();
-                steps.drain(at..(at + run).min(steps.len()));
-                if self.takes(steps) {
-                    shorter = true;
-                } else {
-                    at += run;
-                }
-            }
-            if !shorter || run > 1 {
-                run /= 2;
-            }
-        }
-        while self.best.steps.len() <= 40 && self.leaves_out_two() {}
-    }
-
-    fn leaves_out_two(&mut self) -> bool {
-        for one in 0..self.best.steps.len() {
-            for two in 0..one {
-                let mut steps = self.best.steps.clone();
-                steps.remove(one);
-                steps.remove(two);
-                if self.takes(steps) {
-                    return true;
-                }
-            }
-        }
-        false
-    }
-
-    /// Makes calls simpler; whether any was.
-    fn simplify(&mut self) -> bool {
-        let mut any = false;
-        let mut at = 0;
-        while let Some(step) = self.best.steps.get(at) {
-            let calls = if let Step::Call(call) = step { simpler(call) } else { vec![] };
-            let taken = calls.into_iter().any(|call| {
-                let mut steps = self.best.steps.clone();
-                steps[at] = Step::Call(call);
-                self.takes(steps)
-            });
-            any |= taken;
-            at += usize::from(!taken);
-        }
-        any
-    }
+/// Simpler steps, the simplest first.
+fn simpler_step(step: &Step) -> Vec<Step> {
+    let calls = if let Step::Call(call) = step { simpler(call) } else { vec![] };
+    calls.into_iter().map(Step::Call).collect()
 }
 
 /// Simpler calls, the simplest first.
@@ -328,7 +269,7 @@ fn in_second(what: Complaint) -> Complaint {
 }
 
 /// A list as text.
-pub fn text(list: &List) -> String {
+fn text(list: &List) -> String {
     let mut out = String::new();
     writeln!(out, "controller {} AIS", if list.capable { "with" } else { "without" }).unwrap();
     for (at, step) in list.steps.iter().enumerate() {
@@ -346,23 +287,5 @@ pub fn text(list: &List) -> String {
         }
         .unwrap();
     }
-    out
-}
-
-/// Bytes in hex, runs written short.
-fn hex(bytes: &[u8]) -> String {
-    let mut out = String::new();
-    let mut at = 0;
-    while at < bytes.len() {
-        let run = bytes[at..].iter().take_while(|&&byte| byte == bytes[at]).count();
-        if run > 3 {
-            write!(out, "{:02x}*{run} ", bytes[at]).unwrap();
-            at += run;
-        } else {
-            write!(out, "{:02x} ", bytes[at]).unwrap();
-            at += 1;
-        }
-    }
-    out.pop();
     out
 }

@@ -18,10 +18,11 @@ fn a_byte_written_beside() {
 
 #[test]
 fn a_byte_read_beyond() {
-    let touch =
-        Command::new(env!("CARGO_BIN_EXE_calls")).args(["0", "0", "touch"]).output().unwrap();
-    assert_eq!(touch.status.code(), Some(3));
-    assert!(String::from_utf8(touch.stderr)
-        .unwrap()
-        .contains("memory that was not lent was touched"));
+    for program in [env!("CARGO_BIN_EXE_calls"), env!("CARGO_BIN_EXE_xive_calls")] {
+        let touch = Command::new(program).args(["0", "0", "touch"]).output().unwrap();
+        assert_eq!(touch.status.code(), Some(3));
+        assert!(String::from_utf8(touch.stderr)
+            .unwrap()
+            .contains("memory that was not lent was touched"));
+    }
 }

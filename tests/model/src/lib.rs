@@ -5,6 +5,7 @@
 use std::collections::VecDeque;
 
 pub mod calls;
+pub mod xive;
 
 /// Adapter places.
 pub const PLACES: usize = 64;

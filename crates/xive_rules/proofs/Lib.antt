@@ -1,0 +1,4 @@
+pub mod Looks
+pub mod Laws
+pub mod Reachable
+pub mod Examples

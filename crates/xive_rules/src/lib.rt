@@ -1,0 +1,1 @@
+// The rules of paper 02, ticket 1, as a plain machine: definitions in specs/, examples and laws in proofs/. No code.

@@ -1,0 +1,18 @@
+-- `xive_sources::initialised_with` meets its contract. Assumes nothing.
+use mathlib.Core.Path.{refl}
+use borrow.Author.Needs.{needs}
+use Rattle.xive_sources.proofs.Laws.{initial-stored}
+use Rattle.xive_sources.proofs.initialised_with.Statement.{statement}
+use Rattle.xive_sources.proofs.initialised_with.Tie as tie
+
+mul-result : tie.Need-mul-result
+mul-result c = search needs
+
+add-result : tie.Need-add-result
+add-result c = search needs
+
+returns : tie.Need-returns
+returns c = initial-stored _ _ refl
+
+pub initialised-with-spec : {M : Type 1} → statement M
+initialised-with-spec = tie.close (tie.spec mul-result add-result returns)

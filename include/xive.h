@@ -1,8 +1,8 @@
 /*
  * The interrupt sources of one POWER9 guest: which there are, and where the interrupts of each one go,
- * as in Linux's KVM XIVE device. Link libxive.a (x86-64), which needs memset of the C library and
- * nothing else. C11 or C++11. Goes together with flic.h and libflic.a, included and linked in either
- * order.
+ * after the document of Linux's KVM XIVE device. Link libxive.a (x86-64), which needs memset of the C
+ * library and nothing else. C11 or C++11. Goes together with flic.h and libflic.a, included and linked
+ * in either order.
  *
  * Sources
  *   A source has a number, 0 to 1,023. It is initialised as an MSI (message-signalled) or an LSI
@@ -19,7 +19,8 @@
  *   controller, too: no call on them goes wrong, whoever wrote them.
  *   But what the stored numbers mean may change with a version of the library: they are no format for
  *   a file or the network. To move a controller read each source; on a fresh one initialise each that
- *   was there with the word type + 2 * level, and target it with its word if it was not masked.
+ *   was there with the word type + 2 * level, and target it with its word if it was not masked, each
+ *   word as 8 big-endian bytes.
  *
  * Arguments
  *   A payload is a pointer, then its length in bytes. The pointer may be null where the length is 0; no

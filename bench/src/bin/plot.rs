@@ -105,8 +105,9 @@ fn draw(rows: &[Row]) -> String {
                 y + ROW - 2.0
             ));
         }
+        let digits = if row.plain < 10.0 { 1 } else { 0 };
         put(format!(
-            "<text x=\"{}\" y=\"{}\">{:.0} and {:.0}</text>",
+            "<text x=\"{}\" y=\"{}\">{:.digits$} and {:.digits$}</text>",
             LEFT + WIDTH + 16.0,
             middle + 4.0,
             row.proved,

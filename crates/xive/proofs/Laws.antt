@@ -1,19 +1,18 @@
 -- From the tests and the inner calls of a public call to what it promises. Assumes nothing.
-use Prim.Native.Nat.{ℕ, zero, suc, _<_, _≤_}
+use Prim.Native.Nat.{ℕ, _<_, _≤_}
 use mathlib.Core.Path.{_≡_, refl, sym, ap, _∙_}
 use mathlib.Core.Bool.{true, false}
-use mathlib.Core.Option.{none, some}
-use mathlib.Core.List.{List, [], _∷_, map}
+use mathlib.Core.Option.{some}
+use mathlib.Core.List.{List, []}
 use borrow.Author.Tests.{le-leb, lt-leb, lt-ltb, le-ltb}
-use lib.ListN.{length, set, replicate}
+use lib.ListN.{length, set}
 use lib.Dec.{ltb}
-use Rattle.rules.specs.Bytes.{choose}
-use Rattle.rules.specs.Outcome.{refuse, accept, result, sees}
+use Rattle.rules.specs.Outcome.{refuse, accept, result}
 use Rattle.rules.proofs.Checks.{passes, fails}
 use Rattle.answers.specs.declared.Answer.{Answer}
 use Rattle.answers.specs.Answers.{answered, saw}
 use Rattle.xive_rules.specs.Words.{wordIn, serverIn}
-use Rattle.xive_rules.specs.Sources.{ticketLimits, Source, fresh, withSource, initial, targeted, initialises, targets, leaves, Ask, initialise, target, sync, reading, outcome, step, valuesOf, reads}
+use Rattle.xive_rules.specs.Sources.{ticketLimits, Source, withSource, initial, targeted, initialises, targets, leaves, Ask, initialise, target, sync, reading, outcome, step, valuesOf}
 use Rattle.xive_rules.proofs.Looks.{lacking, finding}
 use Rattle.xive_sources.specs.declared.Reading.{Reading}
 use Rattle.xive_sources.specs.Stored.{sourceOf, sourcesOf, Lacks, Finds, valuesIn}

@@ -1,6 +1,6 @@
 -- Demand 1 for the sources, spelled out on the values before and after a call: which codes there are, what a refusal
--- leaves, and that a call touches one source alone. No name of Surface stands here, so that to drop a promise there does
--- not change what is asked for here. That each function's contract has this consequence is the theorem `safety`
+-- leaves, and that a call touches one source alone. No name of Surface stands here, so that to drop a promise there
+-- does not change what is asked for here. That each function's contract has this consequence is the theorem `safety`
 -- (proofs/Safety).
 use Prim.Native.Nat.{ℕ}
 use mathlib.Core.Path.{_≡_}

@@ -1,5 +1,5 @@
-// The public calls of the POWER9 sources: what a caller may use is this crate, with the array of stored numbers that he lends and the `answers::Answer` or
-// `xive_sources::Reading` that he gets.
+// The public calls of the POWER9 sources: what a caller may use is this crate, with the array of stored numbers that he
+// lends and the `answers::Answer` or `xive_sources::Reading` that he gets.
 ghost use mathlib.Core.Path.{_≡_};
 ghost use mathlib.Core.List.{[]};
 ghost use Rattle.xive_rules.specs.Sources.{ticketLimits, fresh, initialise, target, sync};
@@ -14,8 +14,9 @@ use xive_sources::Look;
 use xive_sources::Reading;
 use xive_sources::SOURCES;
 use xive_sources::SourceNumber;
+use xive_sources::WORD_BYTES;
 
-// No source is initialised then. An array of zeros is the same.
+// Makes a fresh controller: no source is initialised. An array of zeros is one, too.
 #[no_mangle]
 pub extern "C" fn xive_make(sources: &mut [u64; SOURCES])
     ensures { λ _. ⌜ sourcesOf (now (sources .exit)) ≡ fresh ticketLimits ⌝ }
@@ -32,7 +33,7 @@ pub extern "C" fn xive_initialise(
 ) -> Answer
     ensures { λ r. ⌜ Called (initialise number) (now (sources .entry)) (now (sources .exit)) (now (payload .entry)) (saw r (now (payload .entry))) ⌝ }
 {
-    if payload.len() < 8 {
+    if payload.len() < WORD_BYTES {
         return answers::refuse(EFAULT);
     }
     if SOURCES as u64 <= number {
@@ -52,7 +53,7 @@ pub extern "C" fn xive_initialise(
 pub extern "C" fn xive_target(sources: &mut [u64; SOURCES], number: u64, payload: &[u8]) -> Answer
     ensures { λ r. ⌜ Called (target number) (now (sources .entry)) (now (sources .exit)) (now (payload .entry)) (saw r (now (payload .entry))) ⌝ }
 {
-    if payload.len() < 8 {
+    if payload.len() < WORD_BYTES {
         return answers::refuse(EFAULT);
     }
     match xive_sources::look_up(sources, SourceNumber(number)) {

@@ -1,15 +1,18 @@
--- Examples of paper 02, ticket 1, from 002's layouts, by computation: each line is a call on what the lines before it left of fresh sources, and what
--- its caller must see. Payloads are written out byte by byte.
+-- Examples of paper 02, ticket 1, from 002's layouts, by computation: each line is a call on what the lines before it
+-- left of fresh sources, and what its caller must see. Payloads are written out byte by byte. At the end the fields of
+-- targeting words.
 use Prim.Native.Nat.{ℕ, _+_, _^_}
 use mathlib.Core.Path.{_≡_, refl}
 use mathlib.Core.Bool.{Bool, true, false}
 use mathlib.Core.List.{List, [], _∷_, map}
 use Rattle.rules.specs.Bytes.{choose, number}
 use Rattle.rules.specs.Outcome.{need_else_⨾_, present_else_⨾_, result, Seen, seen}
-use Rattle.xive_rules.specs.Sources.{Limits, ticketLimits, Sources, fresh, initial, targeted, initialises, targets, onSource, leaves, Ask, initialise, target, sync, reading, outcome, Call, step, Values, valuesOf, sourceAt, reads}
+use Rattle.xive_rules.specs.Words.{priorityIn, serverIn, maskIn, effectiveIn, targetingWord}
+use Rattle.xive_rules.specs.Sources.{ticketLimits, Sources, fresh, initial, targeted, initialises, targets, onSource, leaves, Ask, initialise, target, sync, reading, outcome, step, Values, valuesOf, sourceAt, reads}
 
 pub data Label : Type 0 where
-  freshSources levels unusedBits lastSource wideNumber lastServer allOfServer lengths order wordZero maskBit wholeWord againAsMsi again refusedKeeps syncKeeps : Label
+  freshSources levels unusedBits firstSource lastSource wideNumber lastServer allOfServer lengths order wordZero maskBit wholeWord : Label
+  againAsMsi again refusedKeeps syncKeeps readingKeeps : Label
 
 pub record Line : Type 0 where
   pub ask : Ask
@@ -107,6 +110,16 @@ examples =
           ∷ [];
     }
     ∷ record {
+      label = firstSource;  -- what is read past the last one is not of the first
+      lines =
+          gets (initialise 0) lsiHigh 0
+          ∷ gets (target 0) aimed 0
+          ∷ gets (sync 0) [] 0
+          ∷ shows 0 1 1 false 0x246800000015
+          ∷ gets (reading 1024) [] 2
+          ∷ [];
+    }
+    ∷ record {
       label = lastSource;
       lines =
           gets (initialise 1023) lsiHigh 0
@@ -121,13 +134,17 @@ examples =
           ∷ [];
     }
     ∷ record {
-      label = wideNumber;  -- 2^32 + 5 is not source 5
+      label = wideNumber;  -- neither 2^32 + 5 nor 2^63 + 5 is source 5
       lines =
           gets (initialise 5) msi 0
           ∷ gets (initialise (2 ^ 32 + 5)) msi 7
           ∷ gets (target (2 ^ 32 + 5)) aimed 2
           ∷ gets (sync (2 ^ 32 + 5)) [] 2
           ∷ gets (reading (2 ^ 32 + 5)) [] 2
+          ∷ gets (initialise (2 ^ 63 + 5)) msi 7
+          ∷ gets (target (2 ^ 63 + 5)) aimed 2
+          ∷ gets (sync (2 ^ 63 + 5)) [] 2
+          ∷ gets (reading (2 ^ 63 + 5)) [] 2
           ∷ shows 5 0 0 true 0
           ∷ [];
     }
@@ -157,6 +174,7 @@ examples =
           ∷ gets (initialise 2) (0 ∷ 0 ∷ 0 ∷ 0 ∷ 0 ∷ 0 ∷ 1 ∷ []) 14
           ∷ gets (initialise 2) (0 ∷ 0 ∷ 0 ∷ 0 ∷ 0 ∷ 0 ∷ 0 ∷ 1 ∷ 2 ∷ []) 0
           ∷ shows 2 0 1 true 0
+          ∷ gets (target 2) [] 14
           ∷ gets (target 2) (0 ∷ 0 ∷ 0 ∷ 0 ∷ 0 ∷ 0 ∷ 0x15 ∷ []) 14
           ∷ gets (target 2) (0 ∷ 0 ∷ 0 ∷ 0 ∷ 0 ∷ 0 ∷ 0 ∷ 0x15 ∷ 255 ∷ []) 0
           ∷ shows 2 0 1 false 0x15
@@ -228,11 +246,63 @@ examples =
           ∷ [];
     }
     ∷ record {
-      label = syncKeeps;
-      lines = gets (initialise 8) lsiLow 0 ∷ gets (sync 8) [] 0 ∷ shows 8 0 1 true 0 ∷ gets (target 8) aimed 0 ∷ gets (sync 8) [] 0 ∷ shows 8 0 1 false 0x246800000015 ∷ [];
+      label = syncKeeps;  -- before and after the source is targeted; another source stays
+      lines =
+          gets (initialise 8) lsiHigh 0
+          ∷ gets (initialise 10) msi 0
+          ∷ gets (sync 8) [] 0
+          ∷ shows 8 1 1 true 0
+          ∷ gets (target 8) aimed 0
+          ∷ gets (sync 8) [] 0
+          ∷ shows 8 1 1 false 0x246800000015
+          ∷ shows 10 0 0 true 0
+          ∷ [];
+    }
+    ∷ record {
+      label = readingKeeps;  -- read twice it is the same, before and after the source is targeted; another source stays
+      lines =
+          gets (initialise 8) lsiHigh 0
+          ∷ gets (initialise 10) msi 0
+          ∷ shows 8 1 1 true 0
+          ∷ shows 8 1 1 true 0
+          ∷ gets (target 8) aimed 0
+          ∷ shows 8 1 1 false 0x246800000015
+          ∷ shows 8 1 1 false 0x246800000015
+          ∷ shows 10 0 0 true 0
+          ∷ [];
     }
     ∷ []
 
 pub examples-hold : map given examples ≡ map expected examples
 unfolding choose number need_else_⨾_ present_else_⨾_ result initial targeted initialises targets onSource leaves outcome step valuesOf sourceAt fresh unread gets shows gives play given expectedOf expected msi lsiLow lsiHigh aimed examples
 examples-hold = refl
+
+-- what a word of 002, group 3, says
+pub record Fields : Type 0 where
+  pub word : ℕ
+  pub priority : ℕ
+  pub server : ℕ
+  pub mask : ℕ
+  pub effective : ℕ
+
+unfoldable pub says : ℕ → ℕ → ℕ → ℕ → ℕ → Fields
+says word priority server mask effective = record { word = word; priority = priority; server = server; mask = mask; effective = effective }
+
+-- a word, then one for each field whose bits alone are set, all of them; then all
+unfoldable pub words : List Fields
+words =
+    says 0x246800000015 5 2 0 0x1234
+    ∷ says 0x7 7 0 0 0
+    ∷ says 0xfffffff8 0 0x1fffffff 0 0
+    ∷ says 0x100000000 0 0 1 0
+    ∷ says 0xfffffffe00000000 0 0 0 0x7fffffff
+    ∷ says 0xffffffffffffffff 7 0x1fffffff 1 0x7fffffff
+    ∷ []
+
+-- the word of the fields, and the fields of the word
+unfoldable pub readOf : Fields → Fields
+readOf f = says (targetingWord (f .priority) (f .server) (f .mask) (f .effective)) (priorityIn (f .word)) (serverIn (f .word)) (maskIn (f .word)) (effectiveIn (f .word))
+
+pub words-hold : map readOf words ≡ words
+unfolding says words readOf
+words-hold = refl

@@ -1,20 +1,20 @@
 -- What a reader of paper 02, ticket 1, asks of the rules, for any limits. Assumes nothing.
-use Prim.Native.Nat.{ℕ, zero, suc, _+_, _*_, _/_, _%_, _^_, _<_, _≤_, min}
+use Prim.Native.Nat.{ℕ, zero, suc, _+_, _*_, _%_, _<_, _≤_, min}
 use mathlib.Core.Path.{_≡_, refl, sym, ap, _∙_}
 use mathlib.Core.Bool.{Bool, true, false, true≢false}
 use mathlib.Core.Option.{Option, none, some}
 use mathlib.Core.List.{List, [], _∷_, List·Memᴰ, List·Memᴰ·head, List·Memᴰ·tail}
 use native.Mathlib.Omega.{arith}
 use native.Mathlib.Decide.{decLt}
-use borrow.Author.Tests.{le-leb, lt-leb, lt-ltb, le-ltb, ltb-true, eqb-true}
-use lib.ListN.{length, getD, set, take, drop, length-take, length-set}
+use borrow.Author.Tests.{le-leb, lt-leb, lt-ltb, ltb-true, eqb-true}
+use lib.ListN.{length, getD, take, length-take, length-set}
 use lib.Seq.{getD-set-same, getD-set-other}
 use lib.Dec.{leb, ltb, eqb}
 use Rattle.rules.specs.Bytes.{choose, bytes}
-use Rattle.rules.specs.Outcome.{EINVAL, EFAULT, E2BIG, Outcome, refuseWith, accept, resetWith, refuse, need_else_⨾_, present_else_⨾_, Answer, result}
+use Rattle.rules.specs.Outcome.{EINVAL, EFAULT, E2BIG, Outcome, refuseWith, accept, resetWith, need_else_⨾_, present_else_⨾_, Answer, result}
 use Rattle.rules.proofs.Checks.{passes, Comes, need-comes, present-comes}
 use Rattle.rules.proofs.Codec.{number-bytes}
-use Rattle.xive_rules.specs.Words.{bits, wordIn, kindIn, levelIn, priorityIn, serverIn, maskIn, effectiveIn, targetingWord}
+use Rattle.xive_rules.specs.Words.{wordIn, kindIn, levelIn, priorityIn, serverIn, maskIn, effectiveIn, targetingWord}
 use Rattle.xive_rules.specs.Sources.{ENOENT, Limits, Source, Sources, withSource, initial, targeted, initialises, targets, onSource, leaves, Ask, initialise, target, sync, reading, outcome, Call, step, fresh, valuesOf, sourceAt, reads}
 use Rattle.xive_rules.proofs.Looks.{finding}
 
@@ -28,8 +28,8 @@ numberOf (target n) = n
 numberOf (sync n) = n
 numberOf (reading n) = n
 
--- ---- every answer: a code that the ticket names for this call, count 0, the payload as it was; a refusal leaves every source; an accepted call leaves
--- all sources but its own, and how many there are
+-- ---- every answer: a code that the ticket names for this call, count 0, the payload as it was; a refusal leaves every
+-- source; an accepted call leaves all sources but its own, and how many there are
 abbrev pub codesOf : Ask → List ℕ
 codesOf (initialise n) = EFAULT ∷ E2BIG ∷ []
 codesOf (target n) = EFAULT ∷ ENOENT ∷ EINVAL ∷ []
@@ -46,15 +46,16 @@ one-set s n x = (length-set s n (some x), λ m h. getD-set-other s n m (some x) 
 none-set : (s : Sources) (n : ℕ) → OthersStay n s s
 none-set s n = (refl, λ m h. refl)
 
+-- no call is refused part-way
+abbrev pub Never : ℕ → ℕ → ℕ → Type 0
+Never code place further = ⊥
+
 module _ (s : Sources) (n : ℕ) (codes : List ℕ) where
   abbrev Refuses : ℕ → ℕ → Type 0
   Refuses code count = List·Memᴰ code codes × (count ≡ 0)
 
   abbrev Accepts : ℕ → Sources → List ℕ → Type 0
   Accepts count next written = (count ≡ 0) × (written ≡ []) × OthersStay n s next
-
-  abbrev Never : ℕ → ℕ → ℕ → Type 0
-  Never code place further = ⊥
 
   abbrev Known : Outcome Sources → Type 0
   Known = Comes Refuses Accepts Never
@@ -116,7 +117,8 @@ pub nothing-changes : (L : Limits) (s : Sources) (n : ℕ) (b : List ℕ) → (s
 unfolding step outcome leaves onSource
 nothing-changes L s n b = let e = left-alone L s b (ltb n (L .sources)) (getD s n none) in (e, e)
 
--- ---- payload bytes past the eighth decide nothing: payloads that begin with the same eight bytes, or the same fewer, come to the same
+-- ---- payload bytes past the eighth decide nothing: payloads that begin with the same eight bytes, or the same fewer,
+-- come to the same
 eighth : (b c : List ℕ) → take 8 b ≡ take 8 c → leb 8 (length b) ≡ leb 8 (length c)
 eighth b c h =
     let e : min 8 (length b) ≡ min 8 (length c) = sym (length-take 8 b) ∙ ap length h ∙ length-take 8 c in
@@ -135,8 +137,8 @@ past-eighth L s (target n) b c h = rw (eighth b c h, h)
 past-eighth L s (sync n) b c h = refl
 past-eighth L s (reading n) b c h = refl
 
--- ---- unused bits decide nothing: initialising words that agree in type and level come to the same, and so do those of two MSIs, whatever their
--- level bits
+-- ---- unused bits decide nothing: initialising words that agree in type and level come to the same, and so do those of
+-- two MSIs, whatever their level bits
 level-same : (t : Bool) (l m : ℕ) → (t ≡ true → l ≡ m) → choose t l 0 ≡ choose t m 0
 unfolding choose
 level-same true l m h = h refl
@@ -166,13 +168,23 @@ target-accepted L s n b x h e k =
 pub not-some : {X A : Type 0} (x : X) → none ≡ some x → A
 not-some x h = absurd (true≢false (let z : true ≡ false = cc in z))
 
+pub initialise-leaves : (L : Limits) (s : Sources) (n : ℕ) (b : List ℕ) → 8 ≤ length b → n < L .sources
+    → step L s (call (initialise n) b) .next ≡ withSource n (initial (wordIn b)) s
+unfolding step result
+initialise-leaves L s n b h k = rw (initialise-accepted L s n b h k)
+
+pub target-leaves : (L : Limits) (s : Sources) (n : ℕ) (b : List ℕ) (x : Source) → 8 ≤ length b → sourceAt L s n ≡ some x → serverIn (wordIn b) < L .servers
+    → step L s (call (target n) b) .next ≡ withSource n (targeted (wordIn b) x) s
+unfolding step result
+target-leaves L s n b x h e k = rw (target-accepted L s n b x h e k)
+
 -- the place of a source that is there
 within : (s : Sources) (n : ℕ) (x : Source) → getD s n none ≡ some x → n < length s
 within [] n x h = not-some x h
 within (y ∷ s) zero x h = omega arith
 within (y ∷ s) (suc n) x h = omega (arith, within s n x h)
 
-place-of : (L : Limits) (s : Sources) (n : ℕ) (x : Source) → sourceAt L s n ≡ some x → (n < L .sources) × (n < length s)
+pub place-of : (L : Limits) (s : Sources) (n : ℕ) (x : Source) → sourceAt L s n ≡ some x → (n < L .sources) × (n < length s)
 unfolding sourceAt choose
 place-of L s n x h = by-test (ltb n (L .sources)) refl h
   where
@@ -180,22 +192,24 @@ place-of L s n x h = by-test (ltb n (L .sources)) refl h
     by-test true e k = (ltb-true n (L .sources) e, within s n x k)
     by-test false e k = not-some x k
 
-read-set : (L : Limits) (s : Sources) (n : ℕ) (x : Source) → (n < L .sources) × (n < length s) → reads L (withSource n x s) n ≡ valuesOf (some x)
+pub at-set : (L : Limits) (s : Sources) (n : ℕ) (x : Source) → (n < L .sources) × (n < length s) → sourceAt L (withSource n x s) n ≡ some x
 unfolding sourceAt choose
-read-set L s n x h = ap valuesOf (rw (lt-ltb n (L .sources) (h .0)) (getD-set-same s n (some x) none (h .1)))
+at-set L s n x h = rw (lt-ltb n (L .sources) (h .0)) (getD-set-same s n (some x) none (h .1))
 
--- 'A source is masked from initialising', 'initialising again drops the targeting', 'level is kept for an LSI and 0 for an MSI'
+-- 'A source is masked from initialising', 'initialising again drops the targeting', 'level is kept for an LSI and 0 for
+-- an MSI'
 pub initialise-masks : (L : Limits) (s : Sources) (n : ℕ) (b : List ℕ) → 8 ≤ length b → n < L .sources → n < length s
     → reads L (step L s (call (initialise n) b) .next) n
     ≡ record { level = choose (eqb (kindIn (wordIn b)) 1) (levelIn (wordIn b)) 0; kind = kindIn (wordIn b); masked = true; word = 0 }
-unfolding step result valuesOf initial
-initialise-masks L s n b h k m = rw (initialise-accepted L s n b h k) (read-set L s n (initial (wordIn b)) (k, m))
+unfolding valuesOf initial
+initialise-masks L s n b h k m = rw (initialise-leaves L s n b h k) (ap valuesOf (at-set L s n (initial (wordIn b)) (k, m)))
 
--- '.. until it is targeted'; type and level stay; the word is read back, whatever it is: there is no premise on its mask bit, and it may be 0
+-- '.. until it is targeted'; type and level stay; the word is read back, whatever it is: there is no premise on its
+-- mask bit, and it may be 0
 pub target-unmasks : (L : Limits) (s : Sources) (n : ℕ) (b : List ℕ) (x : Source) → 8 ≤ length b → sourceAt L s n ≡ some x → serverIn (wordIn b) < L .servers
     → reads L (step L s (call (target n) b) .next) n ≡ record { level = x .level; kind = x .kind; masked = false; word = wordIn b }
-unfolding step result valuesOf targeted
-target-unmasks L s n b x h e k = rw (target-accepted L s n b x h e k) (read-set L s n (targeted (wordIn b) x) (place-of L s n x e))
+unfolding valuesOf targeted
+target-unmasks L s n b x h e k = rw (target-leaves L s n b x h e k) (ap valuesOf (at-set L s n (targeted (wordIn b) x) (place-of L s n x e)))
 
 -- a word of 64 bits as a monitor gives it, big-endian
 pub given-word : (w : ℕ) → w < 18446744073709551616 → wordIn (bytes 8 w) ≡ w

@@ -1,13 +1,12 @@
--- What every list of calls leaves of fresh sources: as many sources as there were; of each that is initialised type and level are one bit, the level
--- of an MSI is 0, and the server of the targeting is one that there is. Assumes nothing.
-use Prim.Native.Nat.{ℕ, _+_, _*_, _<_}
-use mathlib.Core.Path.{_≡_, refl, sym, ap, _∙_, subst}
+-- What every list of calls leaves of fresh sources: as many sources as there were; of each that is initialised type and
+-- level are one bit, the level of an MSI is 0, and the server of the targeting is one that there is. Assumes nothing.
+use Prim.Native.Nat.{ℕ, _<_}
+use mathlib.Core.Path.{_≡_, refl, _∙_, subst}
 use mathlib.Core.Bool.{Bool, true, false}
 use mathlib.Core.Option.{Option, none, some}
 use mathlib.Core.List.{List, [], _∷_}
 use native.Mathlib.Omega.{arith}
-use native.Mathlib.Decide.{decLt}
-use borrow.Author.Tests.{ltb-true, eq-eqb, ne-eqb}
+use borrow.Author.Tests.{ltb-true}
 use lib.ListN.{length, getD, length-set, length-replicate}
 use lib.Dec.{leb, ltb, eqb}
 use Rattle.rules.specs.Bytes.{choose}
@@ -17,7 +16,7 @@ use Rattle.rules.proofs.Lists.{all-set, all-get, all-replicate}
 use Rattle.rules.proofs.Checks.{Comes, need-comes, present-comes}
 use Rattle.xive_rules.specs.Words.{wordBytes, wordIn, kindIn, levelIn, serverIn}
 use Rattle.xive_rules.specs.Sources.{ENOENT, Limits, Source, Sources, fresh, withSource, initial, targeted, initialises, targets, onSource, leaves, Ask, initialise, target, sync, reading, outcome, Call, step, after, valuesOf, sourceAt, reads}
-use Rattle.xive_rules.proofs.Laws.{not-some, call}
+use Rattle.xive_rules.proofs.Laws.{Never, not-some}
 
 pub record SoundSource (L : Limits) (x : Source) : Type 0 where
   pub kind : x .kind < 2
@@ -77,9 +76,6 @@ module _ (L : Limits) (s : Sources) (sound : Sound L s) where
   abbrev Leaves : ℕ → Sources → List ℕ → Type 0
   Leaves count next written = Sound L next
 
-  abbrev Never : ℕ → ℕ → ℕ → Type 0
-  Never code place further = ⊥
-
   abbrev Keeps : Outcome Sources → Type 0
   Keeps = Comes Any Leaves Never
 
@@ -132,17 +128,3 @@ msi-reads-zero L cs n = by-test (ltb n (L .sources)) _ (all-get (SoundPlace L) (
     by-test : (t : Bool) (o : Option Source) → SoundPlace L o → valuesOf (choose t o none) .kind ≡ 0 → valuesOf (choose t o none) .level ≡ 0
     by-test true o h k = of-one o h k
     by-test false o h k = refl
-
--- A source that calls can leave is made again from what is read of it: initialised with its type and level, targeted with its word.
-pub made-again : (L : Limits) (x : Source) → SoundSource L x → initial (x .kind + 2 * x .level) ≡ record { kind = x .kind; level = x .level; targeting = none }
-unfolding initial choose
-made-again L x h =
-    let k : kindIn (x .kind + 2 * x .level) ≡ x .kind = omega (arith, h .kind) in
-    let l : levelIn (x .kind + 2 * x .level) ≡ x .level = omega (arith, h .kind, h .level) in
-    rw (k, l, kept-level (x .kind) (x .level) (h .kind) (h .msi))
-  where
-    kept-level : (k l : ℕ) → k < 2 → (k ≡ 0 → l ≡ 0) → choose (eqb k 1) l 0 ≡ l
-    kept-level k l p q = elim (decLt k 1) [
-      | yes z ↦ rw (ne-eqb k 1 (λ e. omega (arith, e, z))) (sym (q (omega (arith, z))))
-      | no z ↦ rw (eq-eqb k 1 (omega (arith, p, z)))
-    ]

@@ -10,8 +10,8 @@ use Rattle.rules.specs.Bytes.{choose}
 use Rattle.rules.specs.Outcome.{EINVAL, EFAULT, E2BIG, Outcome, accept, need_else_⨾_, present_else_⨾_, Answer, result}
 use Rattle.xive_rules.specs.Words.{wordBytes, wordIn, kindIn, levelIn, serverIn}
 
--- 'not initialised' has paper 01's EINVAL, 22, a short payload its EFAULT, 14, a source number too large on initialise
--- its E2BIG, 7. Elsewhere a source number too large is 2.
+-- A payload that is too short has paper 01's EFAULT, 14; a source number too large on initialise its E2BIG, 7; 'not
+-- initialised' and 'server above 15' its EINVAL, 22. Elsewhere a source number too large is 2.
 abbrev pub ENOENT : ℕ
 ENOENT = 2
 
@@ -118,10 +118,10 @@ unfoldable pub valuesOf : Option Source → Values
 valuesOf none = record { level = 0; kind = 0; masked = false; word = 0 }
 valuesOf (some x) = record { level = x .level; kind = x .kind; masked = isMasked (x .targeting); word = wordOrZero (x .targeting) }
 
--- What a reading gives beside its answer. Where it is refused, there is no initialised source of this number, and every
--- value is 0 or false.
+-- The initialised source of a number, if there is one.
 unfoldable pub sourceAt : Limits → Sources → ℕ → Option Source
 sourceAt L s n = choose (ltb n (L .sources)) (getD s n none) none
 
+-- What a reading gives beside its answer. Where it is refused, there is no such source, and every value is 0 or false.
 abbrev pub reads : Limits → Sources → ℕ → Values
 reads L s n = valuesOf (sourceAt L s n)

@@ -2,18 +2,15 @@
 use Prim.Native.Nat.{ℕ, zero, suc, _+_, _*_, _/_, _%_, _<_, _≤_}
 use mathlib.Core.Path.{_≡_, refl, sym, ap, _∙_, subst}
 use mathlib.Core.Bool.{Bool, true, false}
-use mathlib.Core.Option.{Option, none, some}
-use mathlib.Core.List.{List, [], _∷_, map}
+use mathlib.Core.Option.{none, some}
+use mathlib.Core.List.{List, [], _∷_}
 use native.Mathlib.Omega.{arith}
-use native.Mathlib.Decide.{decLt}
 use borrow.Author.Tests.{ne-eqb, lt-ltb, le-ltb}
-use lib.ListN.{length, getD, set, replicate, List·getD-map, length-map}
+use lib.ListN.{getD, set, replicate, List·getD-map}
 use lib.Dec.{eqb}
 use Rattle.rules.specs.Bytes.{choose}
-use Rattle.rules.specs.Invariant.{All}
-use Rattle.xive_rules.specs.Words.{bits, kindIn, levelIn, serverIn, targetingWord}
-use Rattle.xive_rules.specs.Sources.{ticketLimits, Source, Sources, initial, targeted, sourceAt, valuesOf}
-use Rattle.xive_rules.proofs.Reachable.{SoundSource, SoundPlace, Sound}
+use Rattle.xive_rules.specs.Words.{bits, kindIn, levelIn, serverIn}
+use Rattle.xive_rules.specs.Sources.{Source, Sources, initial, targeted, sourceAt, valuesOf}
 use Rattle.xive_sources.specs.declared.Look.{Look}
 use Rattle.xive_sources.specs.declared.Look.the-variants.{At, Refused}
 use Rattle.xive_sources.specs.Stored.{wordOf, targetingOf, levelOf, sourceOf, sourcesOf, Lacks, Finds, Looked}
@@ -52,12 +49,12 @@ initial-stored v w e =
     as-initialised v (omega arith) ∙ rw (k, l, untargeted v (omega arith))
 
 -- the source of an initialised number
-the-one : {A : Type 0} (t : Bool) (x y : A) → choose t none (some y) ≡ some x → y ≡ x
+pub the-one : {A : Type 0} (t : Bool) (x y : A) → choose t none (some y) ≡ some x → y ≡ x
 unfolding choose
 the-one true x y h = cc
 the-one false x y h = cc
 
-source-of : (v : ℕ) (x : Source) → sourceOf v ≡ some x → record { kind = bits 9 1 v; level = levelOf v; targeting = targetingOf v } ≡ x
+pub source-of : (v : ℕ) (x : Source) → sourceOf v ≡ some x → record { kind = bits 9 1 v; level = levelOf v; targeting = targetingOf v } ≡ x
 unfolding sourceOf
 source-of v x h = the-one (eqb (bits 7 1 v) 0) x _ h
 
@@ -176,36 +173,3 @@ set-stored (u ∷ l) (suc n) v = ap (λ (s : Sources). sourceOf u ∷ s) (set-st
 pub zeros-stored : (n : ℕ) → sourcesOf (replicate n 0) ≡ replicate n none
 zeros-stored zero = refl
 zeros-stored (suc n) = rw (uninitialised 0 refl, zeros-stored n)
-
--- every array of stored numbers stands for sources of which everything holds that holds of those which calls leave
-level-small : (v : ℕ) → levelOf v < 2
-level-small v = elim (decLt (bits 9 1 v) 1) [
-  | yes p ↦ rw (as-msi v (λ e. omega (arith, e, p))) (omega arith)
-  | no p ↦ rw (as-lsi v (omega (arith, p))) (omega arith)
-]
-
-server-there : (p s m e : ℕ) → p < 8 → s < 16 → m < 2 → serverIn (targetingWord p s m e) < 16
-server-there p s m e h k l = omega arith
-
-word-server : (v w : ℕ) → targetingOf v ≡ some w → serverIn w < 16
-unfolding targetingOf
-word-server v w h =
-    subst (λ (u : ℕ). serverIn u < 16) (the-one (eqb (bits 8 1 v) 0) w (wordOf v) h)
-    (server-there (bits 0 3 v) (bits 3 4 v) (bits 32 1 v) (bits 33 31 v) (omega arith) (omega arith) (omega arith))
-
-sound-number : (v : ℕ) → SoundSource ticketLimits (record { kind = bits 9 1 v; level = levelOf v; targeting = targetingOf v })
-sound-number v =
-    record { kind = omega arith; level = level-small v; msi = λ e. as-msi v (λ k. omega (arith, e, k)); server = λ w h. word-server v w h }
-
-sound-place : (v : ℕ) → SoundPlace ticketLimits (sourceOf v)
-sound-place v = elim (decLt (bits 7 1 v) 1) [
-  | yes p ↦ subst (SoundPlace ticketLimits) (sym (uninitialised v (omega (arith, p)))) tt
-  | no p ↦ subst (SoundPlace ticketLimits) (sym (as-initialised v (omega (arith, p)))) (sound-number v)
-]
-
-pub any-sound : (l : List ℕ) → length l ≡ ticketLimits .sources → Sound ticketLimits (sourcesOf l)
-any-sound l h = record { number = length-map l sourceOf ∙ h; each = all l }
-  where
-    all : (m : List ℕ) → All (SoundPlace ticketLimits) (sourcesOf m)
-    all [] = tt
-    all (v ∷ m) = (sound-place v, all m)

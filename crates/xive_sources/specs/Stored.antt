@@ -1,10 +1,11 @@
 -- A source as one stored number of 64 bits. A targeting word that was accepted has zeros in its bits 31 to 7, since the
 -- server is below 16; four of them say what else there is to know:
 --
---   bits     63 .. 33           32     10      9      8          7             6 .. 3   2 .. 0
---   values   effective number   mask   level   type   targeted   initialised   server   priority
+--   bits     63 .. 33           32     31 .. 11   10      9      8          7             6 .. 3   2 .. 0
+--   values   effective number   mask   not read   level   type   targeted   initialised   server   priority
 --
--- Every number stands for a source that calls can leave so, and 0 for one that is not initialised.
+-- A number whose bit 7 is 0, as 0 is, stands for a source that is not initialised, and every other one for a source
+-- that calls can leave so (proofs/Any).
 use Prim.Native.Nat.{ℕ, _<_}
 use mathlib.Core.Path.{_≡_}
 use mathlib.Core.Option.{Option, none, some}
@@ -13,7 +14,7 @@ use lib.Dec.{eqb, ltb}
 use Rattle.rules.specs.Bytes.{choose}
 use Rattle.rules.specs.Outcome.{EINVAL}
 use Rattle.xive_rules.specs.Words.{bits, targetingWord}
-use Rattle.xive_rules.specs.Sources.{ENOENT, Limits, ticketLimits, Source, Sources, sourceAt, Values}
+use Rattle.xive_rules.specs.Sources.{ENOENT, ticketLimits, Source, Sources, sourceAt, Values}
 use Rattle.xive_sources.specs.declared.Look.{Look}
 use Rattle.xive_sources.specs.declared.Look.the-variants.{At, Refused}
 use Rattle.xive_sources.specs.declared.Reading.{Reading}

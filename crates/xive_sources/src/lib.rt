@@ -1,8 +1,9 @@
-// Inner crate: POWER9 sources as stored numbers, by value and in the lent array; kinds of numbers that must not be confused.
+// Inner crate: POWER9 sources as stored numbers, by value and in the lent array, and types of their own for numbers
+// that must not be confused. Which bit of a stored number says what is drawn in specs/Stored.antt.
 ghost use mathlib.Core.Path.{_≡_};
 ghost use mathlib.Core.Bool.{false};
 ghost use mathlib.Core.Option.{some};
-ghost use Prim.Native.Nat.{ℕ, _<_};
+ghost use Prim.Native.Nat.{_<_};
 ghost use lib.Dec.{ltb};
 ghost use lib.ListN.{set};
 ghost use Rattle.xive_rules.specs.Words.{serverIn, targetingWord, bits};
@@ -16,6 +17,9 @@ pub const ENOENT: u32 = 2;
 pub const SOURCES: usize = 1024;
 
 pub const SERVERS: u64 = 16;
+
+// The bytes of a payload that are read.
+pub const WORD_BYTES: usize = 8;
 
 // The number of a source: a place in the lent array, and nothing else.
 pub struct SourceNumber(pub u64);
@@ -65,7 +69,8 @@ pub fn is_server(server: Server) -> bool
     server.0 < SERVERS
 }
 
-// The stored number of a source that was initialised with this word. The level of an MSI is stored, too, and never read (`level_of`).
+// The stored number of a source that was initialised with this word. The level of an MSI is stored, too, and never read
+// (`level_of`).
 pub fn initialised_with(word: u64) -> u64
     ensures { λ r. ⌜ sourceOf r ≡ some (initial word) ⌝ }
 {
@@ -102,7 +107,7 @@ pub fn store(sources: &mut [u64; SOURCES], number: SourceNumber, stored: u64)
     sources[number.0 as usize] = stored;
 }
 
-// The targeting of a source, out of its stored number.
+// The targeting of a source, out of its stored number: without the bits that say what else there is to know.
 pub fn targeting_of(stored: u64) -> Targeting
     ensures { λ r. ⌜ (r .priority .0 ≡ bits 0 3 stored) × (r .server .0 ≡ bits 3 4 stored) × (r .mask ≡ bits 32 1 stored) × (r .effective .0 ≡ bits 33 31 stored) ⌝ }
 {

@@ -1,5 +1,5 @@
 -- `xive_sources::read_out` meets its contract. Assumes nothing.
-use mathlib.Core.Path.{refl, _∙_}
+use mathlib.Core.Path.{refl}
 use borrow.Author.Needs.{needs}
 use Rattle.xive_sources.proofs.Laws.{masked-values, targeted-values}
 use Rattle.xive_sources.proofs.read_out.Statement.{statement}

@@ -7,7 +7,8 @@ use Rattle.rules.specs.Bytes.{field}
 abbrev pub bits : (from size : ℕ) → ℕ → ℕ
 bits from size word = word / 2 ^ from % 2 ^ size
 
--- A payload begins with a word of 8 bytes, big-endian as every field of paper 01; what comes after it is not read.
+-- Ticket 1: a payload begins with a word of 8 bytes, big-endian as every field of paper 01; what comes after it is not
+-- read.
 abbrev pub wordBytes : ℕ
 wordBytes = 8
 

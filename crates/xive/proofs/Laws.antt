@@ -23,7 +23,7 @@ use Rattle.xive.specs.Surface.{Called, Read}
 module _ (ask : Ask) (l b : List ℕ) (r : Answer) where
   refused : (code : ℕ) → outcome ticketLimits (sourcesOf l) ask b ≡ refuse code → r ≡ answered code 0 → Called ask l l b (saw r b)
   unfolding step result
-  refused code e f = record { steps = rw (e, f); kept = λ k. (refl, refl) }
+  refused code e f = record { steps = rw (e, f); kept = λ k. refl }
 
   stored-anew : (n v : ℕ) (x : Source) → outcome ticketLimits (sourcesOf l) ask b ≡ accept 0 (withSource n x (sourcesOf l)) [] → r ≡ answered 0 0
       → sourceOf v ≡ some x → Called ask l (set l n v) b (saw r b)
@@ -36,7 +36,7 @@ module _ (ask : Ask) (l b : List ℕ) (r : Answer) where
 
   unchanged : outcome ticketLimits (sourcesOf l) ask b ≡ accept 0 (sourcesOf l) [] → r ≡ answered 0 0 → Called ask l l b (saw r b)
   unfolding step result
-  unchanged e f = record { steps = rw (e, f); kept = λ k. (refl, refl) }
+  unchanged e f = record { steps = rw (e, f); kept = λ k. refl }
 
 module _ (n : ℕ) (l b : List ℕ) (r : Answer) where
   pub initialise-short : length b < 8 → r ≡ answered 14 0 → Called (initialise n) l l b (saw r b)

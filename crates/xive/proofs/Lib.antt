@@ -1,3 +1,4 @@
 pub mod Laws
 pub mod Pins
 pub mod Safety
+pub mod Wrong

@@ -36,7 +36,7 @@ use Rattle.xive.proofs.xive_read as xive-read
 safe : (ask : Ask) (l l′ b : List ℕ) (x : Seen) → Called ask l l′ b x → Safe (codesOf ask) (numberOf ask) l l′ (x .code) (x .count)
 safe ask l l′ b x h =
     let a = subst (EveryAnswer (sourcesOf l) (call ask b)) (h .steps) (every-answer ticketLimits (sourcesOf l) (call ask b)) in
-    record { known = a .code; no-count = a .count; refused = λ k. h .kept k .0; others = a .others .1 }
+    record { known = a .code; no-count = a .count; refused = h .kept; others = a .others .1 }
 
 gives-nothing : (n : ℕ) (l : List ℕ) (r : Reading) → Read n l r → GivesNothing r
 gives-nothing n l r h k =

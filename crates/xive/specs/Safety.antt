@@ -22,4 +22,5 @@ pub record Safe (codes : List ℕ) (number : ℕ) (before after : List ℕ) (cod
 
 -- A reading that is refused gives 0 and false.
 abbrev pub GivesNothing : Reading → Type 0
-GivesNothing r = (r .code ≡ 0 → ⊥) → (r .level ≡ 0) × (r .kind ≡ 0) × (r .masked ≡ false) × (r .word ≡ 0)
+GivesNothing r =
+    (r .code ≡ 0 → ⊥) → (r .level ≡ 0) × (r .kind ≡ 0) × (r .masked ≡ false) × (r .word ≡ 0)

@@ -13,7 +13,7 @@ use Rattle.xive_sources.specs.Stored.{sourcesOf, valuesIn}
 -- equal, not only what they stand for.
 pub record Called (ask : Ask) (before after : List ℕ) (b : List ℕ) (x : Seen) : Type 0 where
   pub steps : step ticketLimits (sourcesOf before) (record { ask = ask; payload = b }) ≡ answering x (sourcesOf after)
-  pub kept : (x .code ≡ 0 → ⊥) → (after ≡ before) × (x .buffer ≡ b)
+  pub kept : (x .code ≡ 0 → ⊥) → after ≡ before
 
 -- A reading, which is lent no payload, gives also the values of the source, and those of none where it is refused.
 pub record Read (number : ℕ) (stored : List ℕ) (r : Reading) : Type 0 where

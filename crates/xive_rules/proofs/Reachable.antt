@@ -36,12 +36,12 @@ pub fresh-sound : (L : Limits) → Sound L (fresh L)
 unfolding fresh
 fresh-sound L = record { number = length-replicate (L .sources) none; each = all-replicate (SoundPlace L) (L .sources) none tt }
 
-level-chosen : (t : Bool) (l : ℕ) → l < 2 → choose t l 0 < 2
+pub level-chosen : (t : Bool) (l : ℕ) → l < 2 → choose t l 0 < 2
 unfolding choose
 level-chosen true l h = h
 level-chosen false l h = omega arith
 
-msi-level : (k l : ℕ) → k ≡ 0 → choose (eqb k 1) l 0 ≡ 0
+pub msi-level : (k l : ℕ) → k ≡ 0 → choose (eqb k 1) l 0 ≡ 0
 unfolding choose
 msi-level k l h = rw h
 

@@ -2,15 +2,16 @@
 use Prim.Native.Nat.{ℕ, zero, suc, _+_, _*_, _/_, _%_, _<_, _≤_}
 use mathlib.Core.Path.{_≡_, refl, sym, ap, _∙_, subst}
 use mathlib.Core.Bool.{Bool, true, false}
-use mathlib.Core.Option.{none, some}
+use mathlib.Core.Option.{Option, none, some}
 use mathlib.Core.List.{List, [], _∷_}
 use native.Mathlib.Omega.{arith}
 use borrow.Author.Tests.{ne-eqb, lt-ltb, le-ltb}
 use lib.ListN.{getD, set, replicate, List·getD-map}
 use lib.Dec.{eqb}
 use Rattle.rules.specs.Bytes.{choose}
-use Rattle.xive_rules.specs.Words.{bits, kindIn, levelIn, serverIn}
+use Rattle.xive_rules.specs.Words.{bits, kindIn, levelIn, priorityIn, serverIn, maskIn, effectiveIn}
 use Rattle.xive_rules.specs.Sources.{Source, Sources, initial, targeted, sourceAt, valuesOf}
+use Rattle.xive_rules.proofs.Laws.{fields-whole}
 use Rattle.xive_sources.specs.declared.Look.{Look}
 use Rattle.xive_sources.specs.declared.Look.the-variants.{At, Refused}
 use Rattle.xive_sources.specs.Stored.{wordOf, targetingOf, levelOf, sourceOf, sourcesOf, Lacks, Finds, Looked}
@@ -48,6 +49,15 @@ initial-stored v w e =
     let l : bits 10 1 v ≡ levelIn w = omega arith in
     as-initialised v (omega arith) ∙ rw (k, l, untargeted v (omega arith))
 
+-- what holds of no source and of the one that a number stands for holds of the number's, whichever it is
+pub either : (P : Option Source → Type 0) (v : ℕ) → P none → P (some (record { kind = bits 9 1 v; level = levelOf v; targeting = targetingOf v })) → P (sourceOf v)
+unfolding sourceOf choose
+either P v h k = by-test (eqb (bits 7 1 v) 0)
+  where
+    by-test : (t : Bool) → P (choose t none (some (record { kind = bits 9 1 v; level = levelOf v; targeting = targetingOf v })))
+    by-test true = h
+    by-test false = k
+
 -- the source of an initialised number
 pub the-one : {A : Type 0} (t : Bool) (x y : A) → choose t none (some y) ≡ some x → y ≡ x
 unfolding choose
@@ -58,7 +68,7 @@ pub source-of : (v : ℕ) (x : Source) → sourceOf v ≡ some x → record { ki
 unfolding sourceOf
 source-of v x h = the-one (eqb (bits 7 1 v) 0) x _ h
 
--- a word below whose bit 32 there are seven bits, with flags above those: words and flags come back
+-- a word of a server below 16, with flags in its bits 7 to 10: its fields, and the flags, come back
 module _ (v h l f : ℕ) (small : l < 128) (four : f < 4) (e : v ≡ h * 4294967296 + l + 384 + f * 512) where
   high-back : v / 4294967296 ≡ h
   high-back = omega arith
@@ -69,27 +79,14 @@ module _ (v h l f : ℕ) (small : l < 128) (four : f < 4) (e : v ≡ h * 4294967
   flags-back : v / 128 % 16 ≡ 3 + 4 * f
   flags-back = omega arith
 
-  still-fits : h < 4294967296 → v < 18446744073709551616
-  still-fits m = omega arith
+high-fields : (v w : ℕ) → v / 4294967296 ≡ w / 4294967296 → (bits 32 1 v ≡ maskIn w) × (bits 33 31 v ≡ effectiveIn w)
+high-fields v w e =
+    let a : v / 8589934592 ≡ v / 4294967296 / 2 = omega arith in
+    let b : w / 8589934592 ≡ w / 4294967296 / 2 = omega arith in
+    (rw e, rw (a, b, e))
 
--- the word of a number, by its high half and its low seven bits
-high-half : (v : ℕ) → v < 18446744073709551616 → bits 33 31 v * 8589934592 + bits 32 1 v * 4294967296 ≡ v / 4294967296 * 4294967296
-high-half v b =
-    let e : v / 8589934592 ≡ v / 4294967296 / 2 = omega arith in
-    let m : v / 4294967296 < 4294967296 = omega arith in
-    rw e (again (v / 4294967296) m)
-  where
-    again : (h : ℕ) → h < 4294967296 → h / 2 % 2147483648 * 8589934592 + h % 2 * 4294967296 ≡ h * 4294967296
-    again h m = omega arith
-
-low-seven : (v : ℕ) → bits 3 4 v * 8 + bits 0 3 v ≡ v % 128
-low-seven v = omega arith
-
-word-parts : (v : ℕ) → v < 18446744073709551616 → wordOf v ≡ v / 4294967296 * 4294967296 + v % 128
-word-parts v b = sums _ _ _ _ _ _ (high-half v b) (low-seven v)
-  where
-    sums : (a b c d e f : ℕ) → a + b ≡ e → c + d ≡ f → a + b + c + d ≡ e + f
-    sums a b c d e f p q = omega arith
+low-fields : (v w : ℕ) → serverIn w < 16 → v % 128 ≡ w % 4294967296 → (bits 0 3 v ≡ priorityIn w) × (bits 3 4 v ≡ serverIn w)
+low-fields v w s e = (omega arith, omega arith)
 
 type-kept : (v u f : ℕ) → v / 128 % 16 ≡ 3 + 4 * f → f ≡ u / 512 % 4 → (bits 9 1 v ≡ bits 9 1 u) × (bits 10 1 v ≡ bits 10 1 u)
 type-kept v u f h e = (omega arith, omega arith)
@@ -100,9 +97,6 @@ level-kept v u h = rw (h .0, h .1)
 
 both-set : (v f : ℕ) → v / 128 % 16 ≡ 3 + 4 * f → (bits 7 1 v ≡ 1) × (bits 8 1 v ≡ 1)
 both-set v f h = (omega arith, omega arith)
-
-halves : (w : ℕ) → w < 18446744073709551616 → (w ≡ w / 4294967296 * 4294967296 + w % 4294967296) × (w / 4294967296 < 4294967296)
-halves w b = (omega arith, omega arith)
 
 seven-bits : (w : ℕ) → serverIn w < 16 → w % 4294967296 < 128
 seven-bits w s = omega arith
@@ -115,11 +109,13 @@ pub targeted-stored : (v u w : ℕ) (x : Source) → sourceOf u ≡ some x → s
     → sourceOf v ≡ some (targeted w x)
 unfolding targeted
 targeted-stored v u w x k s b e =
-    let d = halves w b in
+    let d : w ≡ w / 4294967296 * 4294967296 + w % 4294967296 = omega arith in
+    let e′ = e ∙ ap (λ (z : ℕ). z + 384 + u / 512 % 4 * 512) d in
     let small = seven-bits w s in
     let four = below-four u in
-    let e′ : v ≡ w / 4294967296 * 4294967296 + w % 4294967296 + 384 + u / 512 % 4 * 512 = e ∙ ap (λ (z : ℕ). z + 384 + u / 512 % 4 * 512) (d .0) in
-    let back : wordOf v ≡ w = word-parts v (still-fits v _ _ _ small four e′ (d .1)) ∙ rw (high-back v _ _ _ small four e′, low-back v _ _ _ small four e′) (sym (d .0)) in
+    let high = high-fields v w (high-back v _ _ _ small four e′) in
+    let low = low-fields v w s (low-back v _ _ _ small four e′) in
+    let back : wordOf v ≡ w = rw (low .0, low .1, high .0, high .1) (fields-whole w b) in
     let flags = flags-back v _ _ _ small four e′ in
     let set = both-set v _ flags in
     let same = type-kept v u _ flags refl in

@@ -30,7 +30,8 @@ unfoldable pub levelOf : ℕ → ℕ
 levelOf v = choose (eqb (bits 9 1 v) 1) (bits 10 1 v) 0
 
 unfoldable pub sourceOf : ℕ → Option Source
-sourceOf v = choose (eqb (bits 7 1 v) 0) none (some (record { kind = bits 9 1 v; level = levelOf v; targeting = targetingOf v }))
+sourceOf v =
+    choose (eqb (bits 7 1 v) 0) none (some (record { kind = bits 9 1 v; level = levelOf v; targeting = targetingOf v }))
 
 abbrev pub sourcesOf : List ℕ → Sources
 sourcesOf l = map sourceOf l

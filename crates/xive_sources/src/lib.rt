@@ -109,7 +109,8 @@ pub fn store(sources: &mut [u64; SOURCES], number: SourceNumber, stored: u64)
 
 // The targeting of a source, out of its stored number: without the bits that say what else there is to know.
 pub fn targeting_of(stored: u64) -> Targeting
-    ensures { λ r. ⌜ (r .priority .0 ≡ bits 0 3 stored) × (r .server .0 ≡ bits 3 4 stored) × (r .mask ≡ bits 32 1 stored) × (r .effective .0 ≡ bits 33 31 stored) ⌝ }
+    ensures { λ r. ⌜ (r .priority .0 ≡ bits 0 3 stored) × (r .server .0 ≡ bits 3 4 stored)
+        × (r .mask ≡ bits 32 1 stored) × (r .effective .0 ≡ bits 33 31 stored) ⌝ }
 {
     Targeting {
         priority: Priority(stored % 8),
@@ -121,8 +122,10 @@ pub fn targeting_of(stored: u64) -> Targeting
 
 // The word of a targeting.
 pub fn word_of(targeting: Targeting) -> u64
-    requires { ⌜ (targeting .priority .0 < 8) × (targeting .server .0 < 536870912) × (targeting .mask < 2) × (targeting .effective .0 < 2147483648) ⌝ }
-    ensures { λ r. ⌜ r ≡ targetingWord (targeting .priority .0) (targeting .server .0) (targeting .mask) (targeting .effective .0) ⌝ }
+    requires { ⌜ (targeting .priority .0 < 8) × (targeting .server .0 < 536870912) × (targeting .mask < 2)
+        × (targeting .effective .0 < 2147483648) ⌝ }
+    ensures { λ r. ⌜ r ≡ targetingWord (targeting .priority .0) (targeting .server .0) (targeting .mask)
+        (targeting .effective .0) ⌝ }
 {
     let priority = targeting.priority;
     let server = targeting.server;
@@ -141,7 +144,8 @@ pub fn level_of(stored: u64) -> u8
 
 // A reading of an initialised source.
 pub fn read_out(stored: u64) -> Reading
-    ensures { λ r. ⌜ (r .code ≡ 0) × (r .count ≡ 0) × ((x : Source) → sourceOf stored ≡ some x → valuesIn r ≡ valuesOf (some x)) ⌝ }
+    ensures { λ r. ⌜ (r .code ≡ 0) × (r .count ≡ 0)
+        × ((x : Source) → sourceOf stored ≡ some x → valuesIn r ≡ valuesOf (some x)) ⌝ }
 {
     let level = level_of(stored);
     let kind = (stored / 512 % 2) as u8;

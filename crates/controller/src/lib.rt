@@ -10,8 +10,9 @@ use adapters::Device;
 use adapters::Place;
 use answers::Answer;
 use words::AdapterId;
+use words::COUNTS;
+use words::ORDER_BYTES;
 use words::PLACES;
-use words::QUEUES;
 use words::ROOM;
 use words::SINGLES_BYTES;
 use words::SLOT_BYTES;
@@ -20,8 +21,8 @@ use words::SLOT_BYTES;
 #[repr(C)]
 pub struct Controller {
     pub slots: [u8; SLOT_BYTES],
-    pub order: [u8; ROOM],
-    pub counts: [usize; QUEUES],
+    pub order: [u8; ORDER_BYTES],
+    pub counts: [usize; COUNTS],
     pub singles: [u8; SINGLES_BYTES],
     pub ais: bool,
 }
@@ -38,8 +39,8 @@ pub struct Started {
 // The arrays of a fresh controller.
 pub fn start(
     slots: &mut [u8; SLOT_BYTES],
-    order: &mut [u8; ROOM],
-    counts: &mut [usize; QUEUES],
+    order: &mut [u8; ORDER_BYTES],
+    counts: &mut [usize; COUNTS],
     singles: &mut [u8; SINGLES_BYTES],
     ais: bool,
 ) -> Started
@@ -59,8 +60,8 @@ pub fn start(
 // A move list is played on the controller's arrays.
 pub fn replay(
     slots: &mut [u8; SLOT_BYTES],
-    order: &mut [u8; ROOM],
-    counts: &mut [usize; QUEUES],
+    order: &mut [u8; ORDER_BYTES],
+    counts: &mut [usize; COUNTS],
     singles: &mut [u8; SINGLES_BYTES],
     ais: bool,
     list: &[u8],
@@ -93,8 +94,8 @@ pub fn replay(
 // A move list is written from the controller's arrays, the device record by value and an image of the table.
 pub fn write_from(
     slots: &[u8; SLOT_BYTES],
-    order: &[u8; ROOM],
-    counts: &[usize; QUEUES],
+    order: &[u8; ORDER_BYTES],
+    counts: &[usize; COUNTS],
     singles: &[u8; SINGLES_BYTES],
     ais: bool,
     device: Device,
@@ -110,8 +111,8 @@ pub fn write_from(
 // A set request about pending records alone, on the controller's arrays.
 pub fn answer_records(
     slots: &mut [u8; SLOT_BYTES],
-    order: &mut [u8; ROOM],
-    counts: &mut [usize; QUEUES],
+    order: &mut [u8; ORDER_BYTES],
+    counts: &mut [usize; COUNTS],
     singles: &mut [u8; SINGLES_BYTES],
     group: u32,
     attr: u64,
@@ -126,8 +127,8 @@ pub fn answer_records(
 // INJECT, on the controller's arrays, with the device record and the adapter's place by value. An injection of count 1 is still to be noted in the device record.
 pub fn answer_inject(
     slots: &mut [u8; SLOT_BYTES],
-    order: &mut [u8; ROOM],
-    counts: &mut [usize; QUEUES],
+    order: &mut [u8; ORDER_BYTES],
+    counts: &mut [usize; COUNTS],
     singles: &mut [u8; SINGLES_BYTES],
     ais: bool,
     device: Device,
@@ -154,8 +155,8 @@ pub fn answer_inject(
 // A get request on the controller's arrays and the device record by value.
 pub fn answer_get(
     slots: &[u8; SLOT_BYTES],
-    order: &[u8; ROOM],
-    counts: &[usize; QUEUES],
+    order: &[u8; ORDER_BYTES],
+    counts: &[usize; COUNTS],
     singles: &[u8; SINGLES_BYTES],
     ais: bool,
     device: Device,
@@ -172,8 +173,8 @@ pub fn answer_get(
 // A take on the controller's arrays.
 pub fn hand_out(
     slots: &mut [u8; SLOT_BYTES],
-    order: &mut [u8; ROOM],
-    counts: &mut [usize; QUEUES],
+    order: &mut [u8; ORDER_BYTES],
+    counts: &mut [usize; COUNTS],
     singles: &mut [u8; SINGLES_BYTES],
     allowed: u8,
     external: bool,

@@ -8,7 +8,7 @@ ghost use Rattle.rules.specs.Bytes.{choose};
 ghost use Rattle.rules.specs.State.{Limits, State, withPending};
 ghost use Rattle.rules.specs.Requests.{airqInject, setRequest, getRequest, request};
 ghost use Rattle.slots.specs.Slots.{slotCount};
-ghost use Rattle.queues.specs.Queues.{sum, Held};
+ghost use Rattle.queues.specs.Queues.{total, Held};
 ghost use Rattle.answers.specs.Answers.{Answers};
 ghost use Rattle.records.specs.Memory.{pendingOf};
 ghost use Rattle.adapters.specs.Values.{deviceOf, Canonical, injectionOf, injectedDevice};
@@ -26,18 +26,18 @@ use words::AISM_ALL;
 use words::AdapterId;
 use words::CLEAR_IO_IRQ;
 use words::CLEAR_IRQS;
+use words::COUNTS;
 use words::ENQUEUE;
 use words::GET_ALL_IRQS;
-use words::QUEUES;
-use words::ROOM;
+use words::ORDER_BYTES;
 use words::SINGLES_BYTES;
 use words::SLOT_BYTES;
 
 // Group 10: an adapter interrupt.
 pub fn inject(
     slots: &mut [u8; SLOT_BYTES],
-    order: &mut [u8; ROOM],
-    counts: &mut [usize; QUEUES],
+    order: &mut [u8; ORDER_BYTES],
+    counts: &mut [usize; COUNTS],
     places: u64,
     room: usize,
     ais: bool,
@@ -50,14 +50,11 @@ pub fn inject(
     ensures held { λ r. ⌜ Held (now (order .exit)) (now (counts .exit)) × (r .place ≡ place) ⌝ }
     ensures kept { λ r. ⌜ ((r .answer .code ≡ 0 → ⊥) → (r .device ≡ device) × (now (slots .exit) ≡ now (slots .entry)) × (now (order .exit) ≡ now (order .entry)) × (now (counts .exit) ≡ now (counts .entry))) ⌝ }
     ensures noted { λ r. ⌜ r .device ≡ choose (eqb (r .answer .count) 1) (injectedDevice ais device place) device ⌝ }
-    ensures told { λ r. ⌜ (id .0 < places → r .answer ≡ answerFor (injectionOf ais device place (leb room (sum (now (counts .entry)))))) ⌝ }
+    ensures told { λ r. ⌜ (id .0 < places → r .answer ≡ answerFor (injectionOf ais device place (leb room (total (now (counts .entry)))))) ⌝ }
 {
     if places <= id.0 {
         return values::with_answer(answers::refuse(EINVAL), device, place);
     }
-    // lent as slices so that their lengths are known
-    let listed: &[u8] = order;
-    let counted: &[usize] = counts;
     let n = queues::queued(counts);
     let full = room <= n;
     let next = adapters::after_injection(ais, device, place);
@@ -89,8 +86,8 @@ pub fn on_records(group: u32) -> bool
 // A request that sets, about pending records alone: it touches neither the device record nor a place.
 pub fn set_records(
     slots: &mut [u8; SLOT_BYTES],
-    order: &mut [u8; ROOM],
-    counts: &mut [usize; QUEUES],
+    order: &mut [u8; ORDER_BYTES],
+    counts: &mut [usize; COUNTS],
     singles: &mut [u8; SINGLES_BYTES],
     room: usize,
     group: u32,
@@ -107,9 +104,7 @@ pub fn set_records(
         return answers::by_fields(a);
     }
     if group == CLEAR_IRQS {
-        // lent as a slice so that its length is known
-        let listed: &[u8] = order;
-        return outgoing::clear_irqs(counts, singles, attr);
+        return outgoing::clear_irqs(order, counts, singles, attr);
     }
     outgoing::clear_io(slots, order, counts, attr, payload)
 }
@@ -117,8 +112,8 @@ pub fn set_records(
 // Any other request that sets.
 pub fn set_others(
     slots: &mut [u8; SLOT_BYTES],
-    order: &mut [u8; ROOM],
-    counts: &mut [usize; QUEUES],
+    order: &mut [u8; ORDER_BYTES],
+    counts: &mut [usize; COUNTS],
     places: u64,
     room: usize,
     ais: bool,
@@ -161,8 +156,8 @@ pub fn set_others(
 // A request that gets.
 pub fn get_request(
     slots: &[u8; SLOT_BYTES],
-    order: &[u8; ROOM],
-    counts: &[usize; QUEUES],
+    order: &[u8; ORDER_BYTES],
+    counts: &[usize; COUNTS],
     singles: &[u8; SINGLES_BYTES],
     ais: bool,
     device: Device,

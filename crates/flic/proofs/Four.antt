@@ -98,17 +98,17 @@ module _ {M : Type 1} {𝓤 : URA M} where
   -- what the lender keeps
   abbrev Lenders : Way → Controller → (b o : ℕ) → Loan → List (Item 𝓤) → List (Item 𝓤)
   Lenders way c b o n Δ = ‵ (flent (n .ν₀ ∷ []) (Part way (Ints w8 18432) (c .slots) b (o + 0) (n .δ₀)))
-      ∷ ‵ (flent (n .ν₁ ∷ []) (Part way (Ints w8 256) (c .order) b (o + 18432) (n .δ₁)))
-      ∷ ‵ (flent (n .ν₂ ∷ []) (Part way (Ints w64 9) (c .counts) b (o + 18688) (n .δ₂)))
-      ∷ ‵ (flent (n .ν₃ ∷ []) (Part way (Ints w8 146) (c .singles) b (o + 18760) (n .δ₃))) ∷ Δ
+      ∷ ‵ (flent (n .ν₁ ∷ []) (Part way (Ints w8 2560) (c .order) b (o + 18432) (n .δ₁)))
+      ∷ ‵ (flent (n .ν₂ ∷ []) (Part way (Ints w64 11) (c .counts) b (o + 20992) (n .δ₂)))
+      ∷ ‵ (flent (n .ν₃ ∷ []) (Part way (Ints w8 146) (c .singles) b (o + 21080) (n .δ₃))) ∷ Δ
 
 -- the references of a loan, and then O
 abbrev pub Lent : Way → Loan → Controller → ℕ → ℕ → Fml → Fml
 Lent way n c b o O =
     fsep (Own way (n .ν₀) (Ints w8 18432) (at-array b (o + 0) (n .δ₀) (c .slots)) (vptr b (o + 0) ∷ []))
-    (fsep (Own way (n .ν₁) (Ints w8 256) (at-array b (o + 18432) (n .δ₁) (c .order)) (vptr b (o + 18432) ∷ []))
-    (fsep (Own way (n .ν₂) (Ints w64 9) (at-array b (o + 18688) (n .δ₂) (c .counts)) (vptr b (o + 18688) ∷ []))
-    (fsep (Own way (n .ν₃) (Ints w8 146) (at-array b (o + 18760) (n .δ₃) (c .singles)) (vptr b (o + 18760) ∷ []))
+    (fsep (Own way (n .ν₁) (Ints w8 2560) (at-array b (o + 18432) (n .δ₁) (c .order)) (vptr b (o + 18432) ∷ []))
+    (fsep (Own way (n .ν₂) (Ints w64 11) (at-array b (o + 20992) (n .δ₂) (c .counts)) (vptr b (o + 20992) ∷ []))
+    (fsep (Own way (n .ν₃) (Ints w8 146) (at-array b (o + 21080) (n .δ₃) (c .singles)) (vptr b (o + 21080) ∷ []))
     (O))))
 
 -- the ghost arguments of such a call: those of the loan, and then the others'
@@ -119,10 +119,10 @@ abbrev pub lent-shares : {X : Type 0} → X → Share × (Share × (Share × (Sh
 lent-shares x = (fullShare, (fullShare, (fullShare, (fullShare, x))))
 
 abbrev pub lent-args : {X : Type 0} → Loan → Controller → ℕ → ℕ → X → RefT (List ℕ) × (RefT (List ℕ) × (RefT (List ℕ) × (RefT (List ℕ) × X)))
-lent-args n c b o x = (at-array b (o + 0) (n .δ₀) (c .slots), (at-array b (o + 18432) (n .δ₁) (c .order), (at-array b (o + 18688) (n .δ₂) (c .counts), (at-array b (o + 18760) (n .δ₃) (c .singles), x))))
+lent-args n c b o x = (at-array b (o + 0) (n .δ₀) (c .slots), (at-array b (o + 18432) (n .δ₁) (c .order), (at-array b (o + 20992) (n .δ₂) (c .counts), (at-array b (o + 21080) (n .δ₃) (c .singles), x))))
 
 abbrev pub lent-vals : {X : Type 0} → ℕ → ℕ → X → List Val × (List Val × (List Val × (List Val × X)))
-lent-vals b o x = (vptr b (o + 0) ∷ [], (vptr b (o + 18432) ∷ [], (vptr b (o + 18688) ∷ [], (vptr b (o + 18760) ∷ [], x))))
+lent-vals b o x = (vptr b (o + 0) ∷ [], (vptr b (o + 18432) ∷ [], (vptr b (o + 20992) ∷ [], (vptr b (o + 21080) ∷ [], x))))
 
 -- what a callee leaves of the four lists, and of the rest; the controller that is; and what is said of it
 abbrev pub Left : Way → Type 0 → Type 0
@@ -132,20 +132,20 @@ abbrev pub left-by : (way : Way) {Y : Type 0} → Controller → Left way Y → 
 left-by way c w = controller (list-of way (c .slots) (w .0)) (list-of way (c .order) (w .1 .0)) (list-of way (c .counts) (w .1 .1 .0)) (list-of way (c .singles) (w .1 .1 .1 .0)) (c .ais)
 
 abbrev pub Last : (way : Way) {Y : Type 0} → Loan → (Y → Fml) → Left way Y → Fml
-Last way n L w = fsep (said-of way w8 18432 (n .δ₀) (w .0)) (fsep (said-of way w8 256 (n .δ₁) (w .1 .0)) (fsep (said-of way w64 9 (n .δ₂) (w .1 .1 .0)) (fsep (said-of way w8 146 (n .δ₃) (w .1 .1 .1 .0)) (L (w .1 .1 .1 .1)))))
+Last way n L w = fsep (said-of way w8 18432 (n .δ₀) (w .0)) (fsep (said-of way w8 2560 (n .δ₁) (w .1 .0)) (fsep (said-of way w64 11 (n .δ₂) (w .1 .1 .0)) (fsep (said-of way w8 146 (n .δ₃) (w .1 .1 .1 .0)) (L (w .1 .1 .1 .1)))))
 
 module _ {M : Type 1} {𝓤 : URA M} {H : Heap 𝓤} {A : Atoms 𝓤} {K : Type 0} {W : Given 𝓤 H A} {Γ : List (Item 𝓤)} {G : Goal 𝓤 H} (way : Way) (b o : ℕ) where
   lends-four : K → Soaks G → (c : Controller) → Has c → {T : Item 𝓤} {O : Fml} → ((n : Loan) → Seq K W (Toks n T ∷ ‵ (Lent way n c b o O) ∷ Lenders way c b o n Γ) G) → Seq K W (Arrays (share-of way) c b o (T ∷ ‵ O ∷ Γ)) G
   lends-four t z c g k =
-      move t (3 ∷ 4 ∷ 5 ∷ []) $ lends-array t z way w8 146 (c .singles) (g .3) b (o + 18760) (λ ν₃ δ₃. move t (5 ∷ 0 ∷ 1 ∷ []) $ lends-array t z way w64 9 (c .counts) (g .2) b (o + 18688) (λ ν₂ δ₂.
-      move t (5 ∷ 0 ∷ 1 ∷ []) $ lends-array t z way w8 256 (c .order) (g .1) b (o + 18432) (λ ν₁ δ₁. move t (5 ∷ 0 ∷ 1 ∷ []) $ lends-array t z way w8 18432 (c .slots) (g .0) b (o + 0) (λ ν₀ δ₀.
+      move t (3 ∷ 4 ∷ 5 ∷ []) $ lends-array t z way w8 146 (c .singles) (g .3) b (o + 21080) (λ ν₃ δ₃. move t (5 ∷ 0 ∷ 1 ∷ []) $ lends-array t z way w64 11 (c .counts) (g .2) b (o + 20992) (λ ν₂ δ₂.
+      move t (5 ∷ 0 ∷ 1 ∷ []) $ lends-array t z way w8 2560 (c .order) (g .1) b (o + 18432) (λ ν₁ δ₁. move t (5 ∷ 0 ∷ 1 ∷ []) $ lends-array t z way w8 18432 (c .slots) (g .0) b (o + 0) (λ ν₀ δ₀.
       k (record { ν₀ = ν₀; ν₁ = ν₁; ν₂ = ν₂; ν₃ = ν₃; δ₀ = δ₀; δ₁ = δ₁; δ₂ = δ₂; δ₃ = δ₃ })))))
 
   four-back : K → Soaks G → (c : Controller) (n : Loan) {Y : Type 0} (L : Y → Fml) (w : Left way Y) {T : Item 𝓤}
       → (Has (left-by way c w) → Seq K W (Arrays (share-of way) (left-by way c w) b o (T ∷ ‵ (L (w .1 .1 .1 .1)) ∷ Γ)) G) → Seq K W (Toks n T ∷ ‵ (Last way n L w) ∷ Lenders way c b o n Γ) G
   four-back t z c n L w k =
-      array-back t z way w8 18432 (c .slots) (w .0) b (o + 0) (n .ν₀) (n .δ₀) (λ g₀. move t (1 ∷ 2 ∷ 3 ∷ []) $ array-back t z way w8 256 (c .order) (w .1 .0) b (o + 18432) (n .ν₁) (n .δ₁) (λ g₁.
-      move t (1 ∷ 2 ∷ 4 ∷ []) $ array-back t z way w64 9 (c .counts) (w .1 .1 .0) b (o + 18688) (n .ν₂) (n .δ₂) (λ g₂. move t (1 ∷ 2 ∷ 5 ∷ []) $ array-back t z way w8 146 (c .singles) (w .1 .1 .1 .0) b (o + 18760) (n .ν₃) (n .δ₃) (λ g₃.
+      array-back t z way w8 18432 (c .slots) (w .0) b (o + 0) (n .ν₀) (n .δ₀) (λ g₀. move t (1 ∷ 2 ∷ 3 ∷ []) $ array-back t z way w8 2560 (c .order) (w .1 .0) b (o + 18432) (n .ν₁) (n .δ₁) (λ g₁.
+      move t (1 ∷ 2 ∷ 4 ∷ []) $ array-back t z way w64 11 (c .counts) (w .1 .1 .0) b (o + 20992) (n .ν₂) (n .δ₂) (λ g₂. move t (1 ∷ 2 ∷ 5 ∷ []) $ array-back t z way w8 146 (c .singles) (w .1 .1 .1 .0) b (o + 21080) (n .ν₃) (n .δ₃) (λ g₃.
       -- [cell 3; T; O; cells 2, 1, 0; Γ]
       move t (5 ∷ 4 ∷ 3 ∷ 0 ∷ []) $ k (g₀, g₁, g₂, g₃)))))
 

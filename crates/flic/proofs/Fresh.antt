@@ -64,12 +64,12 @@ pub record Known {M : Type 1} (𝓤 : URA M) (H : Heap 𝓤) (A : Atoms 𝓤) (m
 
 -- the locals: τ is the type of the fourth parameter
 abbrev pub E : {M : Type 1} (𝓤 : URA M) (H : Heap 𝓤) (τ : Ty) (l₀ l₁ l₂ l₃ l₄ l₅ l₆ l₇ l₈ l₉ l₁₀ l₁₁ l₁₂ l₁₃ l₁₄ l₁₅ : ℕ) → Env 𝓤 H
-E 𝓤 H τ l₀ l₁ l₂ l₃ l₄ l₅ l₆ l₇ l₈ l₉ l₁₀ l₁₁ l₁₂ l₁₃ l₁₄ l₁₅ = (An′.mir, l₀) ∷ (tyRef (named 0) mut (pointee (C.the-row .written)), l₁) ∷ (tyRef (named 1) mut (pointee (D.the-row .written)), l₂) ∷ (sliceTy (tyRef (named 2) mut (pointee (P.the-row .written))), l₃) ∷ (τ, l₄) ∷ (St′.mir, l₅) ∷ (tyInt w64, l₆) ∷ (tyBool, l₇) ∷ (tyRef erased mut (tyArray (tyInt w8) 18432), l₈) ∷ (tyRef erased mut (tyArray (tyInt w8) 256), l₉) ∷ (tyRef erased mut (tyArray (tyInt w64) 9), l₁₀) ∷ (tyRef erased mut (tyArray (tyInt w8) 146), l₁₁)
+E 𝓤 H τ l₀ l₁ l₂ l₃ l₄ l₅ l₆ l₇ l₈ l₉ l₁₀ l₁₁ l₁₂ l₁₃ l₁₄ l₁₅ = (An′.mir, l₀) ∷ (tyRef (named 0) mut (pointee (C.the-row .written)), l₁) ∷ (tyRef (named 1) mut (pointee (D.the-row .written)), l₂) ∷ (sliceTy (tyRef (named 2) mut (pointee (P.the-row .written))), l₃) ∷ (τ, l₄) ∷ (St′.mir, l₅) ∷ (tyInt w64, l₆) ∷ (tyBool, l₇) ∷ (tyRef erased mut (tyArray (tyInt w8) 18432), l₈) ∷ (tyRef erased mut (tyArray (tyInt w8) 2560), l₉) ∷ (tyRef erased mut (tyArray (tyInt w64) 11), l₁₀) ∷ (tyRef erased mut (tyArray (tyInt w8) 146), l₁₁)
     ∷ (tyUnit, l₁₂) ∷ (tyRef erased mut (pointee (D.the-row .written)), l₁₃) ∷ (tyRef erased mut (pointee (P.the-row .written)), l₁₄) ∷ (sliceTy (tyRef erased mut (pointee (P.the-row .written))), l₁₅) ∷ []
 
 -- what they hold after n of their assignments, with the result's, the callee's and the flag's content; the fourth parameter holds v
 abbrev pub held : Refs → Val → Content → Content → Content → ℕ → List Content
-held a v v₀ v₅ v₇ n = v₀ ∷ holds (vptr (a .bc) (a .oc)) ∷ holds (vptr (a .bd) (a .od)) ∷ holds (table a) ∷ holds v ∷ v₅ ∷ since 1 n (vint w64 (length (a .t))) ∷ v₇ ∷ since 2 n (vptr (a .bc) (a .oc + 0)) ∷ since 3 n (vptr (a .bc) (a .oc + 18432)) ∷ since 4 n (vptr (a .bc) (a .oc + 18688)) ∷ since 5 n (vptr (a .bc) (a .oc + 18760))
+held a v v₀ v₅ v₇ n = v₀ ∷ holds (vptr (a .bc) (a .oc)) ∷ holds (vptr (a .bd) (a .od)) ∷ holds (table a) ∷ holds v ∷ v₅ ∷ since 1 n (vint w64 (length (a .t))) ∷ v₇ ∷ since 2 n (vptr (a .bc) (a .oc + 0)) ∷ since 3 n (vptr (a .bc) (a .oc + 18432)) ∷ since 4 n (vptr (a .bc) (a .oc + 20992)) ∷ since 5 n (vptr (a .bc) (a .oc + 21080))
     ∷ since 7 n vunit ∷ since 6 n (vptr (a .bd) (a .od)) ∷ since 8 n (vptr (a .bt) (a .ot)) ∷ since 9 n (table a) ∷ []
 
 -- whether the length is wrong

@@ -10,20 +10,20 @@ use Rattle.flic.proofs.Fields.{FieldsBack, fields-out, fields-in}
 use Rattle.flic.proofs.Ints.{Ints, ints, FitsInts, int-in, int-out}
 
 abbrev τs : Tys
-τs = tcons (tyArray (tyInt w8) 18432) (tcons (tyArray (tyInt w8) 256) (tcons (tyArray (tyInt w64) 9) (tcons (tyArray (tyInt w8) 146) (tcons tyBool tnil))))
+τs = tcons (tyArray (tyInt w8) 18432) (tcons (tyArray (tyInt w8) 2560) (tcons (tyArray (tyInt w64) 11) (tcons (tyArray (tyInt w8) 146) (tcons tyBool tnil))))
 
 abbrev fields : Controller → Vals
 fields c = vcons (ints w8 (c .slots)) (vcons (ints w8 (c .order)) (vcons (ints w64 (c .counts)) (vcons (ints w8 (c .singles)) (vcons (vbool (c .ais)) vnil))))
 
 -- what whoever holds a controller knows of its arrays
 abbrev pub Has : Controller → Type 0
-Has c = FitsInts w8 18432 (c .slots) × FitsInts w8 256 (c .order) × FitsInts w64 9 (c .counts) × FitsInts w8 146 (c .singles)
+Has c = FitsInts w8 18432 (c .slots) × FitsInts w8 2560 (c .order) × FitsInts w64 11 (c .counts) × FitsInts w8 146 (c .singles)
 
 has : (c : Controller) → Is C.the-row c (C′.lowered c ∷ []) → Has c
 has c g = (
   int-in w8 18432 (c .slots) (LL.owed C.the-type C′.the-laws c _ g .0),
-  int-in w8 256 (c .order) (LL.owed C.the-type C′.the-laws c _ g .1 .0),
-  int-in w64 9 (c .counts) (LL.owed C.the-type C′.the-laws c _ g .1 .1 .0),
+  int-in w8 2560 (c .order) (LL.owed C.the-type C′.the-laws c _ g .1 .0),
+  int-in w64 11 (c .counts) (LL.owed C.the-type C′.the-laws c _ g .1 .1 .0),
   int-in w8 146 (c .singles) (LL.owed C.the-type C′.the-laws c _ g .1 .1 .1 .0),
 )
 
@@ -32,20 +32,20 @@ has-back c g = subst (Is C.the-row c) (C′.lowers .val-is c _ it) it
   where
     it : Is C.the-row c (LL.vals C.the-type C′.the-laws c)
     it = LL.owes C.the-type C′.the-laws c
-        (int-out w8 18432 (c .slots) (g .0), (int-out w8 256 (c .order) (g .1), (int-out w64 9 (c .counts) (g .2), (int-out w8 146 (c .singles) (g .3), (refl, tt)))))
+        (int-out w8 18432 (c .slots) (g .0), (int-out w8 2560 (c .order) (g .1), (int-out w64 11 (c .counts) (g .2), (int-out w8 146 (c .singles) (g .3), (refl, tt)))))
 
 module _ {M : Type 1} {𝓤 : URA M} where
   -- the cells of the four arrays, in front of Γ
   abbrev pub Arrays : Share → Controller → ℕ → ℕ → List (Item 𝓤) → List (Item 𝓤)
   Arrays q c b o Γ =
       ‵ (cellAt q (Ints w8 18432 .mir) (ints w8 (c .slots) ∷ []) b (o + 0))
-      ∷ ‵ (cellAt q (Ints w8 256 .mir) (ints w8 (c .order) ∷ []) b (o + 18432))
-      ∷ ‵ (cellAt q (Ints w64 9 .mir) (ints w64 (c .counts) ∷ []) b (o + 18688))
-      ∷ ‵ (cellAt q (Ints w8 146 .mir) (ints w8 (c .singles) ∷ []) b (o + 18760)) ∷ Γ
+      ∷ ‵ (cellAt q (Ints w8 2560 .mir) (ints w8 (c .order) ∷ []) b (o + 18432))
+      ∷ ‵ (cellAt q (Ints w64 11 .mir) (ints w64 (c .counts) ∷ []) b (o + 20992))
+      ∷ ‵ (cellAt q (Ints w8 146 .mir) (ints w8 (c .singles) ∷ []) b (o + 21080)) ∷ Γ
 
   -- and of the capability, and the way back to the struct
   abbrev pub Cells : (H : Heap 𝓤) → Share → Controller → ℕ → ℕ → List (Item 𝓤) → List (Item 𝓤)
-  Cells H q c b o Γ = Arrays q c b o (‵ (cellAt q (Boolean .mir) (vbool (c .ais) ∷ []) b (o + 18906)) ∷ raw (FieldsBack 𝓤 H q τs b o) ∷ Γ)
+  Cells H q c b o Γ = Arrays q c b o (‵ (cellAt q (Boolean .mir) (vbool (c .ais) ∷ []) b (o + 21226)) ∷ raw (FieldsBack 𝓤 H q τs b o) ∷ Γ)
 
   -- behind a `&κ mut` that was passed at h, opened, and c by now: its cells, and what closes it
   abbrev pub OpenAt : (H : Heap 𝓤) → Lft → Share → GName → (h c : Controller) → ℕ → ℕ → List (Item 𝓤) → List (Item 𝓤)
@@ -55,10 +55,10 @@ module _ {M : Type 1} {𝓤 : URA M} {H : Heap 𝓤} {A : Atoms 𝓤} {K : Type 
   cells-out : K → (q : Share) (c : Controller) (b o : ℕ) → Step K W (Cells H q c b o Γ) G (‵ (fat q (tyStruct [] τs) b o (vstruct (fields c))) ∷ Γ) G
   cells-out t q c b o = step (λ k. fields-out {W = W} t q τs b o (fields c) $ use1 W
       (‵ (cellAt q (Ints w8 18432 .mir) (ints w8 (c .slots) ∷ []) b (o + 0))
-      ⊛ ‵ (cellAt q (Ints w8 256 .mir) (ints w8 (c .order) ∷ []) b (o + 18432))
-      ⊛ ‵ (cellAt q (Ints w64 9 .mir) (ints w64 (c .counts) ∷ []) b (o + 18688))
-      ⊛ ‵ (cellAt q (Ints w8 146 .mir) (ints w8 (c .singles) ∷ []) b (o + 18760))
-      ⊛ ‵ (cellAt q (Boolean .mir) (vbool (c .ais) ∷ []) b (o + 18906)) ⊛ ‵ ftrue) (id⊢ 𝓤 _) $
+      ⊛ ‵ (cellAt q (Ints w8 2560 .mir) (ints w8 (c .order) ∷ []) b (o + 18432))
+      ⊛ ‵ (cellAt q (Ints w64 11 .mir) (ints w64 (c .counts) ∷ []) b (o + 20992))
+      ⊛ ‵ (cellAt q (Ints w8 146 .mir) (ints w8 (c .singles) ∷ []) b (o + 21080))
+      ⊛ ‵ (cellAt q (Boolean .mir) (vbool (c .ais) ∷ []) b (o + 21226)) ⊛ ‵ ftrue) (id⊢ 𝓤 _) $
       split t $ move t (1 ∷ []) $ split t $ move t (1 ∷ []) $ split t $ move t (1 ∷ []) $ split t $ move t (1 ∷ []) $ split t $ move t (1 ∷ []) $ drop t $ move t (4 ∷ 3 ∷ 2 ∷ 1 ∷ 0 ∷ []) $ k)
 
   cells-in : K → (q : Share) (c : Controller) (b o : ℕ) → Step K W (‵ (fat q (tyStruct [] τs) b o (vstruct (fields c))) ∷ Γ) G (Cells H q c b o Γ) G

@@ -6,7 +6,7 @@ use mathlib.Core.Option.{Option, none, some}
 use mathlib.Core.List.{List, [], _∷_, _++_, flatten, map, append-assoc, append-nil}
 use native.Mathlib.Omega.{arith}
 use native.Mathlib.Nat.{zero-add, suc-add}
-use lib.ListN.{length, getD, take, drop, replicate, length-append, length-replicate}
+use lib.ListN.{length, getD, take, drop, replicate, length-append, length-replicate, length-map}
 use lib.Seq.{take-at, drop-at}
 use Rattle.rules.specs.Bytes.{choose}
 use Rattle.rules.specs.State as rules
@@ -16,11 +16,10 @@ use Rattle.rules.proofs.Lists.{flatten-append}
 use Rattle.rules.proofs.Reachable.{listing-sendable}
 use Rattle.adapters.specs.declared.Place.{Place}
 use Rattle.adapters.specs.Values.{placeOf, unused, Canonical}
-use Rattle.slots.specs.Slots.{slotCount, slot, listed}
-use Rattle.queues.specs.Queues.{sum, cut, queues, Held}
+use Rattle.slots.specs.Slots.{slotCount, slot, Apart}
+use Rattle.queues.specs.Queues.{row, rows, each, total, used, spare, listed, queues, sum, bits, upFrom, Held}
+use Rattle.queues.proofs.Laws.{length-up, up-once}
 use Rattle.singles.specs.Singles.{ifThere, serviceOf, mchkOf}
-use Rattle.memory.specs.Order.{upFrom}
-use Rattle.memory.proofs.Laws.{up-apart}
 use Rattle.records.specs.Memory.{pendingOf}
 use Rattle.controller.specs.declared.Controller.{Controller}
 use Rattle.controller.specs.Limits.{limitsOf}
@@ -52,45 +51,15 @@ places-canonical : (ps : List rules.Place) → All SoundPlace ps → All Canonic
 places-canonical [] h = tt
 places-canonical (p ∷ ps) h = (place-canonical p (h .0), places-canonical ps (h .1))
 
--- ---- records in slots, listed in the order of the slots
-take-up : (n m i : ℕ) → n ≤ m → take n (upFrom i m) ≡ upFrom i n
-unfolding upFrom
-take-up zero m i h = refl
-take-up (suc n) zero i h = let z : ⊥ = omega (arith, h) in absurd z
-take-up (suc n) (suc m) i h = ap (λ (l : List ℕ). i ∷ l) (take-up n m (suc i) (omega (arith, h)))
-
-slots-from : (pre : List ℕ) (k : ℕ) (rs : List Record) (rest : List ℕ) → length pre ≡ k * 72 → All Whole rs
-    → map (slot 72 (pre ++ (flatten rs ++ rest))) (upFrom k (length rs)) ≡ rs
-unfolding upFrom slot flatten
-slots-from pre k [] rest e h = refl
-slots-from pre k (r ∷ rs) rest e h =
-    ap₂ (λ (x : Record) (l : List Record). x ∷ l)
-    (ap (take 72) (drop-at pre (flatten (r ∷ rs) ++ rest) (k * 72) e ∙ append-assoc r (flatten rs) rest) ∙ take-at r (flatten rs ++ rest) 72 (h .0))
-    (ap (λ (b : List ℕ). map (slot 72 b) (upFrom (suc k) (length rs)))
-    (ap (λ (b : List ℕ). pre ++ b) (append-assoc r (flatten rs) rest) ∙ sym (append-assoc pre r (flatten rs ++ rest)))
-    ∙ slots-from (pre ++ r) (suc k) rs rest (omega (arith, length-append pre r, e, h .0)) (h .1))
-
-listed-back : (m : ℕ) (rs : List Record) (rest : List ℕ) → length rs ≤ m → All Whole rs → listed 72 (upFrom 0 m) (length rs) (flatten rs ++ rest) ≡ rs
-unfolding listed
-listed-back m rs rest h k = ap (map (slot 72 (flatten rs ++ rest))) (take-up (length rs) m 0 h) ∙ slots-from [] 0 rs rest refl k
-
--- ---- queues from their lengths
-cut-back : (qs : List (List Record)) → cut (map length qs) (flatten qs) ≡ qs
-unfolding cut flatten
-cut-back [] = refl
-cut-back (q ∷ qs) =
-    ap₂ (λ (x : List Record) (l : List (List Record)). x ∷ l) (take-at q (flatten qs) (length q) refl)
-    (ap (cut (map length qs)) (drop-at q (flatten qs) (length q) refl) ∙ cut-back qs)
-
-sum-lengths : (qs : List (List Record)) → sum (map length qs) ≡ length (flatten qs)
-unfolding sum flatten
-sum-lengths [] = refl
-sum-lengths (q ∷ qs) = omega (arith, length-append q (flatten qs), sum-lengths qs)
-
+-- ---- lists
 module _ {ℓ} {A : Type ℓ} where
   all-left : (P : A → Type 0) (xs ys : List A) → All P (xs ++ ys) → All P xs
   all-left P [] ys h = tt
   all-left P (x ∷ xs) ys h = (h .0, all-left P xs ys (h .1))
+
+  all-right : (P : A → Type 0) (xs ys : List A) → All P (xs ++ ys) → All P ys
+  all-right P [] ys h = h
+  all-right P (x ∷ xs) ys h = all-right P xs ys (h .1)
 
   getD-past : (xs ys : List A) (n i : ℕ) (d : A) → length xs ≡ n → getD (xs ++ ys) (n + i) d ≡ getD ys i d
   getD-past xs ys n i d e = subst (λ (k : ℕ). getD (xs ++ ys) (k + i) d ≡ getD ys i d) e (go xs)
@@ -98,6 +67,105 @@ module _ {ℓ} {A : Type ℓ} where
       go : (zs : List A) → getD (zs ++ ys) (length zs + i) d ≡ getD ys i d
       go [] = ap (λ (k : ℕ). getD ys k d) (zero-add i)
       go (z ∷ zs) = ap (λ (k : ℕ). getD (z ∷ (zs ++ ys)) k d) (suc-add (length zs) i) ∙ go zs
+
+-- ---- records in slots that are numbered as the records are listed: a run of numbers for each queue
+slots-from : (pre : List ℕ) (k : ℕ) (rs : List Record) (rest : List ℕ) → length pre ≡ k * 72 → All Whole rs
+    → listed (pre ++ (flatten rs ++ rest)) (upFrom k (length rs)) ≡ rs
+unfolding upFrom slot flatten
+slots-from pre k [] rest e h = refl
+slots-from pre k (r ∷ rs) rest e h =
+    ap₂ (λ (x : Record) (l : List Record). x ∷ l)
+    (ap (take 72) (drop-at pre (flatten (r ∷ rs) ++ rest) (k * 72) e ∙ append-assoc r (flatten rs) rest) ∙ take-at r (flatten rs ++ rest) 72 (h .0))
+    (ap (λ (b : List ℕ). listed b (upFrom (suc k) (length rs)))
+    (ap (λ (b : List ℕ). pre ++ b) (append-assoc r (flatten rs) rest) ∙ sym (append-assoc pre r (flatten rs ++ rest)))
+    ∙ slots-from (pre ++ r) (suc k) rs rest (omega (arith, length-append pre r, e, h .0)) (h .1))
+
+runs : ℕ → List (List Record) → List (List ℕ)
+runs k [] = []
+runs k (q ∷ qs) = upFrom k (length q) ∷ runs (k + length q) qs
+
+length-whole : (rs : List Record) → All Whole rs → length (flatten rs) ≡ length rs * 72
+unfolding flatten
+length-whole [] h = refl
+length-whole (r ∷ rs) h = omega (arith, length-append r (flatten rs), h .0, length-whole rs (h .1))
+
+runs-back : (pre : List ℕ) (k : ℕ) (qs : List (List Record)) (rest : List ℕ) → length pre ≡ k * 72 → All Whole (flatten qs)
+    → map (listed (pre ++ (flatten (flatten qs) ++ rest))) (runs k qs) ≡ qs
+unfolding runs flatten
+runs-back pre k [] rest e h = refl
+runs-back pre k (q ∷ qs) rest e h =
+    let hq = all-left Whole q (flatten qs) h in
+    let more : flatten (q ++ flatten qs) ++ rest ≡ flatten q ++ (flatten (flatten qs) ++ rest) =
+    ap (λ (t : List ℕ). t ++ rest) (flatten-append q (flatten qs)) ∙ append-assoc (flatten q) (flatten (flatten qs)) rest in
+    let lq : length (pre ++ flatten q) ≡ (k + length q) * 72 = omega (arith, length-append pre (flatten q), e, length-whole q hq) in
+    ap₂ (λ (x : List Record) (l : List (List Record)). x ∷ l)
+    (ap (λ (t : List ℕ). listed (pre ++ t) (upFrom k (length q))) more ∙ slots-from pre k q (flatten (flatten qs) ++ rest) e hq)
+    (ap (λ (t : List ℕ). map (listed t) (runs (k + length q) qs)) (ap (λ (t : List ℕ). pre ++ t) more ∙ sym (append-assoc pre (flatten q) (flatten (flatten qs) ++ rest)))
+    ∙ runs-back (pre ++ flatten q) (k + length q) qs rest lq (all-right Whole q (flatten qs) h))
+
+-- together the runs are the numbers from the first on
+up-more : (i m n : ℕ) → upFrom i m ++ upFrom (i + m) n ≡ upFrom i (m + n)
+unfolding upFrom
+up-more i zero n = rw (let z : i + 0 ≡ i = omega arith in z, zero-add)
+up-more i (suc m) n = rw (suc-add) (ap (λ (l : List ℕ). i ∷ l) (ap (λ (j : ℕ). upFrom (suc i) m ++ upFrom j n) (let z : i + suc m ≡ suc i + m = omega arith in z) ∙ up-more (suc i) m n))
+
+runs-all : (k : ℕ) (qs : List (List Record)) → flatten (runs k qs) ≡ upFrom k (length (flatten qs))
+unfolding runs flatten upFrom
+runs-all k [] = refl
+runs-all k (q ∷ qs) = rw (runs-all (k + length q) qs, length-append) (up-more k (length q) (length (flatten qs)))
+
+-- ---- the rows of the order, each filled up to its size
+padded : List ℕ → List ℕ
+padded l = l ++ replicate (slotCount - length l) 0
+
+length-padded : (l : List ℕ) → length l ≤ slotCount → length (padded l) ≡ slotCount
+unfolding padded
+length-padded l h = simp (length-append, length-replicate) (omega arith)
+
+orderOf : List (List ℕ) → List ℕ
+orderOf [] = []
+orderOf (l ∷ ls) = padded l ++ orderOf ls
+
+-- a row that starts where pre ends
+row-padded : (pre l rest : List ℕ) (q : ℕ) → length pre ≡ q * slotCount → row (pre ++ (padded l ++ rest)) q (length l) ≡ l
+unfolding row padded
+row-padded pre l rest q e =
+    ap (take (length l)) (drop-at pre ((l ++ replicate (slotCount - length l) 0) ++ rest) (q * slotCount) e ∙ append-assoc l (replicate (slotCount - length l) 0) rest)
+    ∙ take-at l (replicate (slotCount - length l) 0 ++ rest) (length l) refl
+
+rows-back : (pre : List ℕ) (q : ℕ) (ls : List (List ℕ)) (rest : List ℕ) → length pre ≡ q * slotCount → All (λ l. length l ≤ slotCount) ls
+    → rows (pre ++ (orderOf ls ++ rest)) q (map length ls) ≡ ls
+unfolding rows orderOf
+rows-back pre q [] rest e h = refl
+rows-back pre q (l ∷ ls) rest e h =
+    let more : (padded l ++ orderOf ls) ++ rest ≡ padded l ++ (orderOf ls ++ rest) = append-assoc (padded l) (orderOf ls) rest in
+    let lp : length (pre ++ padded l) ≡ suc q * slotCount = omega (arith, length-append pre (padded l), e, length-padded l (h .0)) in
+    ap₂ (λ (x : List ℕ) (t : List (List ℕ)). x ∷ t)
+    (ap (λ (t : List ℕ). row (pre ++ t) q (length l)) more ∙ row-padded pre l (orderOf ls ++ rest) q e)
+    (ap (λ (t : List ℕ). rows t (suc q) (map length ls)) (ap (λ (t : List ℕ). pre ++ t) more ∙ sym (append-assoc pre (padded l) (orderOf ls ++ rest)))
+    ∙ rows-back (pre ++ padded l) (suc q) ls rest lp (h .1))
+
+length-order : (ls : List (List ℕ)) → All (λ l. length l ≤ slotCount) ls → length (orderOf ls) ≡ length ls * slotCount
+unfolding orderOf
+length-order [] h = refl
+length-order (l ∷ ls) h = omega (arith, length-append (padded l) (orderOf ls), length-padded l (h .0), length-order ls (h .1))
+
+-- ---- the counts
+runs-lengths : (k : ℕ) (qs : List (List Record)) → map length (runs k qs) ≡ map length qs
+unfolding runs
+runs-lengths k [] = refl
+runs-lengths k (q ∷ qs) = ap₂ (λ (x : ℕ) (l : List ℕ). x ∷ l) (length-up k (length q)) (runs-lengths (k + length q) qs)
+
+runs-short : (k : ℕ) (qs : List (List Record)) → length (flatten qs) ≤ slotCount → All (λ l. length l ≤ slotCount) (runs k qs)
+unfolding runs flatten
+runs-short k [] h = tt
+runs-short k (q ∷ qs) h =
+    (omega (arith, length-up k (length q), length-append q (flatten qs)), runs-short (k + length q) qs (omega (arith, length-append q (flatten qs))))
+
+sum-lengths : (qs : List (List Record)) → sum (map length qs) ≡ length (flatten qs)
+unfolding sum flatten
+sum-lengths [] = refl
+sum-lengths (q ∷ qs) = omega (arith, length-append q (flatten qs), sum-lengths qs)
 
 -- ---- the service record and the machine check
 body : Option Record → Record
@@ -157,27 +225,78 @@ module _ (p : Pending) (h : SoundPending p) (few : queued p ≤ slotCount) where
   fits : length (flatten qs) ≤ slotCount
   fits = omega (arith, ap length all-records, length-append (flatten (p .io)) (p .done), few)
 
+  -- nine queues of the records, and how many they hold
+  nine : length qs ≡ 9
+  unfolding qs
+  nine = omega (arith, length-append (p .io) (p .done ∷ []), h .eight)
+
+  abbrev n : ℕ
+  n = length (flatten qs)
+
+  abbrev ls : List (List ℕ)
+  ls = runs 0 qs
+
+  nine-runs : length ls ≡ 9
+  nine-runs = sym (length-map ls length) ∙ ap length (runs-lengths 0 qs) ∙ length-map qs length ∙ nine
+
+  abbrev free-run : List ℕ
+  free-run = padded (upFrom n (slotCount - n))
+
+  abbrev mask : ℕ
+  mask = bits 128 (map length qs)
+
   controllerFor : Bool → Controller
   controllerFor ais =
       record {
         slots = flatten (flatten qs) ++ replicate (slotCount * 72 - length (flatten (flatten qs))) 0;
-        order = upFrom 0 slotCount;
-        counts = map length qs;
+        order = orderOf ls ++ free-run;
+        counts = map length qs ++ (n ∷ mask ∷ []);
         singles = singlesFor (p .service) (p .mchk);
         ais = ais;
       }
 
+  counts-long : length (map length qs) ≡ 9
+  counts-long = length-map qs length ∙ nine
+
+  each-back : each (map length qs ++ (n ∷ mask ∷ [])) ≡ map length qs
+  each-back = take-at (map length qs) (n ∷ mask ∷ []) 9 counts-long
+
+  total-back : total (map length qs ++ (n ∷ mask ∷ [])) ≡ n
+  total-back = getD-past (map length qs) (n ∷ mask ∷ []) 9 0 0 counts-long
+
+  used-back : used (orderOf ls ++ free-run) (map length qs ++ (n ∷ mask ∷ [])) ≡ ls
+  used-back = ap (rows (orderOf ls ++ free-run) 0) (each-back ∙ sym (runs-lengths 0 qs)) ∙ rows-back [] 0 ls free-run refl (runs-short 0 qs fits)
+
+  spare-back : spare (orderOf ls ++ free-run) (map length qs ++ (n ∷ mask ∷ [])) ≡ upFrom n (slotCount - n)
+  spare-back =
+      let l : length (orderOf ls) ≡ 9 * slotCount = length-order ls (runs-short 0 qs fits) ∙ ap (λ (m : ℕ). m * slotCount) nine-runs in
+      ap (λ (m : ℕ). row (orderOf ls ++ free-run) 9 (slotCount - m)) total-back
+      ∙ ap₂ (λ (o : List ℕ) (m : ℕ). row (orderOf ls ++ o) 9 m) (sym (append-nil free-run)) (sym (length-up n (slotCount - n)))
+      ∙ row-padded (orderOf ls) (upFrom n (slotCount - n)) [] 9 l
+
   held : (ais : Bool) → Held (controllerFor ais .order) (controllerFor ais .counts)
   unfolding controllerFor
-  held ais = record { apart = up-apart slotCount; few = omega (arith, sum-lengths qs, fits) }
+  held ais =
+      record {
+        long = omega (arith, length-append (orderOf ls) free-run, length-order ls (runs-short 0 qs fits), nine-runs, length-padded (upFrom n (slotCount - n)) (omega (arith, length-up n (slotCount - n))));
+        counted =
+            record {
+              long = omega (arith, length-append (map length qs) (n ∷ mask ∷ []), counts-long);
+              all = total-back ∙ sym (ap sum each-back ∙ sum-lengths qs);
+              few = omega (arith, total-back, fits);
+              marked = getD-past (map length qs) (n ∷ mask ∷ []) 9 1 0 counts-long ∙ ap (bits 128) (sym each-back);
+            };
+        apart = subst Apart (sym (ap₂ (λ (a : List (List ℕ)) (b : List ℕ). flatten a ++ b) used-back spare-back ∙ ap (λ (l : List ℕ). l ++ upFrom n (slotCount - n)) (runs-all 0 qs) ∙ joined)) (unfold Apart in λ s. up-once s 0 (n + (slotCount - n)));
+      }
+    where
+      joined : upFrom 0 n ++ upFrom n (slotCount - n) ≡ upFrom 0 (n + (slotCount - n))
+      joined = ap (λ (i : ℕ). upFrom 0 n ++ upFrom i (slotCount - n)) (sym (zero-add n)) ∙ up-more 0 n (slotCount - n)
 
   queues-back : (ais : Bool) → queues (controllerFor ais .order) (controllerFor ais .counts) (controllerFor ais .slots) ≡ qs
   unfolding queues controllerFor
   queues-back ais =
-      ap (cut (map length qs))
-      (ap (λ (n : ℕ). listed 72 (upFrom 0 slotCount) n (flatten (flatten qs) ++ replicate (slotCount * 72 - length (flatten (flatten qs))) 0)) (sum-lengths qs)
-      ∙ listed-back slotCount (flatten qs) _ fits whole)
-      ∙ cut-back qs
+      ap (map (listed (flatten (flatten qs) ++ replicate (slotCount * 72 - length (flatten (flatten qs))) 0))) used-back
+      ∙ runs-back [] 0 qs (replicate (slotCount * 72 - length (flatten (flatten qs))) 0) refl whole
 
   pending-back : (ais : Bool) → pendingOf (controllerFor ais .order) (controllerFor ais .counts) (controllerFor ais .slots) (controllerFor ais .singles) ≡ p
   unfolding pendingOf qs controllerFor

@@ -1,15 +1,17 @@
 -- Laws of the pending records in lent memory: the listing, what a removal leaves, and the four cases of the take. Assumes nothing.
 use mathlib.Core.Path.{_≡_, refl, sym, ap, _∙_}
-use mathlib.Core.Bool.{Bool, true, false, not, _&&_}
+use mathlib.Core.Bool.{Bool, true, false, not, _&&_, true≢false}
+use mathlib.Core.Logic.{_⊎_, inl, inr}
 use mathlib.Core.Option.{Option, none, some}
 use mathlib.Core.List.{List, [], _∷_, _++_, flatten, append-assoc, append-nil}
-use Prim.Native.Nat.{ℕ, zero, suc, _+_, _-_, _*_, _≤_, _<_}
+use Prim.Native.Nat.{ℕ, zero, suc, _+_, _*_, _/_, _%_, _≤_, _<_}
 use native.Mathlib.Nat.{not-suc-le-zero}
 use native.Mathlib.Omega.{arith}
-use borrow.Author.Tests.{le-leb, lt-leb, ne-eqb, ltb-true, ltb-false}
-use lib.ListN.{length, take, drop, getD, set, replicate, length-append, length-take, length-drop, take-append-drop, List·getD-append}
-use lib.Dec.{eqb, ltb}
-use lib.Seq.{take-all, take-suc, take-at, drop-at, drop-drop, take-set-le, getD-set-same, paste, length-paste}
+use borrow.Author.Tests.{le-leb, lt-leb, ne-eqb}
+use lib.ListN.{length, take, drop, getD, set, replicate, length-append, length-take, length-drop}
+use lib.Bits.{bitAnd}
+use lib.Dec.{eqb}
+use lib.Seq.{take-all, take-suc, take-at, drop-at, drop-drop, take-set-le, take-set-lt, getD-take, getD-set-same, getD-set-other, paste, length-paste}
 use Rattle.rules.specs.Bytes.{choose, byte, part, field}
 use Rattle.rules.specs.State.{Limits, State, Record, Pending, nothing, withPending, single, listing}
 use Rattle.rules.specs.Outcome.{refuse, accept}
@@ -21,15 +23,19 @@ use Rattle.answers.specs.Answers.{Answers, answered}
 use Rattle.answers.proofs.Laws.{same-state, accepted}
 use Rattle.answers.specs.declared.Answer.{Answer}
 use Rattle.slots.specs.Slots.{removeAt}
-use Rattle.queues.specs.Queues.{sum, cut, queues, withoutAt}
-use Rattle.queues.proofs.Laws.{without-here, without-past, length-queues, length-flatten-queues, queues-none}
+use Rattle.queues.specs.Queues.{total, waiting, queues, withoutAt, Held}
+use Rattle.queues.proofs.Laws.{length-queues, length-queue, length-flatten-queues}
+use Rattle.queues.proofs.Counts.{waiting-bit}
 use Rattle.singles.specs.Singles.{ifThere, serviceOf, mchkOf}
 use Rattle.singles.proofs.Laws.{absent-if, there-if}
 use Rattle.search.specs.declared.Found.{Found}
 use Rattle.search.specs.declared.Found.the-variants.{At, None}
-use Rattle.search.specs.Search.{searchQueues, leftAt, handedAt}
-use Rattle.search.proofs.Laws.{found-below}
+use Rattle.search.specs.Search.{isForWord, leftAt, handedAt}
+use Rattle.search.proofs.Laws.{has-both, same-mask}
 use Rattle.records.specs.Memory.{pendingOf}
+use Rattle.outgoing.specs.declared.Next.{Next}
+use Rattle.outgoing.specs.declared.Next.the-variants as next
+use Rattle.outgoing.specs.Next.{withQueues, handsQueued, handedNext}
 
 -- ---- the listing of nine queues and two records
 whole : (qs : List (List Record)) → length qs ≡ 9 → flatten (take 8 qs) ++ getD qs 8 [] ≡ flatten qs
@@ -38,16 +44,15 @@ whole qs h =
     sym (ap flatten (sym (take-all 9 qs (omega arith)) ∙ take-suc qs 8 [] (omega arith)) ∙ flatten-append (take 8 qs) (getD qs 8 [] ∷ [])
     ∙ ap (λ (l : List Record). flatten (take 8 qs) ++ l) (append-nil (getD qs 8 [])))
 
-module _ (o c b g : List ℕ) (h : length c ≡ 9) where
+module _ (o c b g : List ℕ) (h : Held o c) where
   pub listing-is : listing (pendingOf o c b g) ≡ (flatten (queues o c b) ++ single (serviceOf g)) ++ single (mchkOf g)
   unfolding listing pendingOf
   listing-is =
       sym (append-assoc (flatten (take 8 (queues o c b))) (getD (queues o c b) 8 []) _)
-      ∙ rw (whole (queues o c b) (length-queues o c b ∙ h)) (sym (append-assoc (flatten (queues o c b)) (single (serviceOf g)) (single (mchkOf g))))
+      ∙ rw (whole (queues o c b) (length-queues o c h b)) (sym (append-assoc (flatten (queues o c b)) (single (serviceOf g)) (single (mchkOf g))))
 
-  pub length-listing : sum c ≤ length o
-      → length (listing (pendingOf o c b g)) ≡ sum c + length (single (serviceOf g)) + length (single (mchkOf g))
-  length-listing k = rw (listing-is, length-append, length-append, length-flatten-queues o c b k)
+  pub length-listing : length (listing (pendingOf o c b g)) ≡ total c + length (single (serviceOf g)) + length (single (mchkOf g))
+  length-listing = rw (listing-is, length-append, length-append, length-flatten-queues o c h b)
 
 -- what has_service and has_mchk say
 module _ (g : List ℕ) (t : Bool) where
@@ -73,11 +78,11 @@ unfolding choose
 one-there n r true e = rw (there-if n r true e refl)
 one-there n r false e = rw (absent-if n r false e refl)
 
-pub count-is : (o c b g : List ℕ) (q x y : ℕ) (t u : Bool) → length c ≡ 9 → sum c ≤ length o → q ≡ sum c → t ≡ not (eqb (byte 144 g) 0)
+pub count-is : (o c b g : List ℕ) (q x y : ℕ) (t u : Bool) → Held o c → q ≡ total c → t ≡ not (eqb (byte 144 g) 0)
     → u ≡ not (eqb (byte 145 g) 0) → x ≡ choose t 1 0 → y ≡ choose u 1 0 → q + x + y ≡ length (listing (pendingOf o c b g))
 unfolding serviceOf mchkOf
-count-is o c b g q x y t u h k eq et eu ex ey =
-    rw (eq, ex, ey, one-there (byte 144 g) (part 0 72 g) t et, one-there (byte 145 g) (part 72 72 g) u eu) (sym (length-listing o c b g h k))
+count-is o c b g q x y t u h eq et eu ex ey =
+    rw (eq, ex, ey, one-there (byte 144 g) (part 0 72 g) t et, one-there (byte 145 g) (part 72 72 g) u eu) (sym (length-listing o c b g h))
 
 -- ---- what stands in out: the records l, and out's own bytes from n on
 pub record Wrote (out d : List ℕ) (l : List Record) (n : ℕ) : Type 0 where
@@ -109,67 +114,35 @@ module _ (out d : List ℕ) (l : List Record) (n : ℕ) (w : Wrote out d l n) (x
 pub front : (k l : List Record) (m : ℕ) → 72 * length (k ++ l) ≤ m → 72 * length k ≤ m
 front k l m h = omega (arith, rw length-append at h)
 
-pub wrote-all : (o c b g out d : List ℕ) (n : ℕ) → length c ≡ 9 → Wrote out d ((flatten (queues o c b) ++ single (serviceOf g)) ++ single (mchkOf g)) n
+pub wrote-all : (o c b g out d : List ℕ) (n : ℕ) → Held o c → Wrote out d ((flatten (queues o c b) ++ single (serviceOf g)) ++ single (mchkOf g)) n
     → d ≡ flatten (listing (pendingOf o c b g)) ++ drop (72 * length (listing (pendingOf o c b g))) out
 wrote-all o c b g out d n h w = rw (listing-is o c b g h, ← w .count) (w .text)
 
-pub wrote-queues : (o c b out d : List ℕ) (n : ℕ) → n ≡ sum c → sum c ≤ length o → sum c * 72 ≤ length out → length d ≡ length out
-    → d ≡ flatten (flatten (queues o c b)) ++ drop (sum c * 72) out → Wrote out d (flatten (queues o c b)) (n * 72)
-wrote-queues o c b out d n en k m f e =
+pub wrote-queues : (o c b out d : List ℕ) (n : ℕ) → n ≡ total c → Held o c → total c * 72 ≤ length out → length d ≡ length out
+    → d ≡ flatten (flatten (queues o c b)) ++ drop (total c * 72) out → Wrote out d (flatten (queues o c b)) (n * 72)
+wrote-queues o c b out d n en h m f e =
     record {
       text = rw en e;
-      size = omega (arith, ap length e, length-append (flatten (flatten (queues o c b))) (drop (sum c * 72) out), length-drop (sum c * 72) out);
-      count = rw (length-flatten-queues o c b k) (omega arith);
+      size = omega (arith, ap length e, length-append (flatten (flatten (queues o c b))) (drop (total c * 72) out), length-drop (total c * 72) out);
+      count = rw (length-flatten-queues o c h b) (omega arith);
       long = f;
     }
 
 -- ---- what a removal leaves
--- without a record of the first n queues: what is left of these, and the queue behind them
-abbrev Leaves : ℕ → ℕ → List (List Record) → Type 0
-Leaves n k qs = (take n (withoutAt k qs) ≡ withoutAt k (take n qs)) × (getD (withoutAt k qs) n [] ≡ getD qs n [])
+-- without a record of the first eight queues: what is left of these, and the ninth
+module _ (qs : List (List Record)) (i k : ℕ) (h : i < 8) where
+  pub eight-left : take 8 (withoutAt i k qs) ≡ withoutAt i k (take 8 qs)
+  unfolding withoutAt
+  eight-left = rw (take-set-lt 8 qs i (removeAt k (getD qs i [])) h, getD-take 8 qs i [] h)
 
-leaves-by : (n k : ℕ) (q : List Record) (qs : List (List Record)) (t : Bool) → ltb k (length q) ≡ t
-    → ((m : ℕ) → k ≡ length q + m → Leaves n m qs) → Leaves (suc n) k (q ∷ qs)
-leaves-by n k q qs true e ih =
-    let l = ltb-true k (length q) e in
-    (rw (without-here k q qs l, without-here k q (take n qs) l), rw (without-here k q qs l))
-leaves-by n k q qs false e ih =
-    let m : ℕ = k - length q in
-    let ek : k ≡ length q + m = omega (arith, ltb-false k (length q) e) in
-    let h = ih m ek in
-    (rw (ek, without-past, without-past, h .0), rw (ek, without-past) (h .1))
+  pub ninth-left : getD (withoutAt i k qs) 8 [] ≡ getD qs 8 []
+  unfolding withoutAt
+  ninth-left = getD-set-other qs i 8 (removeAt k (getD qs i [])) [] (λ e. omega (arith, e))
 
-leaves : (n k : ℕ) (qs : List (List Record)) → k < length (flatten (take n qs)) → Leaves n k qs
-unfolding flatten
-leaves zero k qs h = absurd (not-suc-le-zero h)
-leaves (suc n) k [] h = absurd (not-suc-le-zero h)
-leaves (suc n) k (q ∷ qs) h = leaves-by n k q qs _ refl (λ m e. leaves n m qs (omega (arith, length-append q (flatten (take n qs)))))
-
--- a record of the first n queues is one of all, at the same place
-record-of : (n k : ℕ) (qs : List (List Record)) → k < length (flatten (take n qs)) → getD (flatten qs) k [] ≡ getD (flatten (take n qs)) k []
-record-of n k qs h =
-    let e : flatten qs ≡ flatten (take n qs) ++ flatten (drop n qs) = ap flatten (sym (take-append-drop n qs)) ∙ flatten-append (take n qs) (drop n qs) in
-    rw e (List·getD-append (flatten (take n qs)) (flatten (drop n qs)) [] k h)
-
-within : (qs : List (List Record)) (i : ℕ) → 0 < length (getD qs i []) → i < length qs
-within [] i h = absurd (not-suc-le-zero h)
-within (q ∷ qs) zero h = omega arith
-within (q ∷ qs) (suc i) h = omega (arith, within qs i h)
-
-module _ (o c u v b g : List ℕ) where
-  pub io-left : (k : ℕ) → k < length (flatten (take 8 (queues o c b))) → queues u v b ≡ withoutAt k (queues o c b)
-      → let p = pendingOf o c b g in
-      pendingOf u v b g ≡ record { io = withoutAt k (p .io); done = p .done; service = p .service; mchk = p .mchk }
-  unfolding pendingOf
-  io-left k h e =
-      let l = leaves 8 k (queues o c b) h in
-      rw (e, l .0, l .1)
-
-  pub done-left : 0 < length (pendingOf o c b g .done) → queues u v b ≡ set (queues o c b) 8 (removeAt 0 (getD (queues o c b) 8 []))
-      → let p = pendingOf o c b g in
-      pendingOf u v b g ≡ record { io = p .io; done = removeAt 0 (p .done); service = p .service; mchk = p .mchk }
-  unfolding pendingOf
-  done-left h e = rw (e, take-set-le 8 (queues o c b) 8 _ (omega arith), getD-set-same (queues o c b) 8 _ [] (within (queues o c b) 8 h))
+-- the queues are others
+pub queues-left : (o c u v b g : List ℕ) (qs : List (List Record)) → queues u v b ≡ qs → pendingOf u v b g ≡ withQueues qs (pendingOf o c b g)
+unfolding pendingOf
+queues-left o c u v b g qs e = rw e
 
 module _ (o c b g d : List ℕ) where
   pub mchk-left : mchkOf d ≡ none → serviceOf d ≡ serviceOf g
@@ -184,51 +157,47 @@ module _ (o c b g d : List ℕ) where
   unfolding pendingOf
   service-left e f = rw (e, f)
 
-pub none-left : (o c b g : List ℕ) → c ≡ replicate 9 0 → serviceOf g ≡ none → mchkOf g ≡ none → pendingOf o c b g ≡ nothing
+pub none-left : (o c b g : List ℕ) → queues o c b ≡ replicate 9 [] → serviceOf g ≡ none → mchkOf g ≡ none → pendingOf o c b g ≡ nothing
 unfolding pendingOf
-none-left o c b g e f k = rw (e, f, k, queues-none o b)
+none-left o c b g e f k = rw (e, f, k)
 
--- ---- a queue has no more records than counted
-cut-short : {A : Type 0} (cs : List ℕ) (l : List A) (q : ℕ) → length (getD (cut cs l) q []) ≤ getD cs q 0
-unfolding cut
-cut-short [] l q = omega arith
-cut-short (c ∷ cs) l zero = omega (arith, length-take c l)
-cut-short (c ∷ cs) l (suc q) = cut-short cs (drop c l) q
+-- ---- CLEAR_IO_IRQ: the word is the subchannel's id and number
+module _ (b : List ℕ) (w : ℕ) (e : w ≡ field 0 2 b * 65536 + field 2 2 b) where
+  pub word-zero : w ≡ 0 → not (isZero (field 0 2 b) && isZero (field 2 2 b)) ≡ false
+  word-zero h =
+      let x : field 0 2 b ≡ 0 = omega arith in
+      let y : field 2 2 b ≡ 0 = omega arith in
+      rw (x, y)
 
-pub queue-short : (o c b : List ℕ) (q : ℕ) → length (getD (queues o c b) q []) ≤ getD c q 0
-unfolding queues
-queue-short o c b q = cut-short c _ q
+  some-half : (x y : ℕ) → (x * 65536 + y ≡ 0 → ⊥) → (isZero x && isZero y) ≡ false
+  some-half zero zero h = absurd (h refl)
+  some-half zero (suc y) h = ne-eqb (suc y) 0 (λ z. omega (arith, z))
+  some-half (suc x) y h = rw (ne-eqb (suc x) 0 (λ z. omega (arith, z)))
 
--- ---- CLEAR_IO_IRQ: both words of the subchannel are 0, or one is not
-module _ (b : List ℕ) (x y : ℕ) (ex : x ≡ field 0 2 b) (ey : y ≡ field 2 2 b) where
-  pub both-zero : x ≡ 0 → eqb y 0 ≡ true → not (isZero (field 0 2 b) && isZero (field 2 2 b)) ≡ false
-  both-zero h k = rw (← ex, ← ey, h, k)
+  pub word-some : (w ≡ 0 → ⊥) → (isZero (field 0 2 b) && isZero (field 2 2 b)) ≡ false
+  word-some h = some-half (field 0 2 b) (field 2 2 b) (λ z. h (e ∙ z))
 
-  pub first-word : (x ≡ 0 → ⊥) → (isZero (field 0 2 b) && isZero (field 2 2 b)) ≡ false
-  first-word h = rw (← ex, ne-eqb x 0 h)
+  -- what the rules do by the answer of the search
+  module _ (small : field 2 2 b < 65536) (L : Limits) (s : State) (attr : ℕ) (h : 4 ≤ attr) (k : 4 ≤ length b) (f : w ≡ 0 → ⊥) (o c m g : List ℕ) (ep : s .pending ≡ pendingOf o c m g) where
+    clears-by : (v : Found) → withoutFirst (isForWord w) (take 8 (queues o c m)) ≡ leftAt v (take 8 (queues o c m)) → request L s clearIoIrq attr b ≡ removes s (leftAt v (take 8 (queues o c m)))
+    unfolding request clearsIo pendingOf
+    clears-by v t =
+        let x : w / 65536 ≡ field 0 2 b = omega (arith, e, small) in
+        let y : w % 65536 ≡ field 2 2 b = omega (arith, e, small) in
+        passes _ _ _ (le-leb 4 attr h) ∙ passes _ _ _ (le-leb 4 (length b) k) ∙ passes _ _ _ (ap not (word-some f))
+        ∙ rw (ep, ← x, ← y, t)
 
-  pub second-word : x ≡ 0 → eqb y 0 ≡ false → (isZero (field 0 2 b) && isZero (field 2 2 b)) ≡ false
-  second-word h k = rw (← ex, ← ey, h, k)
+    pub clears-none : (v : Found) → v ≡ None → withoutFirst (isForWord w) (take 8 (queues o c m)) ≡ leftAt v (take 8 (queues o c m)) → request L s clearIoIrq attr b ≡ accept 0 (withPending (pendingOf o c m g) s) []
+    unfolding removes
+    clears-none v ev t = clears-by None (t ∙ ap (λ (u : Found). leftAt u (take 8 (queues o c m))) ev) ∙ ap (λ (t : State). accept 0 t []) (sym (same-state s (pendingOf o c m g) ep))
 
--- what the rules do by the answer of the search
-module _ (L : Limits) (s : State) (attr : ℕ) (b : List ℕ) (x y : ℕ) (ex : x ≡ field 0 2 b) (ey : y ≡ field 2 2 b) (h : 4 ≤ attr) (k : 4 ≤ length b) (z : (isZero (field 0 2 b) && isZero (field 2 2 b)) ≡ false) (o c m g : List ℕ) (e : s .pending ≡ pendingOf o c m g) where
-  clears-by : (v : Found) → withoutFirst (isFor x y) (take 8 (queues o c m)) ≡ leftAt v (take 8 (queues o c m)) → request L s clearIoIrq attr b ≡ removes s (leftAt v (take 8 (queues o c m)))
-  unfolding request clearsIo pendingOf
-  clears-by v t =
-      passes _ _ _ (le-leb 4 attr h) ∙ passes _ _ _ (le-leb 4 (length b) k) ∙ passes _ _ _ (ap not z)
-      ∙ rw (e, ← ex, ← ey, t)
-
-  pub clears-none : (v : Found) → v ≡ None → withoutFirst (isFor x y) (take 8 (queues o c m)) ≡ leftAt v (take 8 (queues o c m)) → request L s clearIoIrq attr b ≡ accept 0 (withPending (pendingOf o c m g) s) []
-  unfolding removes
-  clears-none v w t = clears-by None (t ∙ ap (λ (u : Found). leftAt u (take 8 (queues o c m))) w) ∙ ap (λ (t : State). accept 0 t []) (sym (same-state s (pendingOf o c m g) e))
-
-  pub clears-one : (v : Found) (i k : ℕ) (u d : List ℕ) → v ≡ At (record { 0 = i }) k → v ≡ searchQueues (isFor x y) 255 0 0 (take 8 (queues o c m))
-      → withoutFirst (isFor x y) (take 8 (queues o c m)) ≡ leftAt v (take 8 (queues o c m))
-      → queues u d m ≡ withoutAt k (queues o c m) → request L s clearIoIrq attr b ≡ accept 1 (withPending (pendingOf u d m g) s) []
-  unfolding removes
-  clears-one v i k u d w f t q =
-      let l = found-below (isFor x y) 255 (take 8 (queues o c m)) i k (sym f ∙ w) in
-      clears-by (At (record { 0 = i }) k) (t ∙ ap (λ (u : Found). leftAt u (take 8 (queues o c m))) w) ∙ rw (io-left o c u d m g k l q, e) (unfold pendingOf in refl)
+    pub clears-one : (v : Found) (i j : ℕ) (u d : List ℕ) → v ≡ At (record { 0 = i }) j → i < 8
+        → withoutFirst (isForWord w) (take 8 (queues o c m)) ≡ leftAt v (take 8 (queues o c m))
+        → queues u d m ≡ withoutAt i j (queues o c m) → request L s clearIoIrq attr b ≡ accept 1 (withPending (pendingOf u d m g) s) []
+    unfolding removes
+    clears-one v i j u d ev l t q =
+        clears-by (At (record { 0 = i }) j) (t ∙ ap (λ (u : Found). leftAt u (take 8 (queues o c m))) ev)
+        ∙ rw (queues-left o c u d m g _ q, eight-left (queues o c m) i j l, ninth-left (queues o c m) i j l, ep) (unfold pendingOf in refl)
 
 -- ---- the take: a class of records that hands nothing out
 abbrev pub NoMchk : Pending → Bool → Type 0
@@ -236,13 +205,6 @@ NoMchk p k = choose k (handMchk p (p .mchk)) none ≡ none
 
 abbrev pub NoService : Pending → Bool → Type 0
 NoService p e = choose e (handService p (p .service)) none ≡ none
-
-abbrev pub NoDone : Pending → Bool → Type 0
-NoDone p e = choose e (handDone p (p .done)) none ≡ none
-
-empty : (l : List Record) → length l ≤ 0 → l ≡ []
-empty [] h = refl
-empty (x ∷ l) h = absurd (not-suc-le-zero h)
 
 module _ (o c b g : List ℕ) where
   pub no-mchk : mchkOf g ≡ none → (k : Bool) → NoMchk (pendingOf o c b g) k
@@ -255,17 +217,60 @@ module _ (o c b g : List ℕ) where
   no-service e true = rw e
   no-service e false = refl
 
-pub no-done : (o c b g : List ℕ) (n : ℕ) → n ≡ getD c 8 0 → ltb 0 n ≡ false → (k : Bool) → NoDone (pendingOf o c b g) k
-unfolding pendingOf choose
-no-done o c b g n e h true = rw (empty (getD (queues o c b) 8 []) (omega (arith, queue-short o c b 8, ltb-false 0 n h)))
-no-done o c b g n e h false = refl
+-- ---- the take from the queues
+module _ (o c b g : List ℕ) (h : Held o c) where
+  -- a finished page fault
+  first-of : (q : List Record) → 0 < length q → (p : Pending) → handDone p q
+      ≡ some (record { given = getD q 0 []; left = record { io = p .io; done = removeAt 0 q; service = p .service; mchk = p .mchk } })
+  unfolding removeAt
+  first-of [] k p = absurd (not-suc-le-zero k)
+  first-of (x ∷ q) k p = refl
 
-first-of : (q : List Record) (r : Record) → r ≡ getD q 0 [] → length r ≡ 72 → q ≡ r ∷ removeAt 0 q
-unfolding removeAt
-first-of [] r e h = absurd (omega (arith, ap length e))
-first-of (x ∷ q) r e h = ap (λ (y : Record). y ∷ q) (sym e)
+  pub next-done : (v : Next) (m : ℕ) (e : Bool) → e ≡ true → 0 < getD c 8 0 → v ≡ next.At (record { 0 = 8 }) 0
+      → handsQueued (pendingOf o c b g) m e ≡ handedNext v (queues o c b) (pendingOf o c b g)
+  unfolding pendingOf orElse choose withoutAt
+  next-done v m e ee k ev =
+      let qs = queues o c b in
+      let f = first-of (getD qs 8 []) (rw (length-queue o c h b 8 (omega arith)) k) (pendingOf o c b g) in
+      let l : 8 < length qs = omega (arith, length-queues o c h b) in
+      rw (ev, ee, f, take-set-le 8 qs 8 (removeAt 0 (getD qs 8 [])) (omega arith), getD-set-same qs 8 (removeAt 0 (getD qs 8 [])) [] l)
 
--- the four cases: what is handed out, and what is left
+  -- no finished page fault
+  none-first : (q : List Record) → length q ≡ 0 → (p : Pending) → handDone p q ≡ none
+  none-first [] k p = refl
+  none-first (x ∷ q) k p = absurd (omega arith)
+
+  pub no-done : (e : Bool) → (e ≡ false) ⊎ (getD c 8 0 ≡ 0) → choose e (handDone (pendingOf o c b g) (pendingOf o c b g .done)) none ≡ none
+  unfolding pendingOf choose
+  no-done false k = refl
+  no-done true (inl k) = absurd (true≢false k)
+  no-done true (inr k) = none-first (getD (queues o c b) 8 []) (length-queue o c h b 8 (omega arith) ∙ k) (pendingOf o c b g)
+
+  -- the subclasses that have no records decide nothing
+  same-first : (m : ℕ) → firstAllowed 0 (bitAnd m (waiting c)) (take 8 (queues o c b)) ≡ firstAllowed 0 m (take 8 (queues o c b))
+  same-first m =
+      let qs = queues o c b in
+      same-mask 0 (bitAnd m (waiting c)) m (take 8 qs) (λ i k l.
+      let i8 : i < 8 = omega (arith, length-take 8 qs, k) in
+      let n : getD c i 0 ≡ 0 → ⊥ = λ z. omega (arith, rw (getD-take 8 qs i [] i8) at l, length-queue o c h b i (omega arith), z) in
+      let e : 0 + i ≡ i = omega arith in
+      rw e (has-both i m (waiting c) (omega arith) (waiting-bit c (h .counted) i (omega arith) n)))
+
+  module _ (m w : ℕ) (e : Bool) (ew : w ≡ bitAnd m (waiting c)) (nd : choose e (handDone (pendingOf o c b g) (pendingOf o c b g .done)) none ≡ none) (u : Found)
+      (eu : firstAllowed 0 w (take 8 (queues o c b)) ≡ handedAt u (take 8 (queues o c b))) where
+    by-search : handsQueued (pendingOf o c b g) m e ≡ handIo (pendingOf o c b g) (handedAt u (take 8 (queues o c b)))
+    unfolding orElse pendingOf
+    by-search = rw (nd, ← same-first m, ← ew, eu)
+
+    pub next-none : (v : Next) → v ≡ next.None → u ≡ None → handsQueued (pendingOf o c b g) m e ≡ handedNext v (queues o c b) (pendingOf o c b g)
+    next-none v ev f = by-search ∙ rw (f, ev)
+
+    pub next-io : (v : Next) (i k : ℕ) → v ≡ next.At (record { 0 = i }) k → u ≡ At (record { 0 = i }) k → i < 8
+        → handsQueued (pendingOf o c b g) m e ≡ handedNext v (queues o c b) (pendingOf o c b g)
+    next-io v i k ev f l =
+        by-search ∙ rw (f, ev, eight-left (queues o c b) i k l, ninth-left (queues o c b) i k l, getD-take 8 (queues o c b) i [] l) (unfold pendingOf in refl)
+
+-- the three cases: what is handed out, and what is left
 module _ (o c b g : List ℕ) (m : ℕ) (e k : Bool) where
   pub hands-mchk : (d r : List ℕ) → k ≡ true → mchkOf g ≡ some r → mchkOf d ≡ none → serviceOf d ≡ serviceOf g
       → handed (pendingOf o c b g) m e k ≡ some (record { given = r; left = pendingOf o c b d })
@@ -282,33 +287,17 @@ module _ (o c b g : List ℕ) (m : ℕ) (e k : Bool) where
         let v : pendingOf o c b g .service ≡ some r = unfold pendingOf in u in
         rw (service-left o c b g d x y, n₁, f, v)
 
-    module _ (n₂ : NoService (pendingOf o c b g) e) where
-      pub hands-done : (u v r : List ℕ) → e ≡ true → r ≡ getD (getD (queues o c b) 8 []) 0 [] → length r ≡ 72
-          → queues u v b ≡ set (queues o c b) 8 (removeAt 0 (getD (queues o c b) 8 []))
-          → handed (pendingOf o c b g) m e k ≡ some (record { given = r; left = pendingOf u v b g })
-      unfolding handed orElse choose removeAt
-      hands-done u v r ee er l q =
-          let p = pendingOf o c b g in
-          let f : p .done ≡ r ∷ removeAt 0 (p .done) = unfold pendingOf in first-of (getD (queues o c b) 8 []) r er l in
-          rw (done-left o c u v b g (rw f (omega arith)) q, n₁, n₂, ee, f)
+    module _ (n₂ : NoService (pendingOf o c b g) e) (v : Next) (t : handsQueued (pendingOf o c b g) m e ≡ handedNext v (queues o c b) (pendingOf o c b g)) where
+      by-next : handed (pendingOf o c b g) m e k ≡ handedNext v (queues o c b) (pendingOf o c b g)
+      unfolding handed orElse
+      by-next = rw (n₁, n₂) (unfold orElse in t)
 
-      module _ (n₃ : NoDone (pendingOf o c b g) e) where
-        hands-by : (v : Found) → firstAllowed 0 m (take 8 (queues o c b)) ≡ handedAt v (take 8 (queues o c b))
-            → let p = pendingOf o c b g in
-            handed p m e k ≡ handIo p (handedAt v (p .io))
-        unfolding handed orElse pendingOf
-        hands-by v t = rw (n₁, n₂, n₃, t)
+      pub hands-nothing : v ≡ next.None → handed (pendingOf o c b g) m e k ≡ none
+      hands-nothing ev = by-next ∙ rw ev
 
-        pub hands-nothing : (v : Found) → v ≡ None → firstAllowed 0 m (take 8 (queues o c b)) ≡ handedAt v (take 8 (queues o c b)) → handed (pendingOf o c b g) m e k ≡ none
-        hands-nothing v w t = hands-by None (t ∙ ap (λ (u : Found). handedAt u (take 8 (queues o c b))) w)
-
-        pub hands-io : (v : Found) (x n : ℕ) (u d r : List ℕ) → v ≡ At (record { 0 = x }) n → v ≡ searchQueues (λ r. true) m 0 0 (take 8 (queues o c b))
-            → firstAllowed 0 m (take 8 (queues o c b)) ≡ handedAt v (take 8 (queues o c b))
-            → r ≡ getD (flatten (queues o c b)) n [] → queues u d b ≡ withoutAt n (queues o c b)
-            → handed (pendingOf o c b g) m e k ≡ some (record { given = r; left = pendingOf u d b g })
-        hands-io v x n u d r w f t er q =
-            let l = found-below (λ r. true) m (take 8 (queues o c b)) x n (sym f ∙ w) in
-            hands-by (At (record { 0 = x }) n) (t ∙ ap (λ (u : Found). handedAt u (take 8 (queues o c b))) w) ∙ rw (io-left o c u d b g n l q, er, record-of 8 n (queues o c b) l) (unfold pendingOf in refl)
+      pub hands-queued : (q n : ℕ) (u d r : List ℕ) → v ≡ next.At (record { 0 = q }) n → r ≡ getD (getD (queues o c b) q []) n [] → queues u d b ≡ withoutAt q n (queues o c b)
+          → handed (pendingOf o c b g) m e k ≡ some (record { given = r; left = pendingOf u d b g })
+      hands-queued q n u d r ev er eq = by-next ∙ rw (ev, er, queues-left o c u d b g _ eq)
 
 -- from what is handed out to the answer
 module _ (L : Limits) (s : State) (p : Pending) (m : ℕ) (e k : Bool) (b : List ℕ) (a : Answer) (x : s .pending ≡ p) (h : 72 ≤ length b) where

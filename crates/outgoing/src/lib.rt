@@ -1,30 +1,28 @@
 // Inner crate: records that are counted, listed, removed or handed out: CLEAR_IRQS, GET_ALL_IRQS, CLEAR_IO_IRQ and the guest take.
 ghost use mathlib.Core.Path.{_≡_};
-ghost use mathlib.Core.Option.{none};
-ghost use mathlib.Core.List.{List, [], _++_, flatten};
-ghost use Prim.Native.Nat.{ℕ, _*_, _≤_, _<_};
-ghost use lib.ListN.{length, getD, set, drop};
-ghost use Rattle.rules.specs.Bytes.{choose, part};
+ghost use mathlib.Core.List.{List, _++_, flatten};
+ghost use Prim.Native.Nat.{ℕ, _*_, _≤_};
+ghost use lib.ListN.{length, drop};
+ghost use Rattle.rules.specs.Bytes.{choose};
 ghost use Rattle.rules.specs.State.{Limits, State, withPending, listing};
 ghost use Rattle.rules.specs.Requests.{clearIrqs, getAllIrqs, clearIoIrq, request};
 ghost use Rattle.rules.specs.Take.{takes};
-ghost use Rattle.slots.specs.Slots.{slotCount, mostPending, removeAt};
-ghost use Rattle.queues.specs.Queues.{sum, queues, withoutAt, InQueue, Held};
-ghost use Rattle.singles.specs.Singles.{serviceOf, mchkOf};
+ghost use Rattle.slots.specs.Slots.{mostPending};
+ghost use Rattle.queues.specs.Queues.{queues, Counted, Held};
 ghost use Rattle.answers.specs.Answers.{Answers, answered};
 ghost use Rattle.records.specs.Memory.{pendingOf};
+ghost use Rattle.outgoing.specs.Next.{NextIn, handsQueued, handedNext};
 use answers::Answer;
 use answers::EFAULT;
 use answers::EINVAL;
 use answers::ENOMEM;
 use search::Found;
-use words::QUEUES;
-use words::ROOM;
+use words::COUNTS;
+use words::ORDER_BYTES;
+use words::Queue;
 use words::SINGLES_BYTES;
 use words::SLOT_BYTES;
-use words::SubchannelId;
-use words::SubchannelNumber;
-use words::Subclass;
+use words::Subchannel;
 
 fn one_if(t: bool) -> usize
     ensures { λ r. ⌜ (r ≡ choose t 1 0) × (r ≤ 1) ⌝ }
@@ -33,12 +31,10 @@ fn one_if(t: bool) -> usize
 }
 
 // How many records are pending.
-pub fn pending(counts: &[usize; QUEUES], singles: &[u8; SINGLES_BYTES]) -> usize
-    requires { ⌜ sum (now counts) ≤ slotCount ⌝ }
-    ensures { λ r. ⌜ ((order slots : List ℕ) → length order ≡ slotCount → r ≡ length (listing (pendingOf order (now (counts .entry)) slots (now (singles .entry))))) × (r ≤ mostPending) ⌝ }
+pub fn pending(counts: &[usize; COUNTS], singles: &[u8; SINGLES_BYTES]) -> usize
+    requires { ⌜ Counted (now counts) ⌝ }
+    ensures { λ r. ⌜ ((order slots : List ℕ) → Held order (now (counts .entry)) → r ≡ length (listing (pendingOf order (now (counts .entry)) slots (now (singles .entry))))) × (r ≤ mostPending) ⌝ }
 {
-    // As a slice: what makes one of an array says its length. So below.
-    let _c: &[usize] = counts;
     queues::queued(counts)
         + one_if(singles::has_service(singles))
         + one_if(singles::has_mchk(singles))
@@ -46,20 +42,21 @@ pub fn pending(counts: &[usize; QUEUES], singles: &[u8; SINGLES_BYTES]) -> usize
 
 // Group 3: nothing is pending any more.
 pub fn clear_irqs(
-    counts: &mut [usize; QUEUES],
+    order: &mut [u8; ORDER_BYTES],
+    counts: &mut [usize; COUNTS],
     singles: &mut [u8; SINGLES_BYTES],
     attr: u64,
 ) -> Answer
-    requires { ⌜ sum (now counts) ≤ slotCount ⌝ }
-    ensures answer { λ r. ⌜ ((L : Limits) (s : State) (order slots b : List ℕ) → length order ≡ slotCount → s .pending ≡ pendingOf order (now (counts .entry)) slots (now (singles .entry)) → Answers L s b (request L s clearIrqs attr b) r (withPending (pendingOf order (now (counts .exit)) slots (now (singles .exit))) s) b) ⌝ }
-    ensures few { λ _. ⌜ sum (now (counts .exit)) ≤ slotCount ⌝ }
-    ensures kept { λ r. ⌜ ((r .code ≡ 0 → ⊥) → (now (counts .exit) ≡ now (counts .entry)) × (now (singles .exit) ≡ now (singles .entry))) ⌝ }
+    requires { ⌜ Held (now order) (now counts) ⌝ }
+    ensures answer { λ r. ⌜ ((L : Limits) (s : State) (slots b : List ℕ) → s .pending ≡ pendingOf (now (order .entry)) (now (counts .entry)) slots (now (singles .entry)) → Answers L s b (request L s clearIrqs attr b) r (withPending (pendingOf (now (order .exit)) (now (counts .exit)) slots (now (singles .exit))) s) b) ⌝ }
+    ensures held { λ _. ⌜ Held (now (order .exit)) (now (counts .exit)) ⌝ }
+    ensures kept { λ r. ⌜ ((r .code ≡ 0 → ⊥) → (now (order .exit) ≡ now (order .entry)) × (now (counts .exit) ≡ now (counts .entry)) × (now (singles .exit) ≡ now (singles .entry))) ⌝ }
 {
     if attr != 0 {
         return answers::refuse(EINVAL);
     }
     let n = pending(counts, singles);
-    queues::clear(counts);
+    queues::clear(order, counts);
     singles::drop_service(singles);
     singles::drop_mchk(singles);
     answers::accept(n as u64) // those removed
@@ -68,16 +65,14 @@ pub fn clear_irqs(
 // Writes the listing to out.
 pub fn list_all(
     slots: &[u8; SLOT_BYTES],
-    order: &[u8; ROOM],
-    counts: &[usize; QUEUES],
+    order: &[u8; ORDER_BYTES],
+    counts: &[usize; COUNTS],
     singles: &[u8; SINGLES_BYTES],
     out: &mut [u8],
 )
     requires { ⌜ Held (now order) (now counts) × (72 * length (listing (pendingOf (now order) (now counts) (now slots) (now singles))) ≤ length (now out)) ⌝ }
     ensures { λ _. ⌜ now (out .exit) ≡ flatten (listing (pendingOf (now (order .entry)) (now (counts .entry)) (now (slots .entry)) (now (singles .entry)))) ++ drop (72 * length (listing (pendingOf (now (order .entry)) (now (counts .entry)) (now (slots .entry)) (now (singles .entry))))) (now (out .entry)) ⌝ }
 {
-    let _o: &[u8] = order;
-    let _c: &[usize] = counts;
     queues::list(slots, order, counts, out);
     let mut at = queues::queued(counts) * 72;
     if singles::has_service(singles) {
@@ -92,8 +87,8 @@ pub fn list_all(
 // Group 1: the listing.
 pub fn get_all(
     slots: &[u8; SLOT_BYTES],
-    order: &[u8; ROOM],
-    counts: &[usize; QUEUES],
+    order: &[u8; ORDER_BYTES],
+    counts: &[usize; COUNTS],
     singles: &[u8; SINGLES_BYTES],
     attr: u64,
     out: &mut [u8],
@@ -109,7 +104,6 @@ pub fn get_all(
     if lent < attr {
         return answers::refuse(EFAULT);
     }
-    let _o: &[u8] = order;
     let n = pending(counts, singles);
     if attr < (n * 72) as u64 {
         return answers::refuse(ENOMEM);
@@ -121,8 +115,8 @@ pub fn get_all(
 // Group 8: the first I/O record in listing order for a subchannel is removed.
 pub fn clear_io(
     slots: &[u8; SLOT_BYTES],
-    order: &mut [u8; ROOM],
-    counts: &mut [usize; QUEUES],
+    order: &mut [u8; ORDER_BYTES],
+    counts: &mut [usize; COUNTS],
     attr: u64,
     payload: &[u8],
 ) -> Answer
@@ -137,15 +131,14 @@ pub fn clear_io(
     if payload.len() < 4 {
         return answers::refuse(EFAULT);
     }
-    let id = SubchannelId(words::read_be(payload, 0, 2));
-    let nr = SubchannelNumber(words::read_be(payload, 2, 2));
-    if id.0 == 0 && nr.0 == 0 {
+    let word = words::read_word(payload, 0);
+    if word == 0 {
         return answers::refuse(EINVAL);
     }
-    let Found::At(isc, at) = search::find(slots, order, counts, 255, false, id, nr) else {
+    let Found::At(isc, at) = search::find(slots, order, counts, 255, false, Subchannel(word)) else {
         return answers::accept(0); // no record is for it
     };
-    queues::remove_io(order, counts, isc, at);
+    queues::remove(order, counts, queues::of(isc), at);
     answers::accept(1)
 }
 
@@ -158,59 +151,39 @@ fn hand(out: &mut [u8], r: [u8; 72]) -> Answer
     answers::accept(1) // one record
 }
 
-// The machine check, which is there no more.
-fn take_mchk(g: &mut [u8; SINGLES_BYTES]) -> [u8; 72]
-    ensures { λ r. ⌜ (r ≡ part 72 72 (now (g .entry))) × (mchkOf (now (g .exit)) ≡ none) × (serviceOf (now (g .exit)) ≡ serviceOf (now (g .entry))) ⌝ }
-{
-    let r = singles::read_mchk(g);
-    singles::drop_mchk(g);
-    r
+// The record of the nine queues that a take hands out: its queue and its place there, or none.
+enum Next {
+    At(Queue, usize),
+    None,
 }
 
-// The service record, which is there no more.
-fn take_service(g: &mut [u8; SINGLES_BYTES]) -> [u8; 72]
-    ensures { λ r. ⌜ (r ≡ part 0 72 (now (g .entry))) × (serviceOf (now (g .exit)) ≡ none) × (mchkOf (now (g .exit)) ≡ mchkOf (now (g .entry))) ⌝ }
-{
-    let r = singles::read_service(g);
-    singles::drop_service(g);
-    r
-}
-
-// The oldest finished page fault, out of its queue.
-fn take_done(
+// The oldest finished page fault, where external interrupts are allowed, else the first I/O record that is allowed.
+fn next_queued(
     slots: &[u8; SLOT_BYTES],
-    order: &mut [u8; ROOM],
-    counts: &mut [usize; QUEUES],
-) -> [u8; 72]
-    requires { ⌜ (0 < getD (now counts) 8 0) × Held (now order) (now counts) ⌝ }
-    ensures { λ r. ⌜ (r ≡ getD (getD (queues (now (order .entry)) (now (counts .entry)) (now (slots .entry))) 8 []) 0 []) × ((b : List ℕ) → queues (now (order .exit)) (now (counts .exit)) b ≡ set (queues (now (order .entry)) (now (counts .entry)) b) 8 (removeAt 0 (getD (queues (now (order .entry)) (now (counts .entry)) b) 8 []))) × Held (now (order .exit)) (now (counts .exit)) ⌝ }
+    order: &[u8; ORDER_BYTES],
+    counts: &[usize; COUNTS],
+    mask: u8,
+    external: bool,
+) -> Next
+    requires { ⌜ Held (now order) (now counts) ⌝ }
+    ensures place { λ r. ⌜ NextIn (now (counts .entry)) r ⌝ }
+    ensures hands { λ r. ⌜ ((singles : List ℕ) → handsQueued (pendingOf (now (order .entry)) (now (counts .entry)) (now (slots .entry)) singles) mask external ≡ handedNext r (queues (now (order .entry)) (now (counts .entry)) (now (slots .entry))) (pendingOf (now (order .entry)) (now (counts .entry)) (now (slots .entry)) singles)) ⌝ }
 {
-    let r = queues::read_done(slots, order, counts);
-    queues::remove_done(order, counts);
-    r
+    if external && 0 < queues::count(counts, queues::done()) {
+        return Next::At(queues::done(), 0);
+    }
+    let allowed = mask & queues::nonempty(counts);
+    let Found::At(isc, at) = search::find(slots, order, counts, allowed, true, Subchannel(0)) else {
+        return Next::None;
+    };
+    Next::At(queues::of(isc), at)
 }
 
-// The record at place at of all, out of the queue of its subclass.
-fn take_io(
-    slots: &[u8; SLOT_BYTES],
-    order: &mut [u8; ROOM],
-    counts: &mut [usize; QUEUES],
-    isc: Subclass,
-    at: usize,
-) -> [u8; 72]
-    requires { ⌜ (isc .0 < 8) × InQueue (now counts) (isc .0) at × Held (now order) (now counts) ⌝ }
-    ensures { λ r. ⌜ (r ≡ getD (flatten (queues (now (order .entry)) (now (counts .entry)) (now (slots .entry)))) at []) × ((b : List ℕ) → queues (now (order .exit)) (now (counts .exit)) b ≡ withoutAt at (queues (now (order .entry)) (now (counts .entry)) b)) × Held (now (order .exit)) (now (counts .exit)) ⌝ }
-{
-    let r = queues::read(slots, order, counts, at);
-    queues::remove_io(order, counts, isc, at);
-    r
-}
-
-// The guest take.
+// The guest take. A record is written to the buffer before it is removed: its bytes then go from slot to buffer.
 pub fn take(
     slots: &[u8; SLOT_BYTES],
-    order: &mut [u8; ROOM],
-    counts: &mut [usize; QUEUES],
+    order: &mut [u8; ORDER_BYTES],
+    counts: &mut [usize; COUNTS],
     singles: &mut [u8; SINGLES_BYTES],
     mask: u8,
     external: bool,
@@ -226,28 +199,19 @@ pub fn take(
         return answers::refuse(EFAULT);
     }
     if mcheck && singles::has_mchk(singles) {
-        let r = take_mchk(singles);
-        return hand(out, r);
+        let a = hand(out, singles::read_mchk(singles));
+        singles::drop_mchk(singles);
+        return a;
     }
     if external && singles::has_service(singles) {
-        let r = take_service(singles);
-        return hand(out, r);
+        let a = hand(out, singles::read_service(singles));
+        singles::drop_service(singles);
+        return a;
     }
-    if external && 0 < queues::done_count(counts) {
-        let r = take_done(slots, order, counts);
-        return hand(out, r);
-    }
-    let Found::At(isc, at) = search::find(
-        slots,
-        order,
-        counts,
-        mask,
-        true,
-        SubchannelId(0),
-        SubchannelNumber(0),
-    ) else {
+    let Next::At(q, at) = next_queued(slots, order, counts, mask, external) else {
         return answers::accept(0); // the buffer is not touched
     };
-    let r = take_io(slots, order, counts, isc, at);
-    hand(out, r)
+    let a = hand(out, queues::read(slots, order, counts, q, at));
+    queues::remove(order, counts, q, at);
+    a
 }

@@ -8,8 +8,9 @@ use values::Reply;
 use words::ADAPTER_REGISTER;
 use words::AIRQ_INJECT;
 use words::AISM;
+use words::COUNTS;
+use words::ORDER_BYTES;
 use words::PLACES;
-use words::QUEUES;
 use words::ROOM;
 use words::SINGLES_BYTES;
 use words::SLOT_BYTES;
@@ -17,8 +18,8 @@ use words::SLOT_BYTES;
 // A set request that is not about records alone, on the device record and the adapter place that the call before it left.
 fn set(
     slots: &mut [u8; SLOT_BYTES],
-    order: &mut [u8; ROOM],
-    counts: &mut [usize; QUEUES],
+    order: &mut [u8; ORDER_BYTES],
+    counts: &mut [usize; COUNTS],
     last: Reply,
     group: u32,
     attr: u64,
@@ -46,8 +47,8 @@ fn set(
 
 fn main() {
     let mut s = [0u8; SLOT_BYTES];
-    let mut o = [0u8; ROOM];
-    let mut c = [0usize; QUEUES];
+    let mut o = [0u8; ORDER_BYTES];
+    let mut c = [0usize; COUNTS];
     let mut g = [0u8; SINGLES_BYTES];
     memory::fresh(&mut o, &mut c, &mut g);
     let fresh = Reply {

@@ -19,10 +19,10 @@ ghost use Rattle.image.specs.Image.{imageSize};
 ghost use Rattle.slots.specs.Slots.{slotCount};
 use adapters::Device;
 use answers::Answer;
+use words::COUNTS;
 use words::ENQUEUE;
+use words::ORDER_BYTES;
 use words::PLACES;
-use words::QUEUES;
-use words::ROOM;
 use words::SINGLES_BYTES;
 use words::SLOT_BYTES;
 
@@ -35,8 +35,8 @@ struct Ran {
 // A set request of a list, on the place of the image that it is about, by the functions that answer a single request of its group.
 fn apply(
     slots: &mut [u8; SLOT_BYTES],
-    order: &mut [u8; ROOM],
-    counts: &mut [usize; QUEUES],
+    order: &mut [u8; ORDER_BYTES],
+    counts: &mut [usize; COUNTS],
     singles: &mut [u8; SINGLES_BYTES],
     places: u64,
     room: usize,
@@ -73,8 +73,8 @@ fn apply(
 // The request of the table entry at a place.
 fn apply_at(
     slots: &mut [u8; SLOT_BYTES],
-    order: &mut [u8; ROOM],
-    counts: &mut [usize; QUEUES],
+    order: &mut [u8; ORDER_BYTES],
+    counts: &mut [usize; COUNTS],
     singles: &mut [u8; SINGLES_BYTES],
     places: u64,
     room: usize,
@@ -112,8 +112,8 @@ fn apply_at(
 // The requests one after another, to the first that is refused.
 fn apply_all(
     slots: &mut [u8; SLOT_BYTES],
-    order: &mut [u8; ROOM],
-    counts: &mut [usize; QUEUES],
+    order: &mut [u8; ORDER_BYTES],
+    counts: &mut [usize; COUNTS],
     singles: &mut [u8; SINGLES_BYTES],
     places: u64,
     room: usize,
@@ -184,8 +184,8 @@ fn not_played(code: u32) -> Played
 // A move list is played. A refusal of form changes nothing; one part-way leaves the controller fresh.
 pub fn play_list(
     slots: &mut [u8; SLOT_BYTES],
-    order: &mut [u8; ROOM],
-    counts: &mut [usize; QUEUES],
+    order: &mut [u8; ORDER_BYTES],
+    counts: &mut [usize; COUNTS],
     singles: &mut [u8; SINGLES_BYTES],
     places: u64,
     room: usize,

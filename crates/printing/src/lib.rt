@@ -8,8 +8,9 @@ ghost use Rattle.rules.specs.MoveList.{aisFlagIn, headerBytes};
 ghost use Rattle.rules.specs.Listing.{printed};
 use answers::E2BIG;
 use text::TEXT_BYTES;
+use words::COUNTS;
+use words::ORDER_BYTES;
 use words::PLACES;
-use words::QUEUES;
 use words::ROOM;
 use words::SINGLES_BYTES;
 use words::SLOT_BYTES;
@@ -37,8 +38,8 @@ pub fn print_list(input: &[u8], out: &mut [u8; TEXT_BYTES]) -> usize
         return text::write_refusal(out, E2BIG);
     }
     let mut slots = [0u8; SLOT_BYTES];
-    let mut order = [0u8; ROOM];
-    let mut counts = [0usize; QUEUES];
+    let mut order = [0u8; ORDER_BYTES];
+    let mut counts = [0usize; COUNTS];
     let mut singles = [0u8; SINGLES_BYTES];
     memory::fresh(&mut order, &mut counts, &mut singles);
     let played = play::play_list(

@@ -1,167 +1,197 @@
-// Inner crate: nine queues over slots and their order, with a count for each queue. Queues 0 to 7 are those of the
-// subclasses, queue 8 has the finished page faults.
+// Inner crate: nine queues, each a row of slot numbers, oldest first, with a count for each; and a row of the free slots.
 ghost use mathlib.Core.Path.{_≡_};
-ghost use mathlib.Core.List.{List, [], _∷_, _++_, flatten};
-ghost use Prim.Native.Nat.{ℕ, _+_, _*_, _-_, _≤_, _<_};
-ghost use lib.ListN.{length, getD, set, take, drop, replicate};
-ghost use Rattle.slots.specs.Slots.{slotCount, removeAt};
-ghost use Rattle.queues.specs.Queues.{sum, queues, withoutAt, InQueue, Held};
+ghost use mathlib.Core.List.{[], _++_, flatten};
+ghost use Prim.Native.Nat.{ℕ, _+_, _*_, _≤_, _<_};
+ghost use lib.ListN.{length, getD, drop, replicate};
+ghost use lib.Seq.{paste};
+ghost use Rattle.slots.specs.Slots.{slotCount, slot};
+ghost use Rattle.queues.specs.Queues.{row, total, waiting, queues, listed, upFrom, Counted, Held, Appended, Removed, Emptied};
+use words::COUNTS;
+use words::ORDER_BYTES;
 use words::QUEUES;
+use words::Queue;
 use words::ROOM;
 use words::SLOT_BYTES;
 use words::Subclass;
 
-// How many records the first q queues hold.
-fn start(c: &[usize], q: usize) -> usize
-    requires { ⌜ (q ≤ length (now c)) × (sum (now c) ≤ slotCount) ⌝ }
-    ensures { λ r. ⌜ r ≡ sum (take q (now (c .entry))) ⌝ }
+// The queue of a subclass.
+pub fn of(isc: Subclass) -> Queue
+    ensures { λ r. ⌜ r ≡ record { 0 = isc .0 } ⌝ }
 {
-    let mut s = 0;
-    let mut i = 0;
-    while i < q {
-        s += c[i];
-        i += 1;
-    }
-    s
+    Queue(words::index(isc.0))
+}
+
+// The queue of finished page faults.
+pub fn done() -> Queue
+    ensures { λ r. ⌜ r ≡ record { 0 = 8 } ⌝ }
+{
+    Queue(8)
 }
 
 // How many records the nine queues hold.
-pub fn queued(c: &[usize; QUEUES]) -> usize
-    requires { ⌜ sum (now c) ≤ slotCount ⌝ }
-    ensures { λ r. ⌜ r ≡ sum (now (c .entry)) ⌝ }
+pub fn queued(c: &[usize; COUNTS]) -> usize
+    ensures { λ r. ⌜ r ≡ total (now (c .entry)) ⌝ }
 {
-    start(c, QUEUES)
+    c[9]
 }
 
-// Appends r to queue q, where the queues hold n records.
-fn append(b: &mut [u8], o: &mut [u8], c: &mut [usize], q: usize, n: usize, r: [u8; 72])
-    requires { ⌜ (q < length (now c)) × (n ≡ sum (now c)) × (sum (now c) < slotCount) × (length (now o) ≡ slotCount) × (slotCount * 72 ≤ length (now b)) × Held (now o) (now c) ⌝ }
-    ensures queue { λ _. ⌜ queues (now (o .exit)) (now (c .exit)) (now (b .exit)) ≡ set (queues (now (o .entry)) (now (c .entry)) (now (b .entry))) q (getD (queues (now (o .entry)) (now (c .entry)) (now (b .entry))) q [] ++ (r ∷ [])) ⌝ }
-    ensures held { λ _. ⌜ Held (now (o .exit)) (now (c .exit)) ⌝ }
-    ensures count { λ _. ⌜ sum (now (c .exit)) ≡ sum (now (c .entry)) + 1 ⌝ }
+// The subclasses that have records, as the bits of a mask.
+pub fn nonempty(c: &[usize; COUNTS]) -> u8
+    requires { ⌜ Counted (now c) ⌝ }
+    ensures { λ r. ⌜ r ≡ waiting (now (c .entry)) ⌝ }
 {
-    let at = start(c, q + 1);
-    slots::insert(b, o, n, at, r);
-    c[q] = c[q] + 1;
+    c[10] as u8
 }
 
-// Takes the record at place `at` of all out of queue q, in which it is.
-fn remove(o: &mut [u8], c: &mut [usize], q: usize, at: usize)
-    requires { ⌜ (q < length (now c)) × InQueue (now c) q at × (length (now o) ≡ slotCount) × Held (now o) (now c) ⌝ }
-    ensures queue { λ _. ⌜ ((b : List ℕ) → queues (now (o .exit)) (now (c .exit)) b ≡ withoutAt at (queues (now (o .entry)) (now (c .entry)) b)) ⌝ }
-    ensures held { λ _. ⌜ Held (now (o .exit)) (now (c .exit)) ⌝ }
-    ensures count { λ _. ⌜ sum (now (c .exit)) ≡ sum (now (c .entry)) - 1 ⌝ }
+// How many records a queue holds.
+pub fn count(c: &[usize; COUNTS], q: Queue) -> usize
+    requires { ⌜ q .0 < 9 ⌝ }
+    ensures { λ r. ⌜ r ≡ getD (now (c .entry)) (q .0) 0 ⌝ }
 {
-    let n = start(c, c.len());
-    slots::remove(o, n, at);
-    c[q] = c[q] - 1;
+    let i = q.0;
+    c[i]
 }
 
-// The record at place `at` of all.
-pub fn read(b: &[u8; SLOT_BYTES], o: &[u8; ROOM], c: &[usize; QUEUES], at: usize) -> [u8; 72]
-    requires { ⌜ (at < sum (now c)) × Held (now o) (now c) ⌝ }
-    ensures { λ r. ⌜ r ≡ getD (flatten (queues (now (o .entry)) (now (c .entry)) (now (b .entry)))) at [] ⌝ }
+// The slot of a queue's record at a place, oldest first.
+pub fn slot_of(o: &[u8; ORDER_BYTES], q: Queue, at: usize) -> u8
+    requires { ⌜ (q .0 < 9) × (at < slotCount) ⌝ }
+    ensures { λ r. ⌜ r ≡ getD (now (o .entry)) (q .0 * slotCount + at) 0 ⌝ }
 {
-    let n = queued(c);
-    slots::read(b, o, n, at)
+    let i = q.0 * ROOM + at;
+    o[i]
 }
 
-// An I/O record joins the queue of its subclass, where the nine hold n records.
-pub fn append_io(
+// Appends r to a queue, where the queues hold n records. The record is written first: its bytes then go from register to slot.
+pub fn append(
     b: &mut [u8; SLOT_BYTES],
-    o: &mut [u8; ROOM],
-    c: &mut [usize; QUEUES],
-    isc: Subclass,
+    o: &mut [u8; ORDER_BYTES],
+    c: &mut [usize; COUNTS],
+    q: Queue,
     n: usize,
     r: [u8; 72],
 )
-    requires { ⌜ (isc .0 < 8) × (n ≡ sum (now c)) × (sum (now c) < slotCount) × Held (now o) (now c) ⌝ }
-    ensures queue { λ _. ⌜ queues (now (o .exit)) (now (c .exit)) (now (b .exit)) ≡ set (queues (now (o .entry)) (now (c .entry)) (now (b .entry))) (isc .0) (getD (queues (now (o .entry)) (now (c .entry)) (now (b .entry))) (isc .0) [] ++ (r ∷ [])) ⌝ }
-    ensures held { λ _. ⌜ Held (now (o .exit)) (now (c .exit)) ⌝ }
-    ensures count { λ _. ⌜ sum (now (c .exit)) ≡ sum (now (c .entry)) + 1 ⌝ }
+    requires { ⌜ (q .0 < 9) × (n ≡ total (now c)) × (n < slotCount) × Held (now o) (now c) ⌝ }
+    ensures { λ _. ⌜ Appended (q .0) r (now (o .entry)) (now (c .entry)) (now (b .entry)) (now (o .exit)) (now (c .exit)) (now (b .exit)) ⌝ }
 {
-    let q = words::index(isc.0);
-    append(b, o, c, q, n, r);
+    let s = o[ORDER_BYTES - 1 - n];
+    slots::write(b, s, r);
+    let i = q.0;
+    let k = c[i];
+    o[i * ROOM + k] = s;
+    c[i] = k + 1;
+    c[9] = n + 1;
+    if k == 0 {
+        c[10] = c[10] + (128 >> i);
+    }
 }
 
-// A finished page fault joins its queue, where the nine hold n records.
-pub fn append_done(
-    b: &mut [u8; SLOT_BYTES],
-    o: &mut [u8; ROOM],
-    c: &mut [usize; QUEUES],
+// Takes the record at a place out of its queue. Its slot is free, the next one to be used.
+pub fn remove(o: &mut [u8; ORDER_BYTES], c: &mut [usize; COUNTS], q: Queue, at: usize)
+    requires { ⌜ (q .0 < 9) × (at < getD (now c) (q .0) 0) × Held (now o) (now c) ⌝ }
+    ensures { λ _. ⌜ Removed (q .0) at (now (o .entry)) (now (c .entry)) (now (o .exit)) (now (c .exit)) ⌝ }
+{
+    let i = q.0;
+    let start = i * ROOM;
+    let s = o[start + at];
+    let k = c[i] - 1;
+    let n = c[9];
+    slots::move_down(o, start + at, start + k);
+    o[ORDER_BYTES - n] = s;
+    c[i] = k;
+    c[9] = n - 1;
+    if k == 0 {
+        c[10] = c[10] - (128 >> i);
+    }
+}
+
+// The record at a place of a queue.
+pub fn read(
+    b: &[u8; SLOT_BYTES],
+    o: &[u8; ORDER_BYTES],
+    c: &[usize; COUNTS],
+    q: Queue,
+    at: usize,
+) -> [u8; 72]
+    requires { ⌜ (q .0 < 9) × (at < getD (now c) (q .0) 0) × Held (now o) (now c) ⌝ }
+    ensures { λ r. ⌜ r ≡ getD (getD (queues (now (o .entry)) (now (c .entry)) (now (b .entry))) (q .0) []) at [] ⌝ }
+{
+    slots::read(b, slot_of(o, q, at))
+}
+
+// Writes the first n records of queue q to out, one after the other, from index at.
+fn list_queue(
+    b: &[u8; SLOT_BYTES],
+    o: &[u8; ORDER_BYTES],
+    q: Queue,
     n: usize,
-    r: [u8; 72],
+    out: &mut [u8],
+    at: usize,
 )
-    requires { ⌜ (n ≡ sum (now c)) × (sum (now c) < slotCount) × Held (now o) (now c) ⌝ }
-    ensures queue { λ _. ⌜ queues (now (o .exit)) (now (c .exit)) (now (b .exit)) ≡ set (queues (now (o .entry)) (now (c .entry)) (now (b .entry))) 8 (getD (queues (now (o .entry)) (now (c .entry)) (now (b .entry))) 8 [] ++ (r ∷ [])) ⌝ }
-    ensures held { λ _. ⌜ Held (now (o .exit)) (now (c .exit)) ⌝ }
-    ensures count { λ _. ⌜ sum (now (c .exit)) ≡ sum (now (c .entry)) + 1 ⌝ }
+    requires { ⌜ (q .0 < 9) × (n ≤ slotCount) × (length (now o) ≡ 10 * slotCount) × (at + n * 72 ≤ length (now out)) ⌝ }
+    ensures { λ _. ⌜ now (out .exit) ≡ paste (now (out .entry)) at (flatten (listed (now (b .entry)) (row (now (o .entry)) (q .0) n))) (n * 72) ⌝ }
+    ensures long { λ _. ⌜ length (flatten (listed (now (b .entry)) (row (now (o .entry)) (q .0) n))) ≡ n * 72 ⌝ }
 {
-    append(b, o, c, 8, n, r);
-}
-
-// The record at place `at` of all leaves the queue of its subclass.
-pub fn remove_io(o: &mut [u8; ROOM], c: &mut [usize; QUEUES], isc: Subclass, at: usize)
-    requires { ⌜ (isc .0 < 8) × InQueue (now c) (isc .0) at × Held (now o) (now c) ⌝ }
-    ensures queue { λ _. ⌜ ((b : List ℕ) → queues (now (o .exit)) (now (c .exit)) b ≡ withoutAt at (queues (now (o .entry)) (now (c .entry)) b)) ⌝ }
-    ensures held { λ _. ⌜ Held (now (o .exit)) (now (c .exit)) ⌝ }
-    ensures count { λ _. ⌜ sum (now (c .exit)) ≡ sum (now (c .entry)) - 1 ⌝ }
-{
-    let q = words::index(isc.0);
-    remove(o, c, q, at);
-}
-
-// The oldest finished page fault leaves its queue.
-pub fn remove_done(o: &mut [u8; ROOM], c: &mut [usize; QUEUES])
-    requires { ⌜ (0 < getD (now c) 8 0) × Held (now o) (now c) ⌝ }
-    ensures queue { λ _. ⌜ ((b : List ℕ) → queues (now (o .exit)) (now (c .exit)) b ≡ set (queues (now (o .entry)) (now (c .entry)) b) 8 (removeAt 0 (getD (queues (now (o .entry)) (now (c .entry)) b) 8 []))) ⌝ }
-    ensures held { λ _. ⌜ Held (now (o .exit)) (now (c .exit)) ⌝ }
-    ensures count { λ _. ⌜ sum (now (c .exit)) ≡ sum (now (c .entry)) - 1 ⌝ }
-{
-    let at = start(c, 8);
-    remove(o, c, 8, at);
-}
-
-// The oldest finished page fault.
-pub fn read_done(b: &[u8; SLOT_BYTES], o: &[u8; ROOM], c: &[usize; QUEUES]) -> [u8; 72]
-    requires { ⌜ (0 < getD (now c) 8 0) × Held (now o) (now c) ⌝ }
-    ensures { λ r. ⌜ r ≡ getD (getD (queues (now (o .entry)) (now (c .entry)) (now (b .entry))) 8 []) 0 [] ⌝ }
-{
-    // As a slice: what makes one of an array says its length.
-    let _o: &[u8] = o;
-    let at = start(c, 8);
-    read(b, o, c, at)
-}
-
-// How many finished page faults wait.
-pub fn done_count(c: &[usize; QUEUES]) -> usize
-    ensures { λ r. ⌜ r ≡ getD (now (c .entry)) 8 0 ⌝ }
-{
-    c[8]
-}
-
-// Writes all records to out, one after the other, in listing order.
-pub fn list(b: &[u8; SLOT_BYTES], o: &[u8; ROOM], c: &[usize; QUEUES], out: &mut [u8])
-    requires { ⌜ Held (now o) (now c) × (sum (now c) * 72 ≤ length (now out)) ⌝ }
-    ensures { λ _. ⌜ now (out .exit) ≡ flatten (flatten (queues (now (o .entry)) (now (c .entry)) (now (b .entry)))) ++ drop (sum (now (c .entry)) * 72) (now (out .entry)) ⌝ }
-{
-    let n = queued(c);
     let mut k = 0;
     while k < n {
-        let r = slots::read(b, o, n, k);
-        words::save(out, k * 72, r);
+        words::save(out, at + k * 72, slots::read(b, slot_of(o, q, k)));
         k += 1;
     }
 }
 
-// No record is left.
-pub fn clear(c: &mut [usize; QUEUES])
-    ensures { λ _. ⌜ now (c .exit) ≡ replicate 9 0 ⌝ }
+// Writes all records to out, one after the other, in listing order.
+pub fn list(b: &[u8; SLOT_BYTES], o: &[u8; ORDER_BYTES], c: &[usize; COUNTS], out: &mut [u8])
+    requires { ⌜ Held (now o) (now c) × (total (now c) * 72 ≤ length (now out)) ⌝ }
+    ensures { λ _. ⌜ now (out .exit) ≡ flatten (flatten (queues (now (o .entry)) (now (c .entry)) (now (b .entry)))) ++ drop (total (now (c .entry)) * 72) (now (out .entry)) ⌝ }
 {
-    let s: &mut [usize] = c;
+    let mut at = 0;
     let mut i = 0;
     while i < QUEUES {
-        s[i] = 0;
+        let n = c[i];
+        list_queue(b, o, Queue(i), n, out, at);
+        at += n * 72;
         i += 1;
     }
+}
+
+// Every slot is free: the last row has them all.
+fn free_all(o: &mut [u8])
+    requires { ⌜ length (now o) ≡ 10 * slotCount ⌝ }
+    ensures { λ _. ⌜ now (o .exit) ≡ paste (now (o .entry)) (9 * slotCount) (upFrom 0 slotCount) slotCount ⌝ }
+{
+    let mut i = 0;
+    while i < ROOM {
+        o[QUEUES * ROOM + i] = i as u8;
+        i += 1;
+    }
+}
+
+// All counts are 0.
+fn zero(c: &mut [usize])
+    requires { ⌜ length (now c) ≡ 11 ⌝ }
+    ensures { λ _. ⌜ now (c .exit) ≡ replicate 11 0 ⌝ }
+{
+    let mut i = 0;
+    while i < COUNTS {
+        c[i] = 0;
+        i += 1;
+    }
+}
+
+// No record is left, and every slot is free, whatever was there before.
+pub fn reset(o: &mut [u8; ORDER_BYTES], c: &mut [usize; COUNTS])
+    ensures { λ _. ⌜ Emptied (now (o .exit)) (now (c .exit)) ⌝ }
+{
+    free_all(o);
+    zero(c);
+}
+
+// No record is left.
+pub fn clear(o: &mut [u8; ORDER_BYTES], c: &mut [usize; COUNTS])
+    requires { ⌜ Held (now o) (now c) ⌝ }
+    ensures { λ _. ⌜ Emptied (now (o .exit)) (now (c .exit)) ⌝ }
+{
+    if c[9] == 0 {
+        return;
+    }
+    reset(o, c);
 }

@@ -20,7 +20,7 @@ use Rattle.rules.specs.Requests.{recordsIn, kindAccepted, allAccepted, wants, a
 use Rattle.rules.proofs.Checks.{passes, fails, both}
 use Rattle.rules.proofs.Lists.{flatten-append}
 use Rattle.words.proofs.Laws.{drop-take}
-use Rattle.queues.specs.Queues.{sum, queues}
+use Rattle.queues.specs.Queues.{total, queues, Held}
 use Rattle.queues.proofs.Laws.{length-queues, length-flatten-queues}
 use Rattle.singles.specs.Singles.{serviceOf, mchkOf}
 use Rattle.words.specs.declared.Subclass.{Subclass}
@@ -224,11 +224,11 @@ io-joins o c b o′ c′ b′ g q r h e =
     let n : 8 ≡ q → ⊥ = omega arith in
     rw (e, take-set-lt, getD-set-other, getD-take 8 (queues o c b) q [] h)
 
-pub done-joins : (o c b o′ c′ b′ g : List ℕ) (r : Record) → length c ≡ 9 → queues o′ c′ b′ ≡ set (queues o c b) 8 (getD (queues o c b) 8 [] ++ (r ∷ []))
+pub done-joins : (o c b o′ c′ b′ g : List ℕ) (r : Record) → Held o c → queues o′ c′ b′ ≡ set (queues o c b) 8 (getD (queues o c b) 8 [] ++ (r ∷ []))
     → pendingOf o′ c′ b′ g ≡ addAs rules.Kind.done r (pendingOf o c b g)
 unfolding pendingOf addAs
 done-joins o c b o′ c′ b′ g r l e =
-    let h : 8 < length (queues o c b) = omega (arith, length-queues o c b) in
+    let h : 8 < length (queues o c b) = omega (arith, length-queues o c l b) in
     let k : 8 ≤ 8 = omega arith in
     rw (e, take-set-le, getD-set-same)
 
@@ -239,7 +239,7 @@ module _ (o c b g : List ℕ) (r x : Record) (ex : x ≡ r) where
   unfolding add addAs
   adds-io o′ c′ b′ q k eq h e = rw (k, ← eq, ← ex) (io-joins o c b o′ c′ b′ g q x h e)
 
-  pub adds-done : (o′ c′ b′ : List ℕ) → kind r ≡ rules.Kind.done → length c ≡ 9
+  pub adds-done : (o′ c′ b′ : List ℕ) → kind r ≡ rules.Kind.done → Held o c
       → queues o′ c′ b′ ≡ set (queues o c b) 8 (getD (queues o c b) 8 [] ++ (x ∷ [])) → pendingOf o′ c′ b′ g ≡ add r (pendingOf o c b g)
   unfolding add
   adds-done o′ c′ b′ k l e = rw (k, ← ex) (done-joins o c b o′ c′ b′ g x l e)
@@ -276,15 +276,15 @@ flatten-one : (q : List Record) → flatten (q ∷ []) ≡ q
 unfolding flatten
 flatten-one q = append-nil q
 
-pub queued-sum : (o c b g : List ℕ) → sum c ≤ length o → length c ≡ 9 → queued (pendingOf o c b g) ≡ sum c
+pub queued-total : (o c b g : List ℕ) → Held o c → queued (pendingOf o c b g) ≡ total c
 unfolding pendingOf
-queued-sum o c b g h l =
+queued-total o c b g h =
     let Q : List (List Record) = queues o c b in
-    let k : length Q ≡ 9 = length-queues o c b ∙ l in
+    let k : length Q ≡ 9 = length-queues o c h b in
     let f : flatten Q ≡ flatten (take 8 Q) ++ getD Q 8 [] =
     ap flatten (sym (take-all 9 Q (omega arith)) ∙ take-suc Q 8 [] (omega arith)) ∙ flatten-append (take 8 Q) (getD Q 8 [] ∷ [])
     ∙ ap (λ (t : List Record). flatten (take 8 Q) ++ t) (flatten-one (getD Q 8 [])) in
-    sym (length-append (flatten (take 8 Q)) (getD Q 8 [])) ∙ ap length (sym f) ∙ length-flatten-queues o c b h
+    sym (length-append (flatten (take 8 Q)) (getD Q 8 [])) ∙ ap length (sym f) ∙ length-flatten-queues o c h b
 
 -- ---- an adapter's interrupt
 pub interrupt-bytes : (isc : ℕ) → isc ≤ 7 → set (set (replicate 72 0) 4 4) 16 (128 + isc * 8) ≡ adapterInterrupt isc

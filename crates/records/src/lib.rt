@@ -7,7 +7,7 @@ ghost use Rattle.rules.specs.Bytes.{part};
 ghost use Rattle.rules.specs.State.{Limits, State, withPending, subclass, kind, addIo, add, addAll};
 ghost use Rattle.rules.specs.Requests.{enqueue, enqueueBytes, recordsIn, wants, allWant, adapterInterrupt, request};
 ghost use Rattle.slots.specs.Slots.{slotCount};
-ghost use Rattle.queues.specs.Queues.{sum, Held};
+ghost use Rattle.queues.specs.Queues.{total, Held};
 ghost use Rattle.answers.specs.Answers.{Answers};
 ghost use Rattle.records.specs.Memory.{pendingOf};
 ghost use Rattle.records.specs.Cases.{kindOf, checkFrom, answerTo};
@@ -15,9 +15,9 @@ use answers::Answer;
 use answers::EBUSY;
 use answers::EFAULT;
 use answers::EINVAL;
+use words::COUNTS;
 use words::ENQUEUE_BYTES;
-use words::QUEUES;
-use words::ROOM;
+use words::ORDER_BYTES;
 use words::SINGLES_BYTES;
 use words::SLOT_BYTES;
 use words::Subclass;
@@ -105,27 +105,39 @@ fn answer_to(b: &[u8], n: usize, queued: usize, room: usize) -> Answer
 // Adds the record at index `at` of b, where so many are queued, and answers how many are then.
 fn add_one(
     slots: &mut [u8; SLOT_BYTES],
-    order: &mut [u8; ROOM],
-    counts: &mut [usize; QUEUES],
+    order: &mut [u8; ORDER_BYTES],
+    counts: &mut [usize; COUNTS],
     singles: &mut [u8; SINGLES_BYTES],
     b: &[u8],
     at: usize,
     queued: usize,
 ) -> usize
-    requires { ⌜ (at + 72 ≤ length (now b)) × (queued ≡ sum (now counts)) × Held (now order) (now counts) × (sum (now counts) + wants (kind (part at 72 (now b))) ≤ slotCount) ⌝ }
+    requires { ⌜ (at + 72 ≤ length (now b)) × (queued ≡ total (now counts)) × Held (now order) (now counts) × (total (now counts) + wants (kind (part at 72 (now b))) ≤ slotCount) ⌝ }
     ensures pending { λ _. ⌜ pendingOf (now (order .exit)) (now (counts .exit)) (now (slots .exit)) (now (singles .exit)) ≡ add (part at 72 (now (b .entry))) (pendingOf (now (order .entry)) (now (counts .entry)) (now (slots .entry)) (now (singles .entry))) ⌝ }
-    ensures held { λ r. ⌜ Held (now (order .exit)) (now (counts .exit)) × (r ≡ sum (now (counts .exit))) × (r ≡ queued + wants (kind (part at 72 (now (b .entry))))) ⌝ }
+    ensures held { λ r. ⌜ Held (now (order .exit)) (now (counts .exit)) × (r ≡ total (now (counts .exit))) × (r ≡ queued + wants (kind (part at 72 (now (b .entry))))) ⌝ }
 {
     // Loaded in each case: loaded before the match, the merge of a machine check would split the copy for every kind.
     match kind_at(b, at) {
         Kind::Io(isc) => {
-            queues::append_io(slots, order, counts, isc, queued, words::load(b, at));
+            queues::append(
+                slots,
+                order,
+                counts,
+                queues::of(isc),
+                queued,
+                words::load(b, at),
+            );
             queued + 1
         }
         Kind::Done => {
-            // a slice's length is known to the proof
-            let lent: &[usize] = counts;
-            queues::append_done(slots, order, counts, queued, words::load(b, at));
+            queues::append(
+                slots,
+                order,
+                counts,
+                queues::done(),
+                queued,
+                words::load(b, at),
+            );
             queued + 1
         }
         Kind::Service => {
@@ -143,14 +155,14 @@ fn add_one(
 // Adds the first n records of b in order, where so many are queued.
 fn add_all(
     slots: &mut [u8; SLOT_BYTES],
-    order: &mut [u8; ROOM],
-    counts: &mut [usize; QUEUES],
+    order: &mut [u8; ORDER_BYTES],
+    counts: &mut [usize; COUNTS],
     singles: &mut [u8; SINGLES_BYTES],
     b: &[u8],
     n: usize,
     queued: usize,
 )
-    requires { ⌜ (n * 72 ≤ enqueueBytes) × (n * 72 ≤ length (now b)) × (queued ≡ sum (now counts)) × Held (now order) (now counts) × (sum (now counts) + allWant (recordsIn n (now b)) ≤ slotCount) ⌝ }
+    requires { ⌜ (n * 72 ≤ enqueueBytes) × (n * 72 ≤ length (now b)) × (queued ≡ total (now counts)) × Held (now order) (now counts) × (total (now counts) + allWant (recordsIn n (now b)) ≤ slotCount) ⌝ }
     ensures pending { λ _. ⌜ pendingOf (now (order .exit)) (now (counts .exit)) (now (slots .exit)) (now (singles .exit)) ≡ addAll (recordsIn n (now (b .entry))) (pendingOf (now (order .entry)) (now (counts .entry)) (now (slots .entry)) (now (singles .entry))) ⌝ }
     ensures held { λ _. ⌜ Held (now (order .exit)) (now (counts .exit)) ⌝ }
     ensures kept { λ _. ⌜ (n ≡ 0 → (now (slots .exit) ≡ now (slots .entry)) × (now (order .exit) ≡ now (order .entry)) × (now (counts .exit) ≡ now (counts .entry)) × (now (singles .exit) ≡ now (singles .entry))) ⌝ }
@@ -166,8 +178,8 @@ fn add_all(
 // Group 2: all records are added where the answer is 0, and none otherwise.
 pub fn enqueue_irqs(
     slots: &mut [u8; SLOT_BYTES],
-    order: &mut [u8; ROOM],
-    counts: &mut [usize; QUEUES],
+    order: &mut [u8; ORDER_BYTES],
+    counts: &mut [usize; COUNTS],
     singles: &mut [u8; SINGLES_BYTES],
     room: usize,
     attr: u64,
@@ -192,9 +204,6 @@ pub fn enqueue_irqs(
         return answers::refuse(EFAULT);
     }
     let n = bytes / 72;
-    // slices' lengths are known to the proof
-    let listed: &[u8] = order;
-    let counted: &[usize] = counts;
     let queued = queues::queued(counts);
     let answer = answer_to(payload, n, queued, room);
     let added = if answer.code == 0 { n } else { 0 };
@@ -216,14 +225,14 @@ fn interrupt(isc: Subclass) -> [u8; 72]
 // Group 10, where n records are queued and there is room: the interrupt joins the queue of its subclass.
 pub fn append_interrupt(
     slots: &mut [u8; SLOT_BYTES],
-    order: &mut [u8; ROOM],
-    counts: &mut [usize; QUEUES],
+    order: &mut [u8; ORDER_BYTES],
+    counts: &mut [usize; COUNTS],
     isc: Subclass,
     n: usize,
 )
-    requires { ⌜ (isc .0 ≤ 7) × (n ≡ sum (now counts)) × (sum (now counts) < slotCount) × Held (now order) (now counts) ⌝ }
+    requires { ⌜ (isc .0 ≤ 7) × (n ≡ total (now counts)) × (total (now counts) < slotCount) × Held (now order) (now counts) ⌝ }
     ensures pending { λ _. ⌜ ((singles : List ℕ) → pendingOf (now (order .exit)) (now (counts .exit)) (now (slots .exit)) singles ≡ addIo (isc .0) (adapterInterrupt (isc .0)) (pendingOf (now (order .entry)) (now (counts .entry)) (now (slots .entry)) singles)) ⌝ }
     ensures held { λ _. ⌜ Held (now (order .exit)) (now (counts .exit)) ⌝ }
 {
-    queues::append_io(slots, order, counts, isc, n, interrupt(isc));
+    queues::append(slots, order, counts, queues::of(isc), n, interrupt(isc));
 }

@@ -1,29 +1,30 @@
--- Laws of the queues that the order and the counts say, of the search over them, and of what the rules do at the place that it finds. Assumes nothing.
+-- Laws of the search over queues, and of what the rules do at the place that it finds. Assumes nothing.
 use mathlib.Core.Path.{_≡_, refl, sym, ap, _∙_}
 use mathlib.Core.Bool.{Bool, true, false, _&&_}
 use mathlib.Core.Option.{none, some}
-use mathlib.Core.List.{List, [], _∷_, _++_, flatten}
-use Prim.Native.Nat.{ℕ, zero, suc, _+_, _-_, _*_, _≤_, _<_}
-use native.Mathlib.Nat.{add-assoc}
+use mathlib.Core.List.{List, [], _∷_, _++_}
+use Prim.Native.Nat.{ℕ, zero, suc, _+_, _-_, _*_, _/_, _%_, _^_, _≤_, _<_, min}
+use native.Mathlib.Nat.{not-suc-le-zero}
 use native.Mathlib.Numerals.{add-one}
 use native.Mathlib.Omega.{arith}
+use borrow.Author.Tests.{eqb-true, eqb-false, eq-eqb, ne-eqb}
+use lib.Bits.{bitAnd, and-step}
 use lib.Dec.{eqb}
-use lib.ListN.{length, take, drop, getD, length-take, length-append, drop-of-length-le}
-use lib.Seq.{drop-cons, drop-drop, take-take, getD-take, getD-drop, getD-append-add}
+use lib.ListN.{length, take, drop, getD, set, length-take, drop-of-length-le}
+use lib.Seq.{drop-cons, drop-drop, take-take, getD-take}
 use Rattle.rules.specs.Bytes.{choose, field}
-use Rattle.rules.specs.State.{Record, hasBit}
+use Rattle.rules.specs.State.{Record, bit, hasBit}
 use Rattle.rules.specs.Requests.{isFor, consTo, without, orIn, withoutFirst}
 use Rattle.rules.specs.Take.{firstAllowed, keep}
 use Rattle.words.proofs.Laws.{drop-take}
-use Rattle.slots.specs.Slots.{removeAt, slot, listed}
-use Rattle.slots.proofs.Laws.{listed-at}
-use Rattle.queues.specs.Queues.{sum, queues}
-use Rattle.queues.proofs.Laws.{sum-next, cut-at, without-here, without-past, length-queues, length-queue}
+use Rattle.slots.specs.Slots.{removeAt, slot}
+use Rattle.queues.specs.Queues.{withoutAt}
+use Rattle.queues.proofs.Counts.{halves}
 use Rattle.search.specs.declared.Found.{Found}
 use Rattle.search.specs.declared.Found.the-variants.{At, None}
-use Rattle.search.specs.Search.{searchQueue, searchQueues, leftAt, handedAt, wanted}
+use Rattle.search.specs.Search.{isForWord, wanted, searchQueue, searchQueues, leftAt, handedAt}
 
--- ---- a record is for a subchannel by two fields of its slot
+-- ---- a record is for a subchannel by one word of its slot, which is two halves
 field-slot : (at n w : ℕ) (b : List ℕ) (s : ℕ) → at + n ≤ w → field at n (slot w b s) ≡ field (s * w + at) n b
 unfolding slot
 field-slot at n w b s h =
@@ -31,151 +32,118 @@ field-slot at n w b s h =
     let d : drop at (take w (drop (s * w) b)) ≡ take (w - at) (drop at (drop (s * w) b)) = rw e at (drop-take at (w - at) (drop (s * w) b)) in
     rw (d, take-take n (w - at) (drop at (drop (s * w) b)) (omega arith), drop-drop)
 
-pub is-for-at : (b : List ℕ) (s id nr p x y : ℕ) → p ≡ s * 72 → x ≡ field (p + 8) 2 b → y ≡ field (p + 10) 2 b
-    → (eqb x id && eqb y nr) ≡ isFor id nr (slot 72 b s)
-is-for-at b s id nr p x y ep ex ey =
-    rw (field-slot 8 2 72 b s (omega arith), field-slot 10 2 72 b s (omega arith), ex, ey, ep)
+-- two words are equal where their halves are
+word-halves : (x y w : ℕ) (s t : Bool) → y < 65536 → eqb x (w / 65536) ≡ s → eqb y (w % 65536) ≡ t → eqb (x * 65536 + y) w ≡ (s && t)
+word-halves x y w true true h e f = eq-eqb (x * 65536 + y) w (omega (arith, h, eqb-true x (w / 65536) e, eqb-true y (w % 65536) f))
+word-halves x y w true false h e f = ne-eqb (x * 65536 + y) w (λ k. eqb-false y (w % 65536) f (omega (arith, h, k)))
+word-halves x y w false t h e f = ne-eqb (x * 65536 + y) w (λ k. eqb-false x (w / 65536) e (omega (arith, h, k)))
 
--- ---- the queues
-pub queue-record : (o c b : List ℕ) (i : ℕ) → i < length c → sum c ≤ length o → (j : ℕ) → j < getD c i 0
-    → getD (getD (queues o c b) i []) j [] ≡ slot 72 b (getD o (sum (take i c) + j) 0)
-unfolding queues
-queue-record o c b i h few j k =
-    rw (cut-at c (listed 72 o (sum c) b) i h, getD-take (getD c i 0) (drop (sum (take i c)) (listed 72 o (sum c) b)) j [] k, getD-drop)
-    (listed-at 72 o (sum c) (sum (take i c) + j) b (omega (arith, sum-next c i h)) few)
+pub is-for-at : (b : List ℕ) (s w p v : ℕ) → p ≡ s * 72 + 8 → v ≡ field p 2 b * 65536 + field (p + 2) 2 b → field (p + 2) 2 b < 65536 → eqb v w ≡ isForWord w (slot 72 b s)
+is-for-at b s w p v ep ev h =
+    let x : field 8 2 (slot 72 b s) ≡ field p 2 b = rw ep (field-slot 8 2 72 b s (omega arith)) in
+    let y : field 10 2 (slot 72 b s) ≡ field (p + 2) 2 b =
+    field-slot 10 2 72 b s (omega arith) ∙ ap (λ (j : ℕ). field j 2 b) (let z : s * 72 + 10 ≡ p + 2 = omega arith in z) in
+    rw (ev, x, y) (word-halves (field p 2 b) (field (p + 2) 2 b) w _ _ h refl refl)
 
 -- ---- the search of the first eight, turn by turn
-module _ (o c b : List ℕ) (f : Record → Bool) (mask i : ℕ) where
-  pub search-over : (s : ℕ) → 8 ≤ i → searchQueues f mask i s (drop i (take 8 (queues o c b))) ≡ None
+module _ (qs : List (List Record)) (f : Record → Bool) (mask i : ℕ) where
+  pub search-over : 8 ≤ i → searchQueues f mask i (drop i (take 8 qs)) ≡ None
   unfolding searchQueues
-  search-over s h = rw (drop-of-length-le (take 8 (queues o c b)) {i = i} (rw length-take (omega arith)))
+  search-over h = rw (drop-of-length-le (take 8 qs) {i = i} (rw length-take (omega arith)))
 
-  -- the queue's records are at the places from s on and before e
-  module _ (e : ℕ) where
-    abbrev pub later : Found
-    later = searchQueues f mask (i + 1) e (drop (i + 1) (take 8 (queues o c b)))
+  abbrev pub later : Found
+  later = searchQueues f mask (i + 1) (drop (i + 1) (take 8 qs))
 
-    module _ (h : i < 8) (nine : length c ≡ 9) (few : sum c ≤ length o) (s : ℕ) (ee : e ≡ s + getD c i 0) where
-      pub search-queue : searchQueues f mask i s (drop i (take 8 (queues o c b))) ≡ choose (hasBit i mask) (searchQueue f i s (getD (queues o c b) i []) later) later
-      unfolding searchQueues
-      search-queue =
-          let n : i < length (take 8 (queues o c b)) = rw (length-take, length-queues) (omega arith) in
-          rw (ee, add-one, drop-cons (take 8 (queues o c b)) i [] n, getD-take 8 (queues o c b) i [] h, length-queue o c b i (omega arith) few)
+  pub search-queue : i < 8 → length qs ≡ 9 → searchQueues f mask i (drop i (take 8 qs)) ≡ choose (hasBit i mask) (searchQueue f i 0 (getD qs i []) later) later
+  unfolding searchQueues
+  search-queue h nine =
+      let n : i < length (take 8 qs) = rw length-take (omega arith) in
+      rw (add-one, drop-cons (take 8 qs) i [] n, getD-take 8 qs i [] h)
 
-      module _ (k : ℕ) (from : s ≤ k) where
-        pub search-end : e ≤ k → searchQueue f i k (drop (k - s) (getD (queues o c b) i [])) later ≡ later
-        unfolding searchQueue
-        search-end l = rw (drop-of-length-le (getD (queues o c b) i []) {i = k - s} (rw (length-queue o c b i (omega arith) few) (omega arith)))
+  module _ (k : ℕ) where
+    pub search-end : length (getD qs i []) ≤ k → searchQueue f i k (drop k (getD qs i [])) later ≡ later
+    unfolding searchQueue
+    search-end l = rw (drop-of-length-le (getD qs i []) {i = k} l)
 
-        pub search-record : (w : Found) (on x : Bool) → w ≡ choose on (searchQueue f i k (drop (k - s) (getD (queues o c b) i [])) later) later → on ≡ true
-            → k < e → s ≡ sum (take i c) → f (slot 72 b (getD o k 0)) ≡ x
-            → w ≡ choose x (At (record { 0 = i }) k) (searchQueue f i (k + 1) (drop (k + 1 - s) (getD (queues o c b) i [])) later)
-        unfolding searchQueue choose
-        search-record w on x ew t l es ex =
-            let n : k - s < length (getD (queues o c b) i []) = rw (length-queue o c b i (omega arith) few) (omega arith) in
-            let next : k + 1 - s ≡ suc (k - s) = omega arith in
-            let place : sum (take i c) + (k - s) ≡ k = omega arith in
-            rw (ew, t, next, add-one k, drop-cons (getD (queues o c b) i []) (k - s) [] n, queue-record o c b i (omega arith) few (k - s) (omega arith), place, ex)
+    pub search-record : (w : Found) (on x : Bool) → w ≡ choose on (searchQueue f i k (drop k (getD qs i [])) later) later → on ≡ true
+        → k < length (getD qs i []) → f (getD (getD qs i []) k []) ≡ x
+        → w ≡ choose x (At (record { 0 = i }) k) (searchQueue f i (k + 1) (drop (k + 1) (getD qs i [])) later)
+    unfolding searchQueue choose
+    search-record w on x ew t l ex = rw (ew, t, add-one k, drop-cons (getD qs i []) k [] l, ex)
 
--- ---- a place that is found is one of the queues' records
-abbrev Below : ℕ → Found → Type 0
-Below n None = Unit {0}
-Below n (At s k) = k < n
+-- ---- what is found by a search that starts at subclass n is of a subclass from n on
+abbrev From : ℕ → Found → Type 0
+From n None = Unit {0}
+From n (At s k) = n ≤ s .0
 
-below-choose : (n : ℕ) (t : Bool) (v w : Found) → Below n v → Below n w → Below n (choose t v w)
+from-choose : (n : ℕ) (t : Bool) (v w : Found) → From n v → From n w → From n (choose t v w)
 unfolding choose
-below-choose n true v w h l = h
-below-choose n false v w h l = l
+from-choose n true v w h l = h
+from-choose n false v w h l = l
 
-below-queue : (n : ℕ) (f : Record → Bool) (i k : ℕ) (q : List Record) (later : Found) → k + length q ≤ n → Below n later → Below n (searchQueue f i k q later)
+from-less : (n : ℕ) (v : Found) → From (suc n) v → From n v
+from-less n None h = tt
+from-less n (At s k) h = omega (arith, h)
+
+from-queue : (f : Record → Bool) (n k : ℕ) (q : List Record) (later : Found) → From n later → From n (searchQueue f n k q later)
 unfolding searchQueue
-below-queue n f i k [] later h l = l
-below-queue n f i k (r ∷ q) later h l = below-choose n (f r) _ _ (omega arith) (below-queue n f i (suc k) q later (omega arith) l)
+from-queue f n k [] later h = h
+from-queue f n k (r ∷ q) later h = from-choose n (f r) _ _ (omega arith) (from-queue f n (suc k) q later h)
 
-below : (f : Record → Bool) (mask i k : ℕ) (qs : List (List Record)) → Below (k + length (flatten qs)) (searchQueues f mask i k qs)
-unfolding searchQueues flatten
-below f mask i k [] = tt
-below f mask i k (q ∷ qs) =
-    let e : k + length (q ++ flatten qs) ≡ k + length q + length (flatten qs) = omega (arith, length-append q (flatten qs)) in
-    let l = below f mask (suc i) (k + length q) qs in
-    rw e (below-choose _ (hasBit i mask) _ _ (below-queue _ f i k q _ (omega arith) l) l)
-
-pub found-below : (f : Record → Bool) (mask : ℕ) (qs : List (List Record)) (x k : ℕ) → searchQueues f mask 0 0 qs ≡ At (record { 0 = x }) k → k < length (flatten qs)
-found-below f mask qs x k e = omega (arith, rw e at (below f mask 0 0 qs))
-
--- ---- a search with more records before the queues finds the same, that many places on
-abbrev shift : ℕ → Found → Found
-shift a None = None
-shift a (At s k) = At s (a + k)
-
-shift-choose : (a : ℕ) (t : Bool) (v w : Found) → shift a (choose t v w) ≡ choose t (shift a v) (shift a w)
-unfolding choose
-shift-choose a true v w = refl
-shift-choose a false v w = refl
-
-shift-queue : (a : ℕ) (f : Record → Bool) (i k : ℕ) (q : List Record) (later : Found)
-    → shift a (searchQueue f i k q later) ≡ searchQueue f i (a + k) q (shift a later)
-unfolding searchQueue
-shift-queue a f i k [] later = refl
-shift-queue a f i k (r ∷ q) later =
-    let e : a + suc k ≡ suc (a + k) = omega arith in
-    rw (shift-choose, shift-queue a f i (suc k) q later, e)
-
-shift-queues : (a : ℕ) (f : Record → Bool) (mask n k : ℕ) (qs : List (List Record)) → shift a (searchQueues f mask n k qs) ≡ searchQueues f mask n (a + k) qs
+from : (f : Record → Bool) (mask n : ℕ) (qs : List (List Record)) → From n (searchQueues f mask n qs)
 unfolding searchQueues
-shift-queues a f mask n k [] = refl
-shift-queues a f mask n k (q ∷ qs) =
-    rw (shift-choose, shift-queue, shift-queues a f mask (suc n) (k + length q) qs, add-assoc)
+from f mask n [] = tt
+from f mask n (q ∷ qs) =
+    let v = searchQueues f mask (suc n) qs in
+    let l = from-less n v (from f mask (suc n) qs) in
+    from-choose n (hasBit n mask) (searchQueue f n 0 q v) v (from-queue f n 0 q v l) l
 
--- the search of the queues behind q
-behind : (q : List Record) (f : Record → Bool) (mask n : ℕ) (qs : List (List Record))
-    → searchQueues f mask n (0 + length q) qs ≡ shift (length q) (searchQueues f mask n 0 qs)
-behind q f mask n qs =
-    let e : 0 + length q ≡ length q + 0 = omega arith in
-    rw (e, shift-queues)
+-- the subclass counted from n on
+abbrev past : ℕ → Found → Found
+past n None = None
+past n (At s k) = At (record { 0 = s .0 - n }) k
+
+past-none : (v : Found) → past 0 v ≡ v
+past-none None = refl
+past-none (At s k) = ap (λ (i : ℕ). At (record { 0 = i }) k) (let z : s .0 - 0 ≡ s .0 = omega arith in z)
 
 -- ---- the take
-keep-next : (q : List Record) (qs : List (List Record)) (v : Found) → keep q (handedAt v qs) ≡ handedAt (shift (length q) v) (q ∷ qs)
-unfolding flatten
-keep-next q qs None = refl
-keep-next q qs (At s k) = rw (getD-append-add, without-past)
+keep-next : (n : ℕ) (q : List Record) (qs : List (List Record)) (v : Found) → From (suc n) v → keep q (handedAt (past (suc n) v) qs) ≡ handedAt (past n v) (q ∷ qs)
+unfolding withoutAt
+keep-next n q qs None h = refl
+keep-next n q qs (At s k) h = let e : s .0 - n ≡ suc (s .0 - suc n) = omega (arith, h) in rw e
+
+take-here : (t : Bool) (n : ℕ) (r : Record) (q : List Record) (qs : List (List Record)) (v : Found) → From (suc n) v
+    → choose t (some (record { given = r; left = q ∷ qs })) (keep (r ∷ q) (handedAt (past (suc n) v) qs))
+    ≡ handedAt (past n (choose t (At (record { 0 = n }) 0) v)) ((r ∷ q) ∷ qs)
+unfolding choose withoutAt removeAt
+take-here true n r q qs v h = let e : n - n ≡ 0 = omega arith in rw e
+take-here false n r q qs v h = keep-next n (r ∷ q) qs v h
 
 choose-same : {A : Type 0} (t : Bool) (a : A) → choose t a a ≡ a
 unfolding choose
 choose-same true a = refl
 choose-same false a = refl
 
-take-here : (t : Bool) (n : ℕ) (r : Record) (q : List Record) (qs : List (List Record)) (v : Found)
-    → choose t (some (record { given = r; left = q ∷ qs })) (keep (r ∷ q) (handedAt v qs))
-    ≡ handedAt (choose t (At (record { 0 = n }) 0) (shift (length (r ∷ q)) v)) ((r ∷ q) ∷ qs)
-unfolding choose removeAt flatten
-take-here true n r q qs v = rw (without-here 0 (r ∷ q) qs (omega arith))
-take-here false n r q qs v = keep-next (r ∷ q) qs v
-
-take-from : (n mask : ℕ) (qs : List (List Record)) → firstAllowed n mask qs ≡ handedAt (searchQueues (λ r. true) mask n 0 qs) qs
+take-from : (n mask : ℕ) (qs : List (List Record)) → firstAllowed n mask qs ≡ handedAt (past n (searchQueues (λ r. true) mask n qs)) qs
 unfolding firstAllowed searchQueue searchQueues choose
 take-from n mask [] = refl
 take-from n mask ([] ∷ qs) =
-    rw (choose-same, behind [] (λ r. true) mask (suc n) qs, take-from (suc n) mask qs)
-    (keep-next [] qs (searchQueues (λ r. true) mask (suc n) 0 qs))
+    rw (choose-same, take-from (suc n) mask qs) (keep-next n [] qs (searchQueues (λ r. true) mask (suc n) qs) (from (λ r. true) mask (suc n) qs))
 take-from n mask ((r ∷ q) ∷ qs) =
-    rw (behind (r ∷ q) (λ r. true) mask (suc n) qs, take-from (suc n) mask qs)
-    (take-here (hasBit n mask) n r q qs (searchQueues (λ r. true) mask (suc n) 0 qs))
-
-pub take-is : (mask : ℕ) (qs : List (List Record)) → firstAllowed 0 mask qs ≡ handedAt (searchQueues (λ r. true) mask 0 0 qs) qs
-take-is = take-from 0
+    rw (take-from (suc n) mask qs) (take-here (hasBit n mask) n r q qs (searchQueues (λ r. true) mask (suc n) qs) (from (λ r. true) mask (suc n) qs))
 
 -- ---- the clear
 data Look (f : Record → Bool) (q : List Record) : Type 0 where
   nowhere : without f q ≡ none → ((i j : ℕ) (later : Found) → searchQueue f i j q later ≡ later) → Look f q
-  here : (k : ℕ) → k < length q → without f q ≡ some (removeAt k q) → ((i j : ℕ) (later : Found) → searchQueue f i j q later ≡ At (record { 0 = i }) (j + k)) → Look f q
+  here : (k : ℕ) → without f q ≡ some (removeAt k q) → ((i j : ℕ) (later : Found) → searchQueue f i j q later ≡ At (record { 0 = i }) (j + k)) → Look f q
 
 look-on : (f : Record → Bool) (r : Record) (q : List Record) (t : Bool) → f r ≡ t → Look f q → Look f (r ∷ q)
 unfolding without searchQueue choose removeAt
-look-on f r q true e l = here 0 (omega arith) (rw e) (λ i j later. let z : j + 0 ≡ j = omega arith in rw (e, z))
+look-on f r q true e l = here 0 (rw e) (λ i j later. let z : j + 0 ≡ j = omega arith in rw (e, z))
 look-on f r q false e (nowhere a b) = nowhere (rw (e, a)) (λ i j later. rw e (b i (suc j) later))
-look-on f r q false e (here k h a b) =
-    here (suc k) (omega arith) (let z : suc k + 1 ≡ suc (k + 1) = omega arith in rw (e, a, z))
+look-on f r q false e (here k a b) =
+    here (suc k) (let z : suc k + 1 ≡ suc (k + 1) = omega arith in rw (e, a, z))
     (λ i j later. let z : suc j + k ≡ j + suc k = omega arith in rw (e, ← z) (b i (suc j) later))
 
 look : (f : Record → Bool) (q : List Record) → Look f q
@@ -195,33 +163,77 @@ every-bit (suc (suc (suc (suc (suc (suc zero)))))) h = refl
 every-bit (suc (suc (suc (suc (suc (suc (suc zero))))))) h = refl
 every-bit (suc (suc (suc (suc (suc (suc (suc (suc n)))))))) h = absurd (omega arith)
 
-cons-next : (q : List Record) (qs : List (List Record)) (v : Found) → consTo q (leftAt v qs) ≡ leftAt (shift (length q) v) (q ∷ qs)
-cons-next q qs None = refl
-cons-next q qs (At s k) = rw without-past
+cons-next : (n : ℕ) (q : List Record) (qs : List (List Record)) (v : Found) → From (suc n) v → consTo q (leftAt (past (suc n) v) qs) ≡ leftAt (past n v) (q ∷ qs)
+unfolding withoutAt
+cons-next n q qs None h = refl
+cons-next n q qs (At s k) h = let e : s .0 - n ≡ suc (s .0 - suc n) = omega (arith, h) in rw e
 
-clear-here : (f : Record → Bool) (n : ℕ) (q : List Record) (qs : List (List Record)) (v : Found) → Look f q
-    → orIn (without f q) q qs (leftAt v qs) ≡ leftAt (searchQueue f n 0 q (shift (length q) v)) (q ∷ qs)
-clear-here f n q qs v (nowhere a b) = rw (a, b) (cons-next q qs v)
-clear-here f n q qs v (here k h a b) =
+clear-here : (f : Record → Bool) (n : ℕ) (q : List Record) (qs : List (List Record)) (v : Found) → From (suc n) v → Look f q
+    → orIn (without f q) q qs (leftAt (past (suc n) v) qs) ≡ leftAt (past n (searchQueue f n 0 q v)) (q ∷ qs)
+unfolding withoutAt
+clear-here f n q qs v h (nowhere a b) = rw (a, b) (cons-next n q qs v h)
+clear-here f n q qs v h (here k a b) =
     let z : 0 + k ≡ k = omega arith in
-    rw (a, b, z, without-here k q qs h)
+    let e : n - n ≡ 0 = omega arith in
+    rw (a, b, z, e)
 
-clear-from : (f : Record → Bool) (n : ℕ) (qs : List (List Record)) → n + length qs ≤ 8 → withoutFirst f qs ≡ leftAt (searchQueues f 255 n 0 qs) qs
+clear-from : (f : Record → Bool) (n : ℕ) (qs : List (List Record)) → n + length qs ≤ 8 → withoutFirst f qs ≡ leftAt (past n (searchQueues f 255 n qs)) qs
 unfolding withoutFirst searchQueues choose
 clear-from f n [] h = refl
 clear-from f n (q ∷ qs) h =
-    rw (behind q f 255 (suc n) qs, every-bit n (omega arith), clear-from f (suc n) qs (omega arith))
-    (clear-here f n q qs (searchQueues f 255 (suc n) 0 qs) (look f q))
-
-pub clear-is : (f : Record → Bool) (qs : List (List Record)) → length qs ≤ 8 → withoutFirst f qs ≡ leftAt (searchQueues f 255 0 0 qs) qs
-clear-is f qs h = clear-from f 0 qs (omega arith)
+    rw (every-bit n (omega arith), clear-from f (suc n) qs (omega arith))
+    (clear-here f n q qs (searchQueues f 255 (suc n) qs) (from f 255 (suc n) qs) (look f q))
 
 -- what the rules do at what the search answers: the subchannel's first record, and any record of an allowed subclass
-module _ (any : Bool) (id nr mask : ℕ) (qs : List (List Record)) (v : Found) (e : v ≡ searchQueues (wanted any id nr) mask 0 0 (take 8 qs)) where
-  pub cleared : any ≡ false → mask ≡ 255 → withoutFirst (isFor id nr) (take 8 qs) ≡ leftAt v (take 8 qs)
+module _ (any : Bool) (word mask : ℕ) (qs : List (List Record)) (v : Found) (e : v ≡ searchQueues (wanted any word) mask 0 (take 8 qs)) where
+  pub cleared : any ≡ false → mask ≡ 255 → withoutFirst (isForWord word) (take 8 qs) ≡ leftAt v (take 8 qs)
   cleared a m =
-      clear-is (isFor id nr) (take 8 qs) (omega (arith, length-take 8 qs))
-      ∙ ap (λ (u : Found). leftAt u (take 8 qs)) (sym (e ∙ (λ i. searchQueues (wanted (a i) id nr) (m i) 0 0 (take 8 qs))))
+      clear-from (isForWord word) 0 (take 8 qs) (omega (arith, length-take 8 qs))
+      ∙ ap (λ (u : Found). leftAt u (take 8 qs)) (past-none _ ∙ sym (e ∙ (λ i. searchQueues (wanted (a i) word) (m i) 0 (take 8 qs))))
 
   pub handed-out : any ≡ true → firstAllowed 0 mask (take 8 qs) ≡ handedAt v (take 8 qs)
-  handed-out a = take-is mask (take 8 qs) ∙ ap (λ (u : Found). handedAt u (take 8 qs)) (sym (e ∙ (λ i. searchQueues (wanted (a i) id nr) mask 0 0 (take 8 qs))))
+  handed-out a =
+      take-from 0 mask (take 8 qs)
+      ∙ ap (λ (u : Found). handedAt u (take 8 qs)) (past-none _ ∙ sym (e ∙ (λ i. searchQueues (wanted (a i) word) mask 0 (take 8 qs))))
+
+-- ---- a mask without the subclasses that have no records
+one-digit : (a b : ℕ) → min (a % 2) (b % 2) < 2
+one-digit a b = omega arith
+
+digit-and : (k a b : ℕ) → bitAnd a b / 2 ^ k % 2 ≡ min (a / 2 ^ k % 2) (b / 2 ^ k % 2)
+digit-and zero a b =
+    let e : (n : ℕ) → n / 2 ^ 0 ≡ n = λ n. omega arith in
+    rw (e (bitAnd a b), e a, e b) (omega (arith, and-step a b, one-digit a b))
+digit-and (suc k) a b =
+    let e : bitAnd a b / 2 ≡ bitAnd (a / 2) (b / 2) = omega (arith, and-step a b, one-digit a b) in
+    rw (← halves (bitAnd a b) k, ← halves a k, ← halves b k, e) (digit-and k (a / 2) (b / 2))
+
+bit-and : (i a b : ℕ) → i ≤ 7 → bitAnd a b / bit i % 2 ≡ min (a / bit i % 2) (b / bit i % 2)
+bit-and zero a b h = digit-and 7 a b
+bit-and (suc zero) a b h = digit-and 6 a b
+bit-and (suc (suc zero)) a b h = digit-and 5 a b
+bit-and (suc (suc (suc zero))) a b h = digit-and 4 a b
+bit-and (suc (suc (suc (suc zero)))) a b h = digit-and 3 a b
+bit-and (suc (suc (suc (suc (suc zero))))) a b h = digit-and 2 a b
+bit-and (suc (suc (suc (suc (suc (suc zero)))))) a b h = digit-and 1 a b
+bit-and (suc (suc (suc (suc (suc (suc (suc zero))))))) a b h = digit-and 0 a b
+bit-and (suc (suc (suc (suc (suc (suc (suc (suc i)))))))) a b h = absurd (omega arith)
+
+-- a bit of two masks is that of the one where the other has it
+pub has-both : (i a b : ℕ) → i ≤ 7 → hasBit i b ≡ true → hasBit i (bitAnd a b) ≡ hasBit i a
+unfolding hasBit
+has-both i a b h k =
+    let e : bitAnd a b / bit i % 2 ≡ a / bit i % 2 = omega (arith, bit-and i a b h, eqb-true (b / bit i % 2) 1 k) in
+    rw e
+
+-- masks that agree on the subclasses that have records
+pub same-mask : (n a b : ℕ) (qs : List (List Record)) → ((i : ℕ) → i < length qs → 0 < length (getD qs i []) → hasBit (n + i) a ≡ hasBit (n + i) b)
+    → firstAllowed n a qs ≡ firstAllowed n b qs
+unfolding firstAllowed
+same-mask n a b [] h = refl
+same-mask n a b ([] ∷ qs) h =
+    ap (keep []) (same-mask (suc n) a b qs (λ i k l. rw (let z : n + suc i ≡ suc n + i = omega arith in z) at (h (suc i) (omega arith) l)))
+same-mask n a b ((r ∷ q) ∷ qs) h =
+    let z : n + 0 ≡ n = omega arith in
+    let here : hasBit n a ≡ hasBit n b = rw z at (h 0 (omega arith) (omega arith)) in
+    rw (here, same-mask (suc n) a b qs (λ i k l. rw (let z : n + suc i ≡ suc n + i = omega arith in z) at (h (suc i) (omega arith) l)))

@@ -1,9 +1,11 @@
--- Records in slots, and the order that names the used ones.
-use mathlib.Core.List.{List, [], _∷_, _++_, map}
+-- Records in slots, and lists of slot numbers.
+use mathlib.Core.Path.{_≡_}
+use mathlib.Core.List.{List, [], _∷_, _++_}
 use Prim.Native.Nat.{ℕ, suc, _+_, _*_, _≤_}
 use lib.Dec.{eqb}
 use lib.ListN.{take, drop}
 use Rattle.rules.specs.Bytes.{choose}
+use Rattle.rules.specs.State.{Record}
 
 -- how many slots the lent memory has: room for every record of the nine queues
 abbrev pub slotCount : ℕ
@@ -13,20 +15,18 @@ slotCount = 256
 abbrev pub mostPending : ℕ
 mostPending = slotCount + 2
 
--- a list with one more at a place, and with the one at a place taken out
-unfoldable pub insertAt {ℓ} : {A : Type ℓ} → ℕ → A → List A → List A
-insertAt k x l = take k l ++ (x ∷ drop k l)
-
+-- a list with the one at a place taken out
 unfoldable pub removeAt {ℓ} : {A : Type ℓ} → ℕ → List A → List A
 removeAt k l = take k l ++ drop (k + 1) l
 
 -- the record in slot s, of w bytes
-unfoldable pub slot : ℕ → List ℕ → ℕ → List ℕ
+unfoldable pub slot : ℕ → List ℕ → ℕ → Record
 slot w b s = take w (drop (s * w) b)
 
--- the records in the slots that the first n entries of o name
-unfoldable pub listed : ℕ → List ℕ → ℕ → List ℕ → List (List ℕ)
-listed w o n b = map (slot w b) (take n o)
+-- the record r is put into slot s, and every other slot stays
+pub record Stored (s : ℕ) (r b b′ : List ℕ) : Type 0 where
+  pub here : slot 72 b′ s ≡ r
+  pub others : (t : ℕ) → (t ≡ s → ⊥) → slot 72 b′ t ≡ slot 72 b t
 
 -- how often s stands in a list
 unfoldable pub occurs : ℕ → List ℕ → ℕ

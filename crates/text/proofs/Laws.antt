@@ -7,7 +7,7 @@ use native.Mathlib.Nat.{zero-add, add-zero, add-assoc, pow-suc, div-div-eq-div-m
 use native.Mathlib.Numerals.{add-one}
 use native.Mathlib.Omega.{arith}
 use borrow.Author.Tests.{lt-ltb, le-ltb}
-use lib.ListN.{length, take, drop, set, length-append, length-take, length-drop}
+use lib.ListN.{length, take, drop, set, length-append, length-take, length-drop, getD}
 use lib.Dec.{ltb}
 use lib.Seq.{take-all, take-at, drop-at, take-paste, drop-paste, drop-drop, paste, length-paste}
 use Rattle.rules.specs.Bytes.{choose, byte, part, field}
@@ -17,9 +17,9 @@ use Rattle.rules.specs.Listing.{ascii, digit, digits, digitCount, decimal, hex8
 use Rattle.rules.specs.Invariant.{All}
 use Rattle.rules.proofs.Lists.{all-append}
 use Rattle.words.proofs.Laws.{paste-front}
-use Rattle.slots.specs.Slots.{slot, listed}
-use Rattle.queues.specs.Queues.{sum}
-use Rattle.queues.proofs.Laws.{flatten-queues}
+use Rattle.slots.specs.Slots.{slot}
+use Rattle.queues.specs.Queues.{queues, Held}
+use Rattle.queues.proofs.Laws.{all-queued}
 use Rattle.singles.specs.Singles.{ifThere, serviceOf, mchkOf}
 use Rattle.records.specs.Memory.{pendingOf}
 use Rattle.records.specs.declared.Kind.{Kind as Case}
@@ -172,26 +172,20 @@ unfolding ifThere
 short-single zero l = tt
 short-single (suc n) l = (short-take l, tt)
 
-short-listed : (o : List ℕ) (n : ℕ) (b : List ℕ) → All Short (listed 72 o n b)
-unfolding listed slot
-short-listed o zero b = tt
-short-listed [] (suc n) b = tt
-short-listed (x ∷ o) (suc n) b = (short-take (drop (x * 72) b), short-listed o n b)
-
-short-listing : (o c b g : List ℕ) → length c ≡ 9 → sum c ≤ length o → All Short (listing (pendingOf o c b g))
-unfolding serviceOf mchkOf
-short-listing o c b g lc k =
-    rw (listing-is o c b g lc, flatten-queues o c b k)
-    (all-append Short (listed 72 o (sum c) b ++ single (serviceOf g)) (single (mchkOf g))
-    (all-append Short (listed 72 o (sum c) b) (single (serviceOf g)) (short-listed o (sum c) b) (short-single (byte 144 g) (drop 0 g)))
+short-listing : (o c b g : List ℕ) → Held o c → All Short (listing (pendingOf o c b g))
+unfolding serviceOf mchkOf slot
+short-listing o c b g h =
+    rw (listing-is o c b g h)
+    (all-append Short (flatten (queues o c b) ++ single (serviceOf g)) (single (mchkOf g))
+    (all-append Short (flatten (queues o c b)) (single (serviceOf g)) (all-queued Short b o c (λ k. short-take (drop (getD o k 0 * 72) b))) (short-single (byte 144 g) (drop 0 g)))
     (short-single (byte 145 g) (drop 72 g)))
 
 -- the records that list_all has written
-pub listing-back : (o c b g d e : List ℕ) (n : ℕ) → length c ≡ 9 → sum c ≤ length o → length e ≡ length d → 72 * n ≤ length d
+pub listing-back : (o c b g d e : List ℕ) (n : ℕ) → Held o c → length e ≡ length d → 72 * n ≤ length d
     → let rs = listing (pendingOf o c b g) in
     n ≡ length rs → e ≡ flatten rs ++ drop (72 * length rs) d → recordsIn n e ≡ rs
-listing-back o c b g d e n lc k l f en w =
+listing-back o c b g d e n h l f en w =
     let rs = listing (pendingOf o c b g) in
     let m : length (flatten rs) ≡ 72 * length rs =
     omega (arith, ap length w, length-append (flatten rs) (drop (72 * length rs) d), length-drop (72 * length rs) d) in
-    rw w (records-listed rs _ n en (short-whole rs (short-listing o c b g lc k) m))
+    rw w (records-listed rs _ n en (short-whole rs (short-listing o c b g h) m))

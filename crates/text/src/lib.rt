@@ -12,7 +12,8 @@ ghost use Rattle.queues.specs.Queues.{Held};
 ghost use Rattle.records.specs.Memory.{pendingOf};
 ghost use Rattle.text.specs.Wrote.{Wrote};
 use records::Kind;
-use words::QUEUES;
+use words::COUNTS;
+use words::ORDER_BYTES;
 use words::ROOM;
 use words::SINGLES_BYTES;
 use words::SLOT_BYTES;
@@ -158,17 +159,14 @@ fn write_records(out: &mut [u8], at: usize, b: &[u8], n: usize) -> usize
 // The listing of what is pending.
 pub fn write_pending(
     slots: &[u8; SLOT_BYTES],
-    order: &[u8; ROOM],
-    counts: &[usize; QUEUES],
+    order: &[u8; ORDER_BYTES],
+    counts: &[usize; COUNTS],
     singles: &[u8; SINGLES_BYTES],
     out: &mut [u8; TEXT_BYTES],
 ) -> usize
     requires { ⌜ Held (now order) (now counts) ⌝ }
     ensures { λ r. ⌜ Wrote (now (out .entry)) (now (out .exit)) 0 (shown (listing (pendingOf (now (order .entry)) (now (counts .entry)) (now (slots .entry)) (now (singles .entry))))) r ⌝ }
 {
-    // As slices: what makes one of an array says its length.
-    let _o: &[u8] = order;
-    let _c: &[usize] = counts;
     let mut records = [0u8; LISTING_BYTES];
     let n = outgoing::pending(counts, singles);
     outgoing::list_all(slots, order, counts, singles, &mut records);

@@ -6,7 +6,7 @@ use native.Mathlib.Nat.{zero-add, suc-add, add-zero, add-suc, mul-one, pow-zero,
 use native.Mathlib.Numerals.{add-one}
 use native.Mathlib.Omega.{arith}
 use lib.ListN.{length, take, drop, getD, set, length-drop, length-append, drop-of-length-le}
-use lib.Seq.{take-nil, take-at, drop-at, take-append-le, take-take, take-all, take-suc, take-add, drop-drop, drop-paste, getD-drop, length-take-le, set-at, paste, paste-zero, paste-suc}
+use lib.Seq.{take-nil, take-at, drop-at, take-append-le, take-take, take-all, take-suc, take-add, drop-cons, drop-drop, drop-paste, getD-drop, length-take-le, set-at, paste, paste-zero, paste-suc}
 use Rattle.rules.specs.Bytes.{number, bytes}
 
 module _ {ℓ} {A : Type ℓ} where
@@ -98,6 +98,17 @@ number-parts l at m n h =
 pub number-words : (l : List ℕ) (at : ℕ) → at + 8 ≤ length l
     → number (take 4 (drop at l)) * 4294967296 + number (take 4 (drop (at + 4) l)) ≡ number (take 8 (drop at l))
 number-words l at h = sym (number-parts l at 4 4 (omega arith))
+
+pub number-halves : (l : List ℕ) (at : ℕ) → at + 4 ≤ length l
+    → number (take 2 (drop at l)) * 65536 + number (take 2 (drop (at + 2) l)) ≡ number (take 4 (drop at l))
+number-halves l at h = sym (number-parts l at 2 2 (omega arith))
+
+-- two bytes are below 65,536
+pub pair-small : (l : List ℕ) (at : ℕ) → at + 2 ≤ length l → ((i : ℕ) → getD l i 0 < 256) → number (take 2 (drop at l)) < 65536
+unfolding number
+pair-small l at h f =
+    let e : take 2 (drop at l) ≡ getD l at 0 ∷ getD l (suc at) 0 ∷ [] = rw (drop-cons l at 0 (omega arith), drop-cons l (suc at) 0 (omega arith)) in
+    rw e (omega (arith, f at, f (suc at)))
 
 -- eight bytes fit
 pub read-fits : (v i n : ℕ) → v < 256 ^ i → i < n → n ≤ 8 → v * 256 + 256 ≤ 2 ^ 64

@@ -1,6 +1,6 @@
 // Inner crate: group numbers, the limits, kinds of small numbers that must not be confused, big-endian numbers, and records of 72 bytes.
 ghost use mathlib.Core.Path.{_≡_};
-ghost use Prim.Native.Nat.{_+_, _^_, _≤_, _<_};
+ghost use Prim.Native.Nat.{_+_, _*_, _^_, _≤_, _<_};
 ghost use lib.ListN.{length};
 ghost use lib.Seq.{paste};
 ghost use Rattle.rules.specs.Bytes.{bytes, part, field};
@@ -42,8 +42,15 @@ pub const MOST_REQUESTS: u64 = 131;
 
 pub const SLOT_BYTES: usize = ROOM * 72;
 
-// A queue for each subclass and one of finished page faults, with a count for each.
+// A queue for each subclass and one of finished page faults.
 pub const QUEUES: usize = 9;
+
+// Slot numbers: a row for each queue, and one of the free slots.
+pub const ORDER_BYTES: usize = (QUEUES + 1) * ROOM;
+
+// A count for each queue, then how many records the queues hold together, then the subclasses that have records, as the
+// bits of a mask.
+pub const COUNTS: usize = QUEUES + 2;
 
 // The service record, the machine check, and a byte for each that says whether it is there.
 pub const SINGLES_BYTES: usize = 2 * 72 + 2;
@@ -54,9 +61,11 @@ pub struct AdapterId(pub u64);
 // An interruption subclass, 0 to 7: it alone names an I/O queue or a bit of a mask.
 pub struct Subclass(pub u8);
 
-pub struct SubchannelId(pub u64);
+// One of the nine queues: 0 to 7 are those of the subclasses, 8 has the finished page faults.
+pub struct Queue(pub usize);
 
-pub struct SubchannelNumber(pub u64);
+// A subchannel: its id and its number as one word, the id in front.
+pub struct Subchannel(pub u64);
 
 pub fn wide(x: u8) -> u64
     ensures { λ r. ⌜ (r ≡ x) × (r < 256) ⌝ }
@@ -90,6 +99,15 @@ pub fn read_doubleword(b: &[u8], at: usize) -> u64
     ensures { λ r. ⌜ (r ≡ field at 8 (now (b .entry))) × (r < 256 ^ 8) ⌝ }
 {
     read_be(b, at, 4) * 4294967296 + read_be(b, at + 4, 4)
+}
+
+// The number that the 4 bytes from index at say, and its two halves.
+pub fn read_word(b: &[u8], at: usize) -> u64
+    requires { ⌜ at + 4 ≤ length (now b) ⌝ }
+    ensures { λ r. ⌜ r ≡ field at 2 (now (b .entry)) * 65536 + field (at + 2) 2 (now (b .entry)) ⌝ }
+    ensures halves { λ _. ⌜ (field at 2 (now (b .entry)) < 65536) × (field (at + 2) 2 (now (b .entry)) < 65536) ⌝ }
+{
+    read_be(b, at, 4)
 }
 
 // Writes the n lowest bytes of v from index at, the highest of them first.

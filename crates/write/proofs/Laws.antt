@@ -23,10 +23,10 @@ use Rattle.rules.proofs.Reachable.{length-records}
 use Rattle.rules.specs.Invariant as invariant
 use Rattle.answers.specs.declared.Answer.{Answer}
 use Rattle.answers.specs.Answers.{Answers, answered}
-use Rattle.slots.specs.Slots.{slotCount, listed}
-use Rattle.slots.proofs.Laws.{every-record}
-use Rattle.queues.specs.Queues.{sum}
-use Rattle.queues.proofs.Laws.{flatten-queues}
+use Rattle.slots.specs.Slots.{slotCount}
+use Rattle.slots.proofs.Laws.{length-slot}
+use Rattle.queues.specs.Queues.{queues, Held}
+use Rattle.queues.proofs.Laws.{all-queued}
 use Rattle.singles.specs.Singles.{ifThere, serviceOf, mchkOf}
 use Rattle.records.specs.Memory.{pendingOf}
 use Rattle.outgoing.proofs.Laws.{listing-is}
@@ -156,14 +156,14 @@ one-whole (suc n) r h = (h, tt)
 length-part : (at : ℕ) (g : List ℕ) → at + 72 ≤ length g → length (part at 72 g) ≡ 72
 length-part at g h = simp (length-take, length-drop) (omega arith)
 
-pub whole-listing : (o c b g : List ℕ) (n : ℕ) → length c ≡ 9 → sum c ≤ length o → ((k : ℕ) → getD o k 0 < slotCount) → slotCount * 72 ≤ length b → length g ≡ 146
+pub whole-listing : (o c b g : List ℕ) (n : ℕ) → Held o c → ((k : ℕ) → getD o k 0 < slotCount) → slotCount * 72 ≤ length b → length g ≡ 146
     → n ≡ length (listing (pendingOf o c b g)) → Whole (listing (pendingOf o c b g)) n
 unfolding serviceOf mchkOf
-whole-listing o c b g n h k f m q e =
+whole-listing o c b g n h f m q e =
     let every : All invariant.Whole (listing (pendingOf o c b g)) =
-    rw (listing-is o c b g h, flatten-queues o c b k)
-    (all-append invariant.Whole (listed 72 o (sum c) b ++ single (serviceOf g)) (single (mchkOf g))
-    (all-append invariant.Whole (listed 72 o (sum c) b) (single (serviceOf g)) (every-record 72 slotCount o (sum c) b f m) (one-whole (byte 144 g) (part 0 72 g) (length-part 0 g (omega arith))))
+    rw (listing-is o c b g h)
+    (all-append invariant.Whole (flatten (queues o c b) ++ single (serviceOf g)) (single (mchkOf g))
+    (all-append invariant.Whole (flatten (queues o c b)) (single (serviceOf g)) (all-queued invariant.Whole b o c (λ k. length-slot 72 slotCount b (getD o k 0) (f k) m)) (one-whole (byte 144 g) (part 0 72 g) (length-part 0 g (omega arith))))
     (one-whole (byte 145 g) (part 72 72 g) (length-part 72 g (omega arith)))) in
     record { count = sym e; size = length-records _ every ∙ ap (λ (x : ℕ). 72 * x) (sym e) }
 

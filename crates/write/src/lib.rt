@@ -19,9 +19,9 @@ ghost use Rattle.image.specs.Image.{imageSize};
 ghost use Rattle.slots.specs.Slots.{slotCount, mostPending};
 use adapters::Device;
 use answers::Answer;
+use words::COUNTS;
+use words::ORDER_BYTES;
 use words::PLACES;
-use words::QUEUES;
-use words::ROOM;
 use words::SINGLES_BYTES;
 use words::SLOT_BYTES;
 
@@ -51,14 +51,13 @@ fn has_masks(ais: bool, device: Device) -> bool
 fn records_pending(
     slots: &[u8],
     order: &[u8],
-    counts: &[usize; QUEUES],
+    counts: &[usize; COUNTS],
     singles: &[u8; SINGLES_BYTES],
 ) -> usize
-    requires { ⌜ Held (now order) (now counts) × (length (now slots) ≡ slotCount * 72) × (length (now order) ≡ slotCount) ⌝ }
+    requires { ⌜ Held (now order) (now counts) × (length (now slots) ≡ slotCount * 72) ⌝ }
     ensures { λ r. ⌜ Whole (listing (pendingOf (now (order .entry)) (now (counts .entry)) (now (slots .entry)) (now (singles .entry)))) r × (r ≤ mostPending) ⌝ }
 {
-    // as slices: what makes one of an array says its length
-    let _c: &[usize] = counts;
+    // as a slice: what makes one of an array says its length
     let _g: &[u8] = singles;
     outgoing::pending(counts, singles)
 }
@@ -121,8 +120,8 @@ fn put_table(out: &mut [u8], start: usize, image: [u8; PLACES], p: Parts)
 fn put_listing(
     out: &mut [u8],
     slots: &[u8; SLOT_BYTES],
-    order: &[u8; ROOM],
-    counts: &[usize; QUEUES],
+    order: &[u8; ORDER_BYTES],
+    counts: &[usize; COUNTS],
     singles: &[u8; SINGLES_BYTES],
     at: usize,
     n: usize,
@@ -147,8 +146,8 @@ fn put_masks(out: &mut [u8], on: bool, at: usize, simm: u8, nimm: u8)
 fn put_payloads(
     out: &mut [u8],
     slots: &[u8; SLOT_BYTES],
-    order: &[u8; ROOM],
-    counts: &[usize; QUEUES],
+    order: &[u8; ORDER_BYTES],
+    counts: &[usize; COUNTS],
     singles: &[u8; SINGLES_BYTES],
     start: usize,
     image: [u8; PLACES],
@@ -170,8 +169,8 @@ fn put_payloads(
 // A move list is written from the buffer's start; where the buffer is too short nothing is.
 pub fn write_list(
     slots: &[u8; SLOT_BYTES],
-    order: &[u8; ROOM],
-    counts: &[usize; QUEUES],
+    order: &[u8; ORDER_BYTES],
+    counts: &[usize; COUNTS],
     singles: &[u8; SINGLES_BYTES],
     ais: bool,
     device: Device,

@@ -8,9 +8,9 @@ use borrow.Author.Tests.{leb-true, leb-false}
 use Rattle.rules.specs.Requests.{adapterInterrupt}
 use Rattle.rules.specs.State.{State, queued, addIo}
 use Rattle.rules.specs.Outcome.{accept}
-use Rattle.queues.specs.Queues.{sum}
+use Rattle.queues.specs.Queues.{total}
 use Rattle.records.specs.Memory.{pendingOf}
-use Rattle.records.proofs.Laws.{queued-sum}
+use Rattle.records.proofs.Laws.{queued-total}
 use Rattle.adapters.specs.declared.Injection.{Injection}
 use Rattle.adapters.specs.Values.{injectionOf, injectedDevice, placeOf, deviceOf}
 use Rattle.words.specs.declared.Subclass.{Subclass}
@@ -92,21 +92,21 @@ enum-known-what c = search needs
 
 -- what is known once `adapters::inject` was called
 abbrev start : tie.After-inject → tie.Start
-start j = j .before .before .before .before .before .before .before .before .before .before
+start j = j .before .before .before .before .before .before
 
 in-range : (j : tie.After-inject) → start j .args .id .0 < start j .args .places
-in-range j = omega (arith, j .before .before .before .before .before .before .before .before .if1 .left)
+in-range j = omega (arith, j .before .before .before .before .if1 .left)
 
 all-counted : (j : tie.After-inject) (g : List ℕ)
     → queued (pendingOf (start j .args .order .now) (start j .args .counts .now) (start j .args .slots .now) g) ≡ j .before .before .queued .result
 all-counted j g =
     let a = start j .args in
-    queued-sum (a .order .now) (a .counts .now) (a .slots .now) g
-    (omega (arith, start j .pre .1 .few, j .before .before .before .before .before .before .listed2 .given .0)) (j .before .before .before .before .counted2 .given .0)
+    queued-total (a .order .now) (a .counts .now) (a .slots .now) g
+    (start j .pre .1)
     ∙ sym (j .before .before .queued .ensures)
 
 case-told : (j : tie.After-inject) {x : Injection} → j .inject .result ≡ x
-    → answerFor x ≡ answerFor (injectionOf (start j .args .ais) (start j .args .device) (start j .args .place) (leb (start j .args .room) (sum (start j .args .counts .now))))
+    → answerFor x ≡ answerFor (injectionOf (start j .args .ais) (start j .args .device) (start j .args .place) (leb (start j .args .room) (total (start j .args .counts .now))))
 case-told j e =
     let a = start j .args in
     ap answerFor (sym e ∙ j .inject .ensures ∙ ap (λ (n : ℕ). injectionOf (a .ais) (a .device) (a .place) (leb (a .room) n)) (j .before .before .queued .ensures))

@@ -29,10 +29,10 @@ clear-irqs-requires c κs = search needs
 returns-2 : tie.Need-returns-2
 unfolding request
 returns-2 c =
-    let f = c .before .before .before .before .before .before .before .before in
+    let f = c .before .before .before .before .before .before .before in
     let e = c .clear-irqs .ensures in (
-      λ L s er ep. as-answer L s (f .args .attr) _ _ 3 (c .before .before .before .before .before .if2 .taken) refl (e .0 L s _ _ _ (c .before .before .before .listed2 .given .0) ep),
-      (record { apart = f .pre .1 .apart; few = e .1 .0 }, λ k. let m = e .1 .1 k in (refl, refl, m .0, m .1)),
+      λ L s er ep. as-answer L s (f .args .attr) _ _ 3 (c .before .before .before .before .if2 .taken) refl (e .0 L s _ _ ep),
+      (e .1 .0, λ k. let m = e .1 .1 k in (refl, m .0, m .1, m .2)),
     )
 
 clear-io-requires : tie.Need-clear-io-requires

@@ -112,7 +112,7 @@ module _ {M : Type 1} (𝓤 : URA M) (H : Heap 𝓤) (A : Atoms 𝓤) (W : Given
 
   module _ (C′ : Calls 𝓤 H) (Λ : Loops 𝓤 H) (fm : FmC 𝓤 H (W .laws) C′) (known-refuse : Triple 𝓤 (C′ refuse-def.name) (Refuse 𝓤 H A mem′ run)) (known-read : Triple 𝓤 (C′ read-device-def.name) (ReadDevice 𝓤 H A mem′ run)) (known : Triple 𝓤 (C′ answer-get-def.name) (AnswerGet 𝓤 H A mem′ run)) (l₀ l₁ l₂ l₃ l₄ l₅ l₆ l₇ l₈ l₉ l₁₀ l₁₁ l₁₂ l₁₃ l₁₄ l₁₅ : ℕ) where
     abbrev E : Env 𝓤 H
-    E = (An′.mir, l₀) ∷ (tyRef (named 0) imm (pointee (C.the-row .written)), l₁) ∷ (tyRef (named 1) imm (pointee (D.the-row .written)), l₂) ∷ (sliceTy (tyRef (named 2) imm (pointee (P.the-row .written))), l₃) ∷ (tyInt w32, l₄) ∷ (tyInt w64, l₅) ∷ (sliceTy (tyRef (named 3) mut (tyInt w8)), l₆) ∷ (D′.mir, l₇) ∷ (tyInt w64, l₈) ∷ (tyBool, l₉) ∷ (tyRef erased imm (tyArray (tyInt w8) 18432), l₁₀) ∷ (tyRef erased imm (tyArray (tyInt w8) 256), l₁₁) ∷ (tyRef erased imm (tyArray (tyInt w64) 9), l₁₂) ∷ (tyRef erased imm (tyArray (tyInt w8) 146), l₁₃) ∷ (tyRef erased mut (tyInt w8), l₁₄) ∷ (sliceTy (tyRef erased mut (tyInt w8)), l₁₅) ∷ []
+    E = (An′.mir, l₀) ∷ (tyRef (named 0) imm (pointee (C.the-row .written)), l₁) ∷ (tyRef (named 1) imm (pointee (D.the-row .written)), l₂) ∷ (sliceTy (tyRef (named 2) imm (pointee (P.the-row .written))), l₃) ∷ (tyInt w32, l₄) ∷ (tyInt w64, l₅) ∷ (sliceTy (tyRef (named 3) mut (tyInt w8)), l₆) ∷ (D′.mir, l₇) ∷ (tyInt w64, l₈) ∷ (tyBool, l₉) ∷ (tyRef erased imm (tyArray (tyInt w8) 18432), l₁₀) ∷ (tyRef erased imm (tyArray (tyInt w8) 2560), l₁₁) ∷ (tyRef erased imm (tyArray (tyInt w64) 11), l₁₂) ∷ (tyRef erased imm (tyArray (tyInt w8) 146), l₁₃) ∷ (tyRef erased mut (tyInt w8), l₁₄) ∷ (sliceTy (tyRef erased mut (tyInt w8)), l₁₅) ∷ []
 
     -- what the locals hold after n statements, and the result's v₀; the flag is whether the length is wrong, then the capability
     abbrev wrong : Bool
@@ -120,7 +120,7 @@ module _ {M : Type 1} (𝓤 : URA M) (H : Heap 𝓤) (A : Atoms 𝓤) (W : Given
 
     abbrev held : Content → Bool → ℕ → List Content
     held v₀ flag n = v₀ ∷ holds (vptr bc oc) ∷ holds (vptr bd od) ∷ holds s ∷ holds (vint w32 group) ∷ holds (vint w64 attr) ∷ holds out ∷ since 4 n (D′.lowered d) ∷ since 1 n (vint w64 (length ys)) ∷ since 2 n (vbool flag)
-        ∷ since 5 n (vptr bc (oc + 0)) ∷ since 6 n (vptr bc (oc + 18432)) ∷ since 7 n (vptr bc (oc + 18688)) ∷ since 8 n (vptr bc (oc + 18760)) ∷ since 10 n (vptr bo oo) ∷ since 11 n out ∷ []
+        ∷ since 5 n (vptr bc (oc + 0)) ∷ since 6 n (vptr bc (oc + 18432)) ∷ since 7 n (vptr bc (oc + 20992)) ∷ since 8 n (vptr bc (oc + 21080)) ∷ since 10 n (vptr bo oo) ∷ since 11 n out ∷ []
 
     -- the controller looked into, at the share sh
     abbrev Open : Share → List (Item 𝓤) → List (Item 𝓤)

@@ -135,8 +135,8 @@ module _ {M : Type 1} (𝓤 : URA M) (H : Heap 𝓤) (A : Atoms 𝓤) (W : Given
   module _ (C′ : Calls 𝓤 H) (Λ : Loops 𝓤 H) (fm : FmC 𝓤 H (W .laws) C′) (known : Known 𝓤 H A mem′ run C′) (l₀ l₁ l₂ l₃ l₄ l₅ l₆ l₇ l₈ l₉ l₁₀ l₁₁ l₁₂ l₁₃ l₁₄ l₁₅ l₁₆ l₁₇ l₁₈ l₁₉ l₂₀ l₂₁ l₂₂ l₂₃ l₂₄ l₂₅ l₂₆ l₂₇ l₂₈ l₂₉ l₃₀ l₃₁ : ℕ) where
     abbrev E : Env 𝓤 H
     E = (An′.mir, l₀) ∷ (tyRef (named 0) mut (pointee (C.the-row .written)), l₁) ∷ (tyRef (named 1) mut (pointee (D.the-row .written)), l₂) ∷ (sliceTy (tyRef (named 2) mut (pointee (P.the-row .written))), l₃) ∷ (tyInt w32, l₄) ∷ (tyInt w64, l₅) ∷ (sliceTy (tyRef (named 3) imm (tyInt w8)), l₆) ∷ (I′.mir, l₇) ∷ (P′.mir, l₈) ∷ (D′.mir, l₉) ∷ (An′.mir, l₁₀) ∷ (tyInt w64, l₁₁) ∷ (tyBool, l₁₂) ∷ (tyBool, l₁₃)
-        ∷ (tyRef erased mut (tyArray (tyInt w8) 18432), l₁₄) ∷ (tyRef erased mut (tyArray (tyInt w8) 256), l₁₅) ∷ (tyRef erased mut (tyArray (tyInt w64) 9), l₁₆) ∷ (tyRef erased mut (tyArray (tyInt w8) 146), l₁₇) ∷ (tyRef erased imm (pointee (P.the-row .written)), l₁₈) ∷ (sliceTy (tyRef erased imm (pointee (P.the-row .written))), l₁₉) ∷ (tyRef erased imm (pointee (D.the-row .written)), l₂₀)
-        ∷ (tyRef erased mut (tyArray (tyInt w8) 18432), l₂₁) ∷ (tyRef erased mut (tyArray (tyInt w8) 256), l₂₂) ∷ (tyRef erased mut (tyArray (tyInt w64) 9), l₂₃) ∷ (tyRef erased mut (tyArray (tyInt w8) 146), l₂₄) ∷ (tyBool, l₂₅) ∷ (tyUnit, l₂₆) ∷ (tyRef erased mut (pointee (D.the-row .written)), l₂₇) ∷ (tyBool, l₂₈) ∷ (tyRef erased mut (pointee (P.the-row .written)), l₂₉) ∷ (sliceTy (tyRef erased mut (pointee (P.the-row .written))), l₃₀) ∷ (tyRef erased mut (pointee (D.the-row .written)), l₃₁) ∷ []
+        ∷ (tyRef erased mut (tyArray (tyInt w8) 18432), l₁₄) ∷ (tyRef erased mut (tyArray (tyInt w8) 2560), l₁₅) ∷ (tyRef erased mut (tyArray (tyInt w64) 11), l₁₆) ∷ (tyRef erased mut (tyArray (tyInt w8) 146), l₁₇) ∷ (tyRef erased imm (pointee (P.the-row .written)), l₁₈) ∷ (sliceTy (tyRef erased imm (pointee (P.the-row .written))), l₁₉) ∷ (tyRef erased imm (pointee (D.the-row .written)), l₂₀)
+        ∷ (tyRef erased mut (tyArray (tyInt w8) 18432), l₂₁) ∷ (tyRef erased mut (tyArray (tyInt w8) 2560), l₂₂) ∷ (tyRef erased mut (tyArray (tyInt w64) 11), l₂₃) ∷ (tyRef erased mut (tyArray (tyInt w8) 146), l₂₄) ∷ (tyBool, l₂₅) ∷ (tyUnit, l₂₆) ∷ (tyRef erased mut (pointee (D.the-row .written)), l₂₇) ∷ (tyBool, l₂₈) ∷ (tyRef erased mut (pointee (P.the-row .written)), l₂₉) ∷ (sliceTy (tyRef erased mut (pointee (P.the-row .written))), l₃₀) ∷ (tyRef erased mut (pointee (D.the-row .written)), l₃₁) ∷ []
 
     abbrev c : Controller
     c = a .c
@@ -154,8 +154,8 @@ module _ {M : Type 1} (𝓤 : URA M) (H : Heap 𝓤) (A : Atoms 𝓤) (W : Given
     abbrev held : (c₇ c₈ c₉ c₁₀ : Content) (flag : Bool) (c₁₃ : Content) (records inject : ℕ) (c₂₅ c₂₆ c₂₇ c₂₈ : Content) (place : ℕ) (c₃₁ : Content) → List Content
     held c₇ c₈ c₉ c₁₀ flag c₁₃ records inject c₂₅ c₂₆ c₂₇ c₂₈ place c₃₁ =
         holds (vptr (a .bc) (a .oc)) ∷ holds (vptr (a .bd) (a .od)) ∷ holds (table a) ∷ holds (vint w32 group) ∷ holds (vint w64 attr) ∷ holds sp ∷ c₇ ∷ c₈ ∷ c₉ ∷ c₁₀ ∷ holds (vint w64 (length ys)) ∷ holds (vbool flag) ∷ c₁₃
-        ∷ since 1 records (vptr (a .bc) (a .oc + 0)) ∷ since 2 records (vptr (a .bc) (a .oc + 18432)) ∷ since 3 records (vptr (a .bc) (a .oc + 18688)) ∷ since 4 records (vptr (a .bc) (a .oc + 18760))
-        ∷ since 1 inject (vptr (a .bt) (a .ot)) ∷ since 2 inject (table a) ∷ since 3 inject (vptr (a .bd) (a .od)) ∷ since 4 inject (vptr (a .bc) (a .oc + 0)) ∷ since 5 inject (vptr (a .bc) (a .oc + 18432)) ∷ since 6 inject (vptr (a .bc) (a .oc + 18688)) ∷ since 7 inject (vptr (a .bc) (a .oc + 18760))
+        ∷ since 1 records (vptr (a .bc) (a .oc + 0)) ∷ since 2 records (vptr (a .bc) (a .oc + 18432)) ∷ since 3 records (vptr (a .bc) (a .oc + 20992)) ∷ since 4 records (vptr (a .bc) (a .oc + 21080))
+        ∷ since 1 inject (vptr (a .bt) (a .ot)) ∷ since 2 inject (table a) ∷ since 3 inject (vptr (a .bd) (a .od)) ∷ since 4 inject (vptr (a .bc) (a .oc + 0)) ∷ since 5 inject (vptr (a .bc) (a .oc + 18432)) ∷ since 6 inject (vptr (a .bc) (a .oc + 20992)) ∷ since 7 inject (vptr (a .bc) (a .oc + 21080))
         ∷ c₂₅ ∷ c₂₆ ∷ c₂₇ ∷ c₂₈ ∷ since 1 place (vptr (a .bt) (a .ot)) ∷ since 2 place (table a) ∷ c₃₁ ∷ []
 
     -- before any class is chosen; once it is known whether the request is about records, an injection, about a place

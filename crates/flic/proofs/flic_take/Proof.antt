@@ -92,11 +92,11 @@ module _ {M : Type 1} (𝓤 : URA M) (H : Heap 𝓤) (A : Atoms 𝓤) (W : Given
 
   module _ (C′ : Calls 𝓤 H) (Λ : Loops 𝓤 H) (fm : FmC 𝓤 H (W .laws) C′) (known : Triple 𝓤 (C′ hand-out-def.name) (HandOut 𝓤 H A mem′ run)) (l₀ l₁ l₂ l₃ l₄ l₅ l₆ l₇ l₈ l₉ l₁₀ l₁₁ : ℕ) where
     abbrev E : Env 𝓤 H
-    E = (An′.mir, l₀) ∷ (tyRef (named 0) mut (pointee (C.the-row .written)), l₁) ∷ (tyInt w8, l₂) ∷ (tyBool, l₃) ∷ (tyBool, l₄) ∷ (sliceTy (tyRef (named 1) mut (tyInt w8)), l₅) ∷ (tyRef erased mut (tyArray (tyInt w8) 18432), l₆) ∷ (tyRef erased mut (tyArray (tyInt w8) 256), l₇) ∷ (tyRef erased mut (tyArray (tyInt w64) 9), l₈) ∷ (tyRef erased mut (tyArray (tyInt w8) 146), l₉) ∷ (tyRef erased mut (tyInt w8), l₁₀) ∷ (sliceTy (tyRef erased mut (tyInt w8)), l₁₁) ∷ []
+    E = (An′.mir, l₀) ∷ (tyRef (named 0) mut (pointee (C.the-row .written)), l₁) ∷ (tyInt w8, l₂) ∷ (tyBool, l₃) ∷ (tyBool, l₄) ∷ (sliceTy (tyRef (named 1) mut (tyInt w8)), l₅) ∷ (tyRef erased mut (tyArray (tyInt w8) 18432), l₆) ∷ (tyRef erased mut (tyArray (tyInt w8) 2560), l₇) ∷ (tyRef erased mut (tyArray (tyInt w64) 11), l₈) ∷ (tyRef erased mut (tyArray (tyInt w8) 146), l₉) ∷ (tyRef erased mut (tyInt w8), l₁₀) ∷ (sliceTy (tyRef erased mut (tyInt w8)), l₁₁) ∷ []
 
     -- what the locals hold after n statements, and the result's v₀
     abbrev held : Content → ℕ → List Content
-    held v₀ n = v₀ ∷ holds (vptr bc oc) ∷ holds (vint w8 subclasses) ∷ holds (vbool external) ∷ holds (vbool mcheck) ∷ holds out ∷ since 1 n (vptr bc (oc + 0)) ∷ since 2 n (vptr bc (oc + 18432)) ∷ since 3 n (vptr bc (oc + 18688)) ∷ since 4 n (vptr bc (oc + 18760)) ∷ since 5 n (vptr bo oo) ∷ since 6 n out ∷ []
+    held v₀ n = v₀ ∷ holds (vptr bc oc) ∷ holds (vint w8 subclasses) ∷ holds (vbool external) ∷ holds (vbool mcheck) ∷ holds out ∷ since 1 n (vptr bc (oc + 0)) ∷ since 2 n (vptr bc (oc + 18432)) ∷ since 3 n (vptr bc (oc + 20992)) ∷ since 4 n (vptr bc (oc + 21080)) ∷ since 5 n (vptr bo oo) ∷ since 6 n out ∷ []
 
     -- the controller is closed
     ends : (z : Answer) (v : Val) (w : Left mutably Y) → Φ z w → Has (left-by mutably c w) → Is An.the-row z (v ∷ [])

@@ -120,7 +120,7 @@ module _ {M : Type 1} (𝓤 : URA M) (H : Heap 𝓤) (A : Atoms 𝓤) (W : Given
 
   module _ (C′ : Calls 𝓤 H) (Λ : Loops 𝓤 H) (fm : FmC 𝓤 H (W .laws) C′) (known : Known 𝓤 H A mem′ run C′) (l₀ l₁ l₂ l₃ l₄ l₅ l₆ l₇ l₈ l₉ l₁₀ l₁₁ l₁₂ l₁₃ l₁₄ : ℕ) where
     abbrev E : Env 𝓤 H
-    E = (An′.mir, l₀) ∷ (tyRef (named 0) imm (pointee (C.the-row .written)), l₁) ∷ (tyRef (named 1) imm (pointee (D.the-row .written)), l₂) ∷ (sliceTy (tyRef (named 2) imm (pointee (P.the-row .written))), l₃) ∷ (sliceTy (tyRef (named 3) mut (tyInt w8)), l₄) ∷ (D′.mir, l₅) ∷ (imageTy, l₆) ∷ (tyInt w64, l₇) ∷ (tyBool, l₈) ∷ (tyRef erased imm (tyArray (tyInt w8) 18432), l₉) ∷ (tyRef erased imm (tyArray (tyInt w8) 256), l₁₀) ∷ (tyRef erased imm (tyArray (tyInt w64) 9), l₁₁) ∷ (tyRef erased imm (tyArray (tyInt w8) 146), l₁₂) ∷ (tyRef erased mut (tyInt w8), l₁₃) ∷ (sliceTy (tyRef erased mut (tyInt w8)), l₁₄) ∷ []
+    E = (An′.mir, l₀) ∷ (tyRef (named 0) imm (pointee (C.the-row .written)), l₁) ∷ (tyRef (named 1) imm (pointee (D.the-row .written)), l₂) ∷ (sliceTy (tyRef (named 2) imm (pointee (P.the-row .written))), l₃) ∷ (sliceTy (tyRef (named 3) mut (tyInt w8)), l₄) ∷ (D′.mir, l₅) ∷ (imageTy, l₆) ∷ (tyInt w64, l₇) ∷ (tyBool, l₈) ∷ (tyRef erased imm (tyArray (tyInt w8) 18432), l₉) ∷ (tyRef erased imm (tyArray (tyInt w8) 2560), l₁₀) ∷ (tyRef erased imm (tyArray (tyInt w64) 11), l₁₁) ∷ (tyRef erased imm (tyArray (tyInt w8) 146), l₁₂) ∷ (tyRef erased mut (tyInt w8), l₁₃) ∷ (sliceTy (tyRef erased mut (tyInt w8)), l₁₄) ∷ []
 
     -- what the locals hold after n statements, and the result's v₀; the flag is whether the length is wrong, then the capability
     abbrev wrong : Bool
@@ -128,7 +128,7 @@ module _ {M : Type 1} (𝓤 : URA M) (H : Heap 𝓤) (A : Atoms 𝓤) (W : Given
 
     abbrev held : Content → Bool → ℕ → List Content
     held v₀ flag n = v₀ ∷ holds (vptr (a .bc) (a .oc)) ∷ holds (vptr (a .bd) (a .od)) ∷ holds (table a) ∷ holds out ∷ since 4 n (D′.lowered (a .d)) ∷ since 5 n (low-image (snapTo (a .t) imageSize)) ∷ since 1 n (vint w64 (length (a .t))) ∷ since 2 n (vbool flag)
-        ∷ since 6 n (vptr (a .bc) (a .oc + 0)) ∷ since 7 n (vptr (a .bc) (a .oc + 18432)) ∷ since 8 n (vptr (a .bc) (a .oc + 18688)) ∷ since 9 n (vptr (a .bc) (a .oc + 18760)) ∷ since 11 n (vptr bo oo) ∷ since 12 n out ∷ []
+        ∷ since 6 n (vptr (a .bc) (a .oc + 0)) ∷ since 7 n (vptr (a .bc) (a .oc + 18432)) ∷ since 8 n (vptr (a .bc) (a .oc + 20992)) ∷ since 9 n (vptr (a .bc) (a .oc + 21080)) ∷ since 11 n (vptr bo oo) ∷ since 12 n out ∷ []
 
     -- the controller looked into, at the share sh
     abbrev Open : Share → List (Item 𝓤) → List (Item 𝓤)

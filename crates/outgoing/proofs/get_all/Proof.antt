@@ -15,10 +15,11 @@ use Rattle.outgoing.proofs.Laws.{lists-none, lists-all, wrote-long}
 use Rattle.outgoing.proofs.get_all.Statement.{statement}
 use Rattle.outgoing.proofs.get_all.Tie as tie
 
-room : (c : tie.After-list-all-arg) → let a = c .before .before .before .before .before .before .before .args in 72 * length (listing (pendingOf (a .order .now) (a .counts .now) (a .slots .now) (a .singles .now))) ≤ length (a .out .now)
+room : (c : tie.After-list-all-arg) → let a = c .before .before .before .before .before .before .args in 72 * length (listing (pendingOf (a .order .now) (a .counts .now) (a .slots .now) (a .singles .now))) ≤ length (a .out .now)
 room c =
-    let a = c .before .before .before .before .before .before .before .args in
-    omega (arith, c .before .before .pending .ensures .0 (a .order .now) (a .slots .now) (c .before .before .before .-o .given .0))
+    let f = c .before .before .before .before .before .before in
+    let a = f .args in
+    omega (arith, c .before .before .pending .ensures .0 (a .order .now) (a .slots .now) (f .pre))
 
 refuse-requires : tie.Need-refuse-requires
 refuse-requires c κs = search needs
@@ -47,11 +48,11 @@ returns-3 : tie.Need-returns-3
 unfolding request
 returns-3 c =
     let d = c .before .before .before in
-    let f = d .before .before .before .before in
-    (λ L s e. refused L s _ _ _ 12 _ refl (passes _ _ _ (ap not (ne-eqb _ 0 (d .before .before .if1 .left))) ∙ passes _ _ _ (le-leb _ _ (d .before .if2 .left)) ∙ lists-none s _ _ _ e (c .before .before .pending .ensures .0 (f .args .order .now) (f .args .slots .now) (d .-o .given .0)) (c .before .if3 .taken)) (c .refuse3 .ensures), λ k. refl)
+    let f = d .before .before .before in
+    (λ L s e. refused L s _ _ _ 12 _ refl (passes _ _ _ (ap not (ne-eqb _ 0 (d .before .if1 .left))) ∙ passes _ _ _ (le-leb _ _ (d .if2 .left)) ∙ lists-none s _ _ _ e (c .before .before .pending .ensures .0 (f .args .order .now) (f .args .slots .now) (f .pre)) (c .before .if3 .taken)) (c .refuse3 .ensures), λ k. refl)
 
 list-all-requires : tie.Need-list-all-requires
-list-all-requires c κs = (c .before .before .before .before .before .before .before .pre, room c)
+list-all-requires c κs = (c .before .before .before .before .before .before .pre, room c)
 
 accept-requires : tie.Need-accept-requires
 accept-requires c κs = search needs
@@ -64,12 +65,12 @@ unfolding request
 returns-4 c =
     let d = c .before .before .before in
     let f = d .before .before .before in
-    let t = f .before .before .before in
-    let n = (f .pending .ensures .0 (t .before .before .args .order .now) (t .before .before .args .slots .now) (f .before .-o .given .0)) in
+    let t = f .before .before in
+    let n = f .pending .ensures .0 (t .before .before .args .order .now) (t .before .before .args .slots .now) (t .before .before .pre) in
     let l : length (d .list-all .last .1 .1 .1 .1 .0) ≡ length (t .before .before .args .out .now) = search needs in (
       λ L s e.
           accepted L s _ _ _ _ s _ _
-          (passes _ _ _ (ap not (ne-eqb _ 0 (t .if1 .left))) ∙ passes _ _ _ (le-leb _ _ (f .before .before .if2 .left)) ∙ lists-all s _ _ _ e n (d .before .before .if3 .left))
+          (passes _ _ _ (ap not (ne-eqb _ 0 (t .if1 .left))) ∙ passes _ _ _ (le-leb _ _ (f .before .if2 .left)) ∙ lists-all s _ _ _ e n (d .before .before .if3 .left))
           (c .accept .ensures)
           (wrote-long _ (t .before .before .args .out .now) _ (room (d .before)) l (d .list-all .ensures)),
       not-refused _ _ (c .accept .ensures),

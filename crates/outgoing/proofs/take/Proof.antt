@@ -1,17 +1,16 @@
--- `outgoing::take` meets its contract. Assumes nothing.
+-- Machine check, service record, then the next of the queues; each is handed out and then removed.
 use borrow.Author.Needs.{needs}
 use Prim.Native.Nat.{_<_}
 use mathlib.Core.Path.{_≡_, refl}
 use mathlib.Core.Logic.{⊎-elim}
 use native.Mathlib.Omega.{arith}
-use lib.ListN.{length}
-use borrow.Author.Tests.{lt-leb, ltb-true}
+use lib.ListN.{length, getD}
+use borrow.Author.Tests.{lt-leb}
 use Rattle.rules.specs.Take.{takes}
 use Rattle.rules.proofs.Checks.{fails, passed}
-use Rattle.queues.specs.Queues.{InQueue}
 use Rattle.records.specs.Memory.{pendingOf}
 use Rattle.answers.proofs.Laws.{refused, not-refused}
-use Rattle.outgoing.proofs.Laws.{service-there, service-absent, mchk-there, mchk-absent, NoMchk, NoService, NoDone, no-mchk, no-service, no-done, hands-mchk, hands-service, hands-done, hands-nothing, hands-io, hands, hands-none}
+use Rattle.outgoing.proofs.Laws.{service-there, service-absent, mchk-there, mchk-absent, NoMchk, NoService, no-mchk, no-service, hands-mchk, hands-service, hands-nothing, hands-queued, hands, hands-none}
 use Rattle.outgoing.proofs.take.Statement.{statement}
 use Rattle.outgoing.proofs.take.Tie as tie
 
@@ -21,177 +20,93 @@ mchk-passed c = ⊎-elim (λ w. no-mchk _ _ _ _ (mchk-absent _ _ (w .2 .ensures)
 service-passed : (c : tie.Joined4) → let a = c .before .before .before .before .args in NoService (pendingOf (a .order .now) (a .counts .now) (a .slots .now) (a .singles .now)) (a .external)
 service-passed c = ⊎-elim (λ w. no-service _ _ _ _ (service-absent _ _ (w .2 .ensures) (w .3 .left)) _) (λ w. passed _ _ _ (w .left)) (c .if4 .came)
 
-done-passed : (c : tie.Joined6) → let a = c .before .before .before .before .before .args in NoDone (pendingOf (a .order .now) (a .counts .now) (a .slots .now) (a .singles .now)) (a .external)
-done-passed c = ⊎-elim (λ w. no-done _ _ _ _ _ (w .2 .ensures) (w .3 .left) _) (λ w. passed _ _ _ (w .left)) (c .if6 .came)
-
-place-found : (c : tie.After-isc) → (c .isc .given .0 .0 .0 < 8) × InQueue (c .before .before .before .before .before .before .before .before .before .before .args .counts .now) (c .isc .given .0 .0 .0) (c .isc .given .0 .1 .0)
-place-found c = rw (c .isc .given .1) at (c .before .before .find .ensures .1 .1 .1)
-
-refuse-requires : tie.Need-refuse-requires
-refuse-requires c κs = search needs
-
 returns : tie.Need-returns
 unfolding takes
 returns c =
-    let d = c .before .before .before in
-    (λ L s e. refused L s _ _ _ 14 _ e (fails _ _ _ (lt-leb 72 _ (c .before .if1 .taken))) (c .refuse .ensures), (d .pre, λ k. (refl, refl, refl, refl)))
-
-has-mchk-requires : tie.Need-has-mchk-requires
-has-mchk-requires c κs = search needs
-
-take-mchk-requires : tie.Need-take-mchk-requires
-take-mchk-requires c κs = search needs
-
-hand-requires : tie.Need-hand-requires
-hand-requires c κs = search needs
-
-same-length : tie.Need-same-length
-same-length c = search needs
+    let f = c .before .before .before in
+    (λ L s e. refused L s _ _ _ 14 _ e (fails _ _ _ (lt-leb 72 _ (c .before .if1 .taken))) (c .refuse .ensures), (f .pre, λ k. (refl, refl, refl, refl)))
 
 returns-2 : tie.Need-returns-2
 returns-2 c =
-    let d = c .before .before .before .before in
-    let f = d .before .before .before in
-    let t = f .before .before .before in
-    let l : length (d .take-mchk .result) ≡ 72 = search needs in (
+    let n = c .before .before .before .before in
+    let r = n .before in
+    let t = r .before .before .before in
+    let m = t .before in
+    let i = m .before .before in
+    let f = i .before .before .before in
+    let l : length (r .read-mchk .result) ≡ 72 = search needs in (
       λ L s e.
-          hands L s _ _ _ _ _ _ e (t .if1 .left) _ _ _ l
-          (hands-mchk _ _ _ _ _ _ _ _ _ (f .before .before .if2 .taken) (mchk-there _ _ _ (f .has-mchk .ensures) (d .before .before .if3 .taken) (d .take-mchk .ensures .0)) (d .take-mchk .ensures .1) (d .take-mchk .ensures .2))
-          (c .before .before .hand .ensures),
-      (t .before .before .pre, not-refused _ _ (c .before .before .hand .ensures .0)),
+          hands L s _ _ _ _ _ _ e (i .before .if1 .left) _ _ _ l
+          (hands-mchk _ _ _ _ _ _ _ _ _ (i .if2 .taken) (mchk-there _ _ _ (m .has-mchk .ensures) (t .if3 .taken) (r .read-mchk .ensures)) (c .drop-mchk .ensures .0) (c .drop-mchk .ensures .1))
+          (n .hand .ensures),
+      (f .pre, not-refused _ _ (n .hand .ensures .0)),
     )
-
-has-service-requires : tie.Need-has-service-requires
-has-service-requires c κs = search needs
-
-take-service-requires : tie.Need-take-service-requires
-take-service-requires c κs = search needs
-
-hand-requires-2 : tie.Need-hand-requires-2
-hand-requires-2 c κs = search needs
-
-same-length-2 : tie.Need-same-length-2
-same-length-2 c = search needs
 
 returns-3 : tie.Need-returns-3
 returns-3 c =
-    let d = c .before .before .before .before in
-    let f = d .before .before .before in
-    let t = f .before .before .before in
-    let u = t .before .before .before in
-    let l : length (d .take-service .result) ≡ 72 = search needs in (
+    let n = c .before .before .before .before in
+    let r = n .before in
+    let t = r .before .before .before in
+    let m = t .before in
+    let i = m .before .before in
+    let j = i .before in
+    let f = j .before .before .before in
+    let l : length (r .read-service .result) ≡ 72 = search needs in (
       λ L s e.
-          hands L s _ _ _ _ _ _ e (t .before .if1 .left) _ _ _ l
-          (hands-service _ _ _ _ _ _ _ (mchk-passed t) _ _ (f .before .before .if4 .taken) (service-there _ _ _ (f .has-service .ensures) (d .before .before .if5 .taken) (d .take-service .ensures .0)) (d .take-service .ensures .1) (d .take-service .ensures .2))
-          (c .before .before .hand2 .ensures),
-      (u .pre, not-refused _ _ (c .before .before .hand2 .ensures .0)),
+          hands L s _ _ _ _ _ _ e (j .before .if1 .left) _ _ _ l
+          (hands-service _ _ _ _ _ _ _ (mchk-passed j) _ _ (i .if4 .taken) (service-there _ _ _ (m .has-service .ensures) (t .if5 .taken) (r .read-service .ensures)) (c .drop-service .ensures .0) (c .drop-service .ensures .1))
+          (n .hand2 .ensures),
+      (f .pre, not-refused _ _ (n .hand2 .ensures .0)),
     )
-
-done-count-requires : tie.Need-done-count-requires
-done-count-requires c κs = search needs
-
-take-done-requires : tie.Need-take-done-requires
-take-done-requires c κs =
-    let d = c .before .before .before in
-    let f = d .before .before .before .before .before .before .before in
-    (omega (arith, ltb-true 0 (d .done-count .result) (c .before .before .if7 .taken), d .done-count .ensures), f .pre)
-
-hand-requires-3 : tie.Need-hand-requires-3
-hand-requires-3 c κs = search needs
-
-same-length-3 : tie.Need-same-length-3
-same-length-3 c = search needs
 
 returns-4 : tie.Need-returns-4
 returns-4 c =
-    let d = c .before .before .before .before in
-    let f = d .before .before .before .before .before .before in
-    let t = f .before .before .before in
-    let l : length (d .take-done .result) ≡ 72 = search needs in (
+    let n = c .before .before .before in
+    let k = n .before .before .before in
+    let j = k .before in
+    let f = j .before .before .before in (
       λ L s e.
-          hands L s _ _ _ _ _ _ e (t .if1 .left) _ _ _ l
-          (hands-done _ _ _ _ _ _ _ (mchk-passed (f .before .before)) (service-passed (f .before)) _ _ _ (f .if6 .taken) (d .take-done .ensures .0) l (d .take-done .ensures .1 _))
-          (c .before .before .hand3 .ensures),
-      (d .take-done .ensures .2, not-refused _ _ (c .before .before .hand3 .ensures .0)),
+          hands-none L s _ _ _ _ _ _ e (j .before .if1 .left)
+          (hands-nothing _ _ _ _ _ _ _ (mchk-passed j) (service-passed k) _ (n .next-queued .ensures .1 _) (c .before .enum-told .given .1))
+          (c .accept .ensures),
+      (f .pre, λ k. (refl, refl, refl, refl)),
     )
 
-find-requires : tie.Need-find-requires
-find-requires c κs = search needs
+-- the place of the record
+placed : (c : tie.After-q) → let a = c .before .before .before .before .before .before .before .before .before .args in (c .q .given .0 .0 .0 < 9) × (c .q .given .0 .1 .0 < getD (a .counts .now) (c .q .given .0 .0 .0) 0)
+placed c = rw (c .q .given .1) at (c .before .before .next-queued .ensures .0)
 
-enum-known-isc : tie.Need-enum-known-isc
-enum-known-isc c = search needs
+read-requires : tie.Need-read-requires
+read-requires c κs =
+    let j = c .before .before .before .before in
+    let p = placed j in
+    (p .0, p .1, j .before .before .before .before .before .before .before .before .before .pre)
 
-enum-told : tie.Need-enum-told
-enum-told c = search needs
-
-accept-requires : tie.Need-accept-requires
-accept-requires c κs = search needs
+remove-requires : tie.Need-remove-requires
+remove-requires c κs =
+    let j = c .before .before .before .before .before .before .before .before .before .before in
+    let p = placed j in
+    (p .0, p .1, j .before .before .before .before .before .before .before .before .before .pre)
 
 returns-5 : tie.Need-returns-5
 returns-5 c =
-    let d = c .before .before .before in
-    let f = d .before .before .before in
-    let t = f .before .before .before in (
+    let h = c .before .before .before .before .before in
+    let r = h .before in
+    let q = r .before .before .before .before .before in
+    let n = q .before .before in
+    let k = n .before .before .before in
+    let j = k .before in
+    let l : length (r .read .result) ≡ 72 = search needs in (
       λ L s e.
-          hands-none L s _ _ _ _ _ _ e (t .if1 .left)
-          (hands-nothing _ _ _ _ _ _ _ (mchk-passed (f .before .before)) (service-passed (f .before)) (done-passed f) _ (c .before .enum-told .given .1) (d .find .ensures .1 .1 .0 refl))
-          (c .accept .ensures),
-      (t .before .before .pre, λ k. (refl, refl, refl, refl)),
-    )
-
-take-io-requires : tie.Need-take-io-requires
-take-io-requires c κs =
-    let d = c .before .before .before in
-    let f = d .before .before .before .before .before .before .before .before .before .before in
-    (place-found d .0, place-found d .1, f .pre)
-
-hand-requires-4 : tie.Need-hand-requires-4
-hand-requires-4 c κs = search needs
-
-same-length-4 : tie.Need-same-length-4
-same-length-4 c = search needs
-
-returns-6 : tie.Need-returns-6
-returns-6 c =
-    let d = c .before .before .before .before in
-    let f = d .before .before .before .before in
-    let t = f .before .before .before .before .before in
-    let u = t .before .before .before in
-    let l : length (d .take-io .result) ≡ 72 = search needs in (
-      λ L s e.
-          hands L s _ _ _ _ _ _ e (u .if1 .left) _ _ _ l
-          (hands-io _ _ _ _ _ _ _ (mchk-passed (t .before .before)) (service-passed (t .before)) (done-passed t) _ _ _ _ _ _ (f .isc .given .1) (f .before .before .find .ensures .0) (f .before .before .find .ensures .1 .1 .0 refl) (d .take-io .ensures .0) (d .take-io .ensures .1 _))
-          (c .before .before .hand4 .ensures),
-      (d .take-io .ensures .2, not-refused _ _ (c .before .before .hand4 .ensures .0)),
+          hands L s _ _ _ _ _ _ e (j .before .if1 .left) _ _ _ l
+          (hands-queued _ _ _ _ _ _ _ (mchk-passed j) (service-passed k) _ (n .next-queued .ensures .1 _) _ _ _ _ _ (q .q .given .1) (r .read .ensures) (c .remove .ensures .queue _))
+          (h .hand3 .ensures),
+      (c .remove .ensures .held, not-refused _ _ (h .hand3 .ensures .0)),
     )
 
 pub take-spec : {M : Type 1} → statement M
 take-spec =
     tie.close
-    (tie.spec
-    refuse-requires
-    returns
-    has-mchk-requires
-    take-mchk-requires
-    hand-requires
-    same-length
-    returns-2
-    has-service-requires
-    take-service-requires
-    hand-requires-2
-    same-length-2
-    returns-3
-    done-count-requires
-    take-done-requires
-    hand-requires-3
-    same-length-3
-    returns-4
-    find-requires
-    enum-known-isc
-    enum-told
-    accept-requires
-    returns-5
-    take-io-requires
-    hand-requires-4
-    same-length-4
-    returns-6)
+    (tie.spec (λ c κs. search needs) returns (λ c κs. search needs) (λ c κs. search needs) (λ c κs. search needs) (λ c κs. search needs) (λ c. search needs) returns-2
+    (λ c κs. search needs) (λ c κs. search needs) (λ c κs. search needs) (λ c κs. search needs) (λ c. search needs) returns-3 (λ c κs. search needs) (λ c. search needs)
+    (λ c. search needs) (λ c κs. search needs) returns-4 read-requires (λ c κs. search needs) remove-requires (λ c. search needs) returns-5)

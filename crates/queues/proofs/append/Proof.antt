@@ -1,71 +1,61 @@
--- The record joins the listing behind those of its queue.
-use mathlib.Core.Path.{sym, _∙_}
+-- The last free slot is the queue's next, and the counts follow.
+use mathlib.Core.Path.{_≡_}
+use Prim.Native.Nat.{ℕ, _+_, _/_, _^_, _≤_, _<_}
+use native.Mathlib.Nat.{div-le-self}
 use native.Mathlib.Omega.{arith}
 use borrow.Author.Needs.{needs}
-use Rattle.queues.proofs.Laws.{sum-part, sum-next, sum-all, append-leaves}
+use lib.ListN.{getD}
+use Rattle.slots.specs.Slots.{slotCount}
+use Rattle.queues.proofs.Counts.{count-small, waiting-small, mask-stays, mask-set, some-zero, some-one}
+use Rattle.queues.proofs.Laws.{append-leaves}
 use Rattle.queues.proofs.append.Statement.{statement}
 use Rattle.queues.proofs.append.Tie as tie
 
-add-start : tie.Need-add-start
-add-start c = search needs
+abbrev start : tie.After-k → tie.Start
+start c = c .before .before .before .before
 
-start-requires : tie.Need-start-requires
-start-requires c κs = search needs
+room : (c : tie.After-k) → let f = start c in getD (f .args .c .now) (f .args .q .0) 0 < slotCount
+room c =
+    let f = start c in
+    omega (arith, count-small (f .args .c .now) (f .pre .3 .counted) (f .args .q .0) (f .pre .0), f .pre .1, f .pre .2)
 
-insert-requires : tie.Need-insert-requires
-insert-requires c κs =
-    let s = c .before .before in
-    let f = s .before .before .before .before .before in
-    (rw (f .pre .1, s .start .ensures) (search sum-part), omega arith, f .pre .4, f .pre .5 .apart)
+add-o : tie.Need-add-o
+add-o c = omega (arith, room c)
 
-mul-c : tie.Need-mul-c
-mul-c c = search needs
-
-slice-read-c : tie.Need-slice-read-c
-slice-read-c c = search needs
+element-write-o : tie.Need-element-write-o
+element-write-o c = omega (arith, room c)
 
 add-c : tie.Need-add-c
-add-c c =
-    let f = c .before .before .before .before .before .before .before .before .before .before .before .before .before in
-    omega (arith, sum-next (f .args .c .now) (f .args .q) (f .pre .0))
+add-c c = omega (arith, room c)
 
-mul-c-2 : tie.Need-mul-c-2
-mul-c-2 c = search needs
-
-slice-write-c : tie.Need-slice-write-c
-slice-write-c c = search needs
-
-same-length : tie.Need-same-length
-same-length c = search needs
-
-same-length-2 : tie.Need-same-length-2
-same-length-2 c = search needs
-
-same-length-3 : tie.Need-same-length-3
-same-length-3 c = search needs
+add-c-3 : tie.Need-add-c-3
+add-c-3 c =
+    let f = start (c .before .before) in
+    let e = mask-stays (f .args .c .now) (f .pre .3 .counted .long) (f .args .q .0) (getD (f .args .c .now) (f .args .q .0) 0 + 1) (f .args .n + 1) (f .pre .0) .waiting-is in
+    rw e (omega (arith, waiting-small (f .args .c .now) (f .pre .3 .counted), div-le-self 128 (2 ^ (f .args .q .0))))
 
 returns : tie.Need-returns
 returns c =
-    let i = c .before .before .before .before .before in
-    let s = i .before .before .before in
-    let f = s .before .before .before .before .before in
+    let f = start (c .before .before) in
     let a = f .args in
-    append-leaves (a .o .now) (a .c .now) (a .q) _ (f .pre .0) (omega arith) (f .pre .1 ∙ sym (sum-all (a .c .now))) _ (i .insert .ensures .1) (a .b .now) _ (a .r) _ (f .pre .2)
-    (s .start .ensures) (i .insert .ensures .0)
+    let k : ℕ = getD (a .c .now) (a .q .0) 0 in
+    let e = mask-stays (a .c .now) (f .pre .3 .counted .long) (a .q .0) (k + 1) (a .n + 1) (f .pre .0) .waiting-is in
+    append-leaves (a .o .now) (a .c .now) (f .pre .3) (a .n) (f .pre .1) (f .pre .2) (a .q .0) (f .pre .0) _ _
+    (mask-set (a .c .now) (f .pre .3 .counted .long) (a .q .0) (k + 1) (a .n + 1) (f .pre .0) _) (a .b .now) _ (a .r) (c .before .before .before .write .ensures)
+    (rw (some-zero k (c .before .if1 .taken), e) (omega arith))
+
+returns-2 : tie.Need-returns-2
+returns-2 c =
+    let f = start (c .before) in
+    let a = f .args in
+    let k : ℕ = getD (a .c .now) (a .q .0) 0 in
+    append-leaves (a .o .now) (a .c .now) (f .pre .3) (a .n) (f .pre .1) (f .pre .2) (a .q .0) (f .pre .0) _ _
+    (mask-stays (a .c .now) (f .pre .3 .counted .long) (a .q .0) (k + 1) (a .n + 1) (f .pre .0)) (a .b .now) _ (a .r) (c .before .before .write .ensures)
+    (rw (some-one k (c .if1 .left)) (omega arith))
 
 pub append-spec : {M : Type 1} → statement M
 append-spec =
     tie.close
-    (tie.spec
-    add-start
-    start-requires
-    insert-requires
-    mul-c
-    slice-read-c
-    add-c
-    mul-c-2
-    slice-write-c
-    same-length
-    same-length-2
-    same-length-3
-    returns)
+    (tie.spec (λ c. search needs) (λ c. search needs) (λ c. search needs) (λ c κs. search needs) (λ c. search needs) (λ c. search needs)
+    (λ c. search needs) add-o element-write-o add-c (λ c. search needs) (λ c. search needs) (λ c. search needs) (λ c. search needs)
+    (λ c. search needs) (λ c. search needs) add-c-3 (λ c. search needs) returns returns-2)

@@ -1,83 +1,69 @@
--- The first k records stand at the start of out.
+-- The records of the first i queues stand at the start of out.
 use mathlib.Core.Path.{_≡_, refl}
-use mathlib.Core.List.{_++_, flatten}
-use Prim.Native.Nat.{_-_, _*_, _≤_}
+use mathlib.Core.List.{[], flatten}
+use Prim.Native.Nat.{_+_, _-_, _*_, _≤_}
 use native.Mathlib.Omega.{arith}
 use borrow.Author.Needs.{needs}
-use lib.ListN.{length, take, drop}
-use Rattle.slots.specs.Slots.{listed}
-use Rattle.slots.proofs.Laws.{length-listed}
-use Rattle.queues.proofs.Laws.{list-turn, list-leaves}
+use lib.ListN.{length, take, getD}
+use lib.Seq.{paste, paste-zero}
+use Rattle.queues.specs.Queues.{each, queues, sum}
+use Rattle.queues.proofs.Laws.{count-fits, queue-fits, queues-turn, list-leaves}
 use Rattle.queues.proofs.list.Statement.{statement}
 use Rattle.queues.proofs.list.Tie as tie
 
 abbrev Inv-loop : tie.InvT-loop
-Inv-loop b o c out₀ n k₀ out k =
-    (k ≤ n) × (k ≤ length o) × (length out ≡ length out₀) × (length (flatten (take k (listed 72 o n b))) ≡ k * 72)
-    × (out ≡ flatten (take k (listed 72 o n b)) ++ drop (k * 72) out₀)
+Inv-loop b o c out₀ at₀ i₀ out at i =
+    let g = flatten (flatten (take i (queues o c b))) in
+    (i ≤ 9) × (at ≡ sum (take i (each c)) * 72) × (length out ≡ length out₀) × (length g ≡ at) × (out ≡ paste out₀ 0 g at)
 
 abbrev μ-loop : tie.MeasureT-loop
-μ-loop b o c out₀ n k₀ out k = n - k
-
-queued-requires : tie.Need-queued-requires Inv-loop μ-loop
-queued-requires c κs = c .before .pre .0 .few
+μ-loop b o c out₀ at₀ i₀ out at i = 9 - i
 
 loop-holds : tie.Need-loop-holds Inv-loop μ-loop
-unfolding flatten
-loop-holds c = (search needs, search needs, refl, refl, refl)
+unfolding flatten sum
+loop-holds c = (omega arith, refl, refl, refl, paste-zero (c .before .args .out .now) 0 [])
 
-read-requires : tie.Need-read-requires Inv-loop μ-loop
-read-requires c κs =
-    let h = c .before .before .before .before .before .before .pre .0 .few in
-    search needs
+-- what is written of the next queue fits
+room : (c : tie.In-loop Inv-loop μ-loop) → let a = c .before .before .before .args in let l = c .before .loop in l .at + getD (a .c .now) (l .i) 0 * 72 ≤ length (a .out .now)
+room c =
+    let f = c .before .before .before in
+    let a = f .args in
+    let l = c .before .loop in
+    queue-fits (a .o .now) (a .c .now) (a .b .now) (f .pre .0) (a .out .now) (l .out) (l .i) (l .at) (omega arith) (l .inv .1) (f .pre .1)
 
-mul-save : tie.Need-mul-save Inv-loop μ-loop
-mul-save c = search needs
+list-queue-requires : tie.Need-list-queue-requires Inv-loop μ-loop
+list-queue-requires c κs =
+    let i = c .before .before in
+    let f = i .before .before .before in
+    (omega arith, count-fits (f .args .o .now) (f .args .c .now) (f .pre .0) (i .before .loop .i) (omega arith), f .pre .0 .long, omega (arith, room i, i .before .loop .inv .2))
 
-save-requires : tie.Need-save-requires Inv-loop μ-loop
-save-requires c κs = search needs
+mul-at : tie.Need-mul-at Inv-loop μ-loop
+mul-at c = omega (arith, room (c .before .before .before .before .before))
 
-add-k : tie.Need-add-k Inv-loop μ-loop
-add-k c = search needs
-
-loop-less : tie.Need-loop-less Inv-loop μ-loop
-loop-less c = search needs
+add-at : tie.Need-add-at Inv-loop μ-loop
+add-at c = omega (arith, room (c .before .before .before .before .before))
 
 loop-again : tie.Need-loop-again Inv-loop μ-loop
 loop-again c =
-    let d = c .before .before .before .before in
-    let l = d .before .before .before .before .loop in
-    let f = d .before .before .before .before .before .before .before in
+    let q = c .before .before in
+    let i = q .before .before .before in
+    let f = i .before .before .before in
     let a = f .args in
-    let L = listed 72 (a .o .now) (d .before .before .before .before .before .queued .result) (a .b .now) in
-    let few = f .pre .0 .few in
-    let lr : length (d .read .result) ≡ 72 = search needs in
-    let ll = length-listed 72 (a .o .now) (d .before .before .before .before .before .queued .result) (a .b .now) (omega arith) in
-    let t = list-turn 72 L (a .out .now) (l .out) (l .k) (omega arith) (rw (d .read .ensures) at lr) (l .inv .3) (l .inv .4) in
-    (omega arith, omega arith, search needs, t .0, rw (d .read .ensures, t .1) at (c .before .before .save .ensures))
-
-same-length : tie.Need-same-length Inv-loop μ-loop
-same-length c = search needs
+    let l = i .before .loop in
+    let t = queues-turn (a .o .now) (a .c .now) (a .b .now) (f .pre .0) (a .out .now) (l .out) (l .i) (l .at) (omega arith) (l .inv .1) (f .pre .1)
+    _ (l .inv .3) (l .inv .4) (q .list-queue .ensures .1) (q .list-queue .ensures .0) in
+    (omega arith, t .0, search needs, t .1, t .2)
 
 returns : tie.Need-returns Inv-loop μ-loop
 returns c =
-    let a = c .before .before .before .before .args in
+    let f = c .before .before .before in
+    let a = f .args in
     let l = c .before .loop in
-    list-leaves (a .o .now) (a .c .now) (a .b .now) (a .out .now) (l .out) _ (l .k) (c .before .before .queued .ensures) (omega arith) (l .inv .1) (l .inv .4)
+    let e : l .i ≡ 9 = omega arith in
+    list-leaves (a .o .now) (a .c .now) (a .b .now) (a .out .now) (l .out) (l .at) (f .pre .0) (rw e at (l .inv .1)) (rw e at (l .inv .3)) (rw e at (l .inv .4))
 
 pub list-spec : {M : Type 1} → statement M
 list-spec =
     tie.close
-    (tie.spec
-    Inv-loop
-    μ-loop
-    queued-requires
-    loop-holds
-    read-requires
-    mul-save
-    save-requires
-    add-k
-    loop-less
-    loop-again
-    same-length
-    returns)
+    (tie.spec Inv-loop μ-loop loop-holds (λ c. search needs) (λ c. search needs) list-queue-requires mul-at add-at (λ c. search needs) (λ c. search needs) loop-again
+    (λ c. search needs) returns)

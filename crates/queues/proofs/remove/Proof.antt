@@ -1,61 +1,79 @@
--- The record leaves the listing at its place.
+-- The row closes up, the slot is the last of the free ones, and the counts follow.
+use mathlib.Core.Path.{_≡_}
+use Prim.Native.Nat.{ℕ, _+_, _-_, _/_, _^_, _≤_, _<_}
 use native.Mathlib.Omega.{arith}
 use borrow.Author.Needs.{needs}
-use Rattle.queues.proofs.Laws.{sum-next, sum-all, remove-leaves}
+use lib.ListN.{getD}
+use Rattle.slots.specs.Slots.{slotCount}
+use Rattle.queues.proofs.Counts.{count-small, mask-stays, mask-set, some-zero, some-one, bit-there}
+use Rattle.queues.proofs.Laws.{remove-leaves}
 use Rattle.queues.proofs.remove.Statement.{statement}
 use Rattle.queues.proofs.remove.Tie as tie
 
-start-requires : tie.Need-start-requires
-start-requires c κs = search needs
+abbrev start : tie.After-move-down → tie.Start
+start c = c .before .before .before .before .before
 
-remove-requires : tie.Need-remove-requires
-remove-requires c κs =
-    let f = c .before .before .before .before .before in
-    let s = sum-next (f .args .c .now) (f .args .q) (f .pre .0) in
-    (omega (arith, sum-all (f .args .c .now)), omega (arith, sum-all (f .args .c .now)), f .pre .3 .apart)
+-- the queue's count is at most that of all, and that at most the slots
+few : (f : tie.Start) → (getD (f .args .c .now) (f .args .q .0) 0 ≤ getD (f .args .c .now) 9 0) × (getD (f .args .c .now) 9 0 ≤ slotCount)
+few f = (count-small (f .args .c .now) (f .pre .2 .counted) (f .args .q .0) (f .pre .0), f .pre .2 .counted .few)
 
-mul-c : tie.Need-mul-c
-mul-c c = search needs
+add-s : tie.Need-add-s
+add-s c = omega (arith, few c)
 
-slice-read-c : tie.Need-slice-read-c
-slice-read-c c = search needs
+element-copy-out-s : tie.Need-element-copy-out-s
+element-copy-out-s c = omega (arith, few c)
+
+add-move-down : tie.Need-add-move-down
+add-move-down c = omega (arith, few (c .before .before .before .before))
+
+add-move-down-2 : tie.Need-add-move-down-2
+add-move-down-2 c = omega (arith, few (c .before .before .before .before))
+
+move-down-requires : tie.Need-move-down-requires
+move-down-requires c κs =
+    let f = c .before .before .before .before in
+    (omega arith, omega (arith, few f, f .pre .2 .long))
+
+element-write-o : tie.Need-element-write-o
+element-write-o c = omega (arith, few (c .before .before .before .before .before))
 
 sub-c : tie.Need-sub-c
-sub-c c =
-    let f = c .before .before .before .before .before .before .before .before .before in
-    omega (arith, sum-next (f .args .c .now) (f .args .q) (f .pre .0))
+sub-c c = omega (arith, few (c .before .before .before .before .before))
 
-mul-c-2 : tie.Need-mul-c-2
-mul-c-2 c = search needs
-
-slice-write-c : tie.Need-slice-write-c
-slice-write-c c = search needs
-
-same-length : tie.Need-same-length
-same-length c = search needs
-
-same-length-2 : tie.Need-same-length-2
-same-length-2 c = search needs
+sub-c-2 : tie.Need-sub-c-2
+sub-c-2 c =
+    let f = start (c .before .before) in
+    let a = f .args in
+    let k : ℕ = getD (a .c .now) (a .q .0) 0 in
+    let e = mask-stays (a .c .now) (f .pre .2 .counted .long) (a .q .0) (k - 1) (getD (a .c .now) 9 0 - 1) (f .pre .0) .waiting-is in
+    rw e (bit-there (a .c .now) (f .pre .2 .counted) (a .q .0) (f .pre .0) (λ z. omega (arith, z, f .pre .1)))
 
 returns : tie.Need-returns
 returns c =
-    let r = c .before .before .before in
-    let s = r .before .before in
-    let f = s .before .before .before .before in
+    let f = start (c .before .before) in
     let a = f .args in
-    remove-leaves (a .o .now) (a .c .now) (a .q) _ (f .pre .0) (omega arith) (s .start .ensures) _ (r .remove .ensures .1) (a .at) (f .pre .1) (f .pre .3 .few) (r .remove .ensures .0)
+    let k : ℕ = getD (a .c .now) (a .q .0) 0 in
+    let n : ℕ = getD (a .c .now) 9 0 in
+    let e = mask-stays (a .c .now) (f .pre .2 .counted .long) (a .q .0) (k - 1) (n - 1) (f .pre .0) .waiting-is in
+    let there = bit-there (a .c .now) (f .pre .2 .counted) (a .q .0) (f .pre .0) (λ z. omega (arith, z, f .pre .1)) in
+    rw (c .before .before .move-down .ensures)
+    (remove-leaves (a .o .now) (a .c .now) (f .pre .2) (a .q .0) (a .at) (f .pre .0) (f .pre .1) _ _
+    (mask-set (a .c .now) (f .pre .2 .counted .long) (a .q .0) (k - 1) (n - 1) (f .pre .0) _)
+    (rw (some-one k (λ z. omega (arith, z, f .pre .1)), some-zero (k - 1) (c .before .if1 .taken), e) (omega (arith, there))))
+
+returns-2 : tie.Need-returns-2
+returns-2 c =
+    let f = start (c .before) in
+    let a = f .args in
+    let k : ℕ = getD (a .c .now) (a .q .0) 0 in
+    rw (c .before .move-down .ensures)
+    (remove-leaves (a .o .now) (a .c .now) (f .pre .2) (a .q .0) (a .at) (f .pre .0) (f .pre .1) _ _
+    (mask-stays (a .c .now) (f .pre .2 .counted .long) (a .q .0) (k - 1) (getD (a .c .now) 9 0 - 1) (f .pre .0))
+    (rw (some-one k (λ z. omega (arith, z, f .pre .1)), some-one (k - 1) (c .if1 .left)) (omega arith)))
 
 pub remove-spec : {M : Type 1} → statement M
 remove-spec =
     tie.close
-    (tie.spec
-    start-requires
-    remove-requires
-    mul-c
-    slice-read-c
-    sub-c
-    mul-c-2
-    slice-write-c
-    same-length
-    same-length-2
-    returns)
+    (tie.spec (λ c. search needs) add-s element-copy-out-s (λ c. search needs) (λ c. search needs) (λ c. search needs) (λ c. search needs) add-move-down add-move-down-2
+    move-down-requires (λ c. search needs) element-write-o (λ c. search needs) (λ c. search needs) sub-c (λ c. search needs) (λ c. search needs) (λ c. search needs)
+    sub-c-2 (λ c. search needs) returns returns-2)

@@ -7,14 +7,14 @@ use Rattle.records.proofs.Laws.{add-next, add-ends, want-next, recordsF
 use Rattle.rules.specs.State.{addAll}
 use Rattle.rules.specs.Requests.{recordsIn, allWant}
 use Rattle.slots.specs.Slots.{slotCount}
-use Rattle.queues.specs.Queues.{sum, Held}
+use Rattle.queues.specs.Queues.{total, Held}
 use Rattle.records.specs.Memory.{pendingOf}
 use Rattle.records.proofs.add_all.Statement.{statement}
 use Rattle.records.proofs.add_all.Tie as tie
 
 abbrev Inv-loop : tie.InvT-loop
 Inv-loop slots₀ order₀ counts₀ singles₀ b n queued held₀ i₀ slots order counts singles held i =
-    (i ≤ n) × (held ≡ sum counts) × Held order counts × (sum counts + allWant (recordsFrom i n b) ≤ slotCount)
+    (i ≤ n) × (held ≡ total counts) × Held order counts × (total counts + allWant (recordsFrom i n b) ≤ slotCount)
     × (addAll (recordsIn n b) (pendingOf order₀ counts₀ slots₀ singles₀) ≡ addAll (recordsFrom i n b) (pendingOf order counts slots singles))
     × (n ≡ 0 → (slots ≡ slots₀) × (order ≡ order₀) × (counts ≡ counts₀) × (singles ≡ singles₀))
 

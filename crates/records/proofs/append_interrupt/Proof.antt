@@ -5,17 +5,16 @@ use Rattle.records.proofs.Laws.{io-joins}
 use Rattle.records.proofs.append_interrupt.Statement.{statement}
 use Rattle.records.proofs.append_interrupt.Tie as tie
 
-interrupt-requires : tie.Need-interrupt-requires
-interrupt-requires c κs = search needs
-
-append-io-requires : tie.Need-append-io-requires
-append-io-requires c κs = search needs
+append-requires : tie.Need-append-requires
+append-requires c κs =
+    let f = c .before .before .before .before .before in
+    (rw (c .before .of .ensures) (omega arith), f .pre .1, omega (arith, f .pre .1, f .pre .2), f .pre .3)
 
 returns : tie.Need-returns
 returns c = (
-  λ singles. io-joins _ _ _ _ _ _ singles _ _ (omega arith) (rw (c .before .interrupt .ensures) at (c .append-io .ensures .0)),
-  c .append-io .ensures .1 .0,
+  λ singles. io-joins _ _ _ _ _ _ singles _ _ (omega arith) (rw (c .before .interrupt .ensures, c .before .before .of .ensures) at (c .append .ensures .queue)),
+  c .append .ensures .held,
 )
 
 pub append-interrupt-spec : {M : Type 1} → statement M
-append-interrupt-spec = tie.close (tie.spec interrupt-requires append-io-requires returns)
+append-interrupt-spec = tie.close (tie.spec (λ c κs. search needs) (λ c κs. search needs) append-requires returns)

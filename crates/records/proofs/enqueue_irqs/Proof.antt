@@ -11,10 +11,10 @@ use Rattle.rules.specs.Requests.{enqueueBytes, recordsIn, allWant, request}
 use Rattle.rules.proofs.Checks.{fails}
 use Rattle.answers.proofs.Laws.{refused}
 use Rattle.slots.specs.Slots.{slotCount}
-use Rattle.queues.specs.Queues.{sum}
+use Rattle.queues.specs.Queues.{total}
 use Rattle.records.specs.Memory.{pendingOf}
 use Rattle.records.specs.Cases.{checkFrom, answerTo}
-use Rattle.records.proofs.Laws.{queued-sum, add-none, answer-good, enqueuing, enqueue-bad, enqueue-good}
+use Rattle.records.proofs.Laws.{queued-total, add-none, answer-good, enqueuing, enqueue-bad, enqueue-good}
 use Rattle.records.proofs.enqueue_irqs.Statement.{statement}
 use Rattle.records.proofs.enqueue_irqs.Tie as tie
 
@@ -77,36 +77,36 @@ queued-requires c κs = search needs
 
 answer-to-requires : tie.Need-answer-to-requires
 answer-to-requires c κs =
-    let f = c .before .before .before .before .before .before .before .before .before .before .before in
-    (omega arith, omega arith, omega (arith, c .queued .ensures, f .pre .1 .few))
+    let f = c .before .before .before .before .before .before .before in
+    (omega arith, omega arith, omega (arith, c .queued .ensures, f .pre .1 .counted .few))
 
 -- what is known once it is decided how many records are added
 abbrev start : tie.Joined5 → tie.Start
-start j = j .before .before .before .before .before .before .before .before .before .before .before .before .before .before
+start j = j .before .before .before .before .before .before .before .before .before .before
 
 all-counted : (j : tie.Joined5)
     → queued (pendingOf (start j .args .order .now) (start j .args .counts .now) (start j .args .slots .now) (start j .args .singles .now)) ≡ j .before .before .before .queued .result
 all-counted j =
     let a = start j .args in
-    queued-sum (a .order .now) (a .counts .now) (a .slots .now) (a .singles .now)
-    (omega (arith, start j .pre .1 .few, j .before .before .before .before .before .before .before .listed2 .given .0)) (j .before .before .before .before .before .counted2 .given .0)
+    queued-total (a .order .now) (a .counts .now) (a .slots .now) (a .singles .now)
+    (start j .pre .1)
     ∙ sym (j .before .before .before .queued .ensures)
 
 added-fit : (j : tie.Joined5)
     → let b = start j .args .payload .now in
-    ((j .if5 .added * 72 ≤ enqueueBytes) × (j .if5 .added * 72 ≤ length b) × (sum (start j .args .counts .now) + allWant (recordsIn (j .if5 .added) b) ≤ slotCount))
+    ((j .if5 .added * 72 ≤ enqueueBytes) × (j .if5 .added * 72 ≤ length b) × (total (start j .args .counts .now) + allWant (recordsIn (j .if5 .added) b) ≤ slotCount))
 unfolding recordsIn allWant
 added-fit j =
     let f = start j in
     let n = f .args .attr / 72 in
     let b = f .args .payload .now in
     let q = j .before .before .before .queued in
-    let l = j .before .before .before .before .before .before .before .before .before .if4 .left in
+    let l = j .before .before .before .before .before .if4 .left in
     ⊎-elim
     (λ t.
     let g = answer-good (recordsIn n b) n (q .result) (f .args .room) _ (j .before .before .answer-to .ensures) (t .0 .taken) in
     (omega arith, omega (arith, l), omega (arith, q .ensures, f .pre .0, g .2, ap (λ (n : ℕ). allWant (recordsIn n b)) (t .1))))
-    (λ t. (omega arith, omega arith, omega (arith, f .pre .1 .few, ap (λ (n : ℕ). allWant (recordsIn n b)) (t .1))))
+    (λ t. (omega arith, omega arith, omega (arith, f .pre .1 .counted .few, ap (λ (n : ℕ). allWant (recordsIn n b)) (t .1))))
     (j .if5 .came)
 
 add-all-requires : tie.Need-add-all-requires
@@ -120,7 +120,7 @@ returns-5 c =
     let j = c .before .before .before .before .before in
     let a = start j .args in
     let b = a .payload .now in
-    let u = j .before .before .before .before .before .before .before .before .before in
+    let u = j .before .before .before .before .before in
     let p = c .add-all .ensures .0 in
     let add : ℕ → Pending = λ (n : ℕ). addAll (recordsIn n b) (pendingOf (a .order .now) (a .counts .now) (a .slots .now) (a .singles .now)) in (
       λ L s er ep.

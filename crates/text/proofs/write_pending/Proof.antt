@@ -12,16 +12,15 @@ use Rattle.text.proofs.write_pending.Statement.{statement}
 use Rattle.text.proofs.write_pending.Tie as tie
 
 -- what list_all has written
-written : (c : tie.After-list-all) → let a = c .before .before .before .before .before .args in
+written : (c : tie.After-list-all) → let a = c .before .before .before .args in
     (c .before .before .pending .result ≡ length (listing (pendingOf (a .order .now) (a .counts .now) (a .slots .now) (a .singles .now))))
     × (recordsIn (c .before .before .pending .result) (c .list-all .last .1 .1 .1 .1 .0) ≡ listing (pendingOf (a .order .now) (a .counts .now) (a .slots .now) (a .singles .now)))
 written c =
-    let s = c .before .before .before .before .before in
+    let s = c .before .before .before in
     let a = s .args in
-    let o = c .before .before .before .before .-o .given .0 in
-    let n = c .before .before .pending .ensures .0 (a .order .now) (a .slots .now) o in (
+    let n = c .before .before .pending .ensures .0 (a .order .now) (a .slots .now) (s .pre) in (
       n,
-      listing-back (a .order .now) (a .counts .now) (a .slots .now) (a .singles .now) _ _ _ (c .before .before .before .-c .given .0) (omega (arith, s .pre .few, o))
+      listing-back (a .order .now) (a .counts .now) (a .slots .now) (a .singles .now) _ _ _ (s .pre)
           (search needs) (omega (arith, c .before .before .pending .ensures .1)) n (c .list-all .ensures),
     )
 
@@ -33,9 +32,9 @@ slice-aggregate-list-all c = search needs
 
 list-all-requires : tie.Need-list-all-requires
 list-all-requires c κs =
-    let d = c .before .before .before .before in
+    let d = c .before .before in
     let a = d .args in
-    (d .pre, omega (arith, c .before .pending .ensures .0 (a .order .now) (a .slots .now) (c .before .before .before .-o .given .0), c .before .pending .ensures .1))
+    (d .pre, omega (arith, c .before .pending .ensures .0 (a .order .now) (a .slots .now) (d .pre), c .before .pending .ensures .1))
 
 slice-aggregate-write-number : tie.Need-slice-aggregate-write-number
 slice-aggregate-write-number c = search needs

@@ -65,17 +65,7 @@ pub fn bit_of(isc: Subclass) -> u8
     requires { ⌜ isc .0 ≤ 7 ⌝ }
     ensures { λ r. ⌜ (r ≡ bit (isc .0)) × (0 < r) ⌝ }
 {
-    let n = isc.0;
-    match n {
-        0 => 128,
-        1 => 64,
-        2 => 32,
-        3 => 16,
-        4 => 8,
-        5 => 4,
-        6 => 2,
-        _ => 1,
-    }
+    1 << (7 - isc.0)
 }
 
 pub fn has_bit(isc: Subclass, mask: u8) -> bool

@@ -142,11 +142,15 @@ struct flic_place {
     bool masked;
 };
 
-/* The pending records and the AIS capability. Declared for its size: read it by the calls alone. */
+/*
+ * The pending records and the AIS capability. Declared for its size: read it by the calls alone.
+ * There are nine queues, of subclasses 0 to 7 and of finished page faults, and a mask of the
+ * subclasses that have records: subclass n is the bit 0x80 >> n.
+ */
 struct flic_controller {
     uint8_t slots[FLIC_ROOM * FLIC_RECORD]; /* records; a free slot keeps what it held last */
-    uint8_t order[FLIC_ROOM];               /* slot numbers, first those of the used ones as listed */
-    size_t counts[9];                       /* records of each subclass, and finished page faults */
+    uint8_t order[FLIC_ROOM * 10];          /* slot numbers: a row for each queue, then of free slots */
+    size_t counts[11];                      /* records of each queue, and of all; then the mask */
     uint8_t singles[2 * FLIC_RECORD + 2];   /* service, machine check, then whether each is there */
     bool ais;
 };
@@ -167,12 +171,12 @@ FLIC_ASSERT(offsetof(struct flic_place, maskable) == 2);
 FLIC_ASSERT(offsetof(struct flic_place, swap) == 3);
 FLIC_ASSERT(offsetof(struct flic_place, suppressible) == 4);
 FLIC_ASSERT(offsetof(struct flic_place, masked) == 5);
-FLIC_ASSERT(sizeof(struct flic_controller) == 18912);
+FLIC_ASSERT(sizeof(struct flic_controller) == 21232);
 FLIC_ASSERT(offsetof(struct flic_controller, slots) == 0);
 FLIC_ASSERT(offsetof(struct flic_controller, order) == 18432);
-FLIC_ASSERT(offsetof(struct flic_controller, counts) == 18688);
-FLIC_ASSERT(offsetof(struct flic_controller, singles) == 18760);
-FLIC_ASSERT(offsetof(struct flic_controller, ais) == 18906);
+FLIC_ASSERT(offsetof(struct flic_controller, counts) == 20992);
+FLIC_ASSERT(offsetof(struct flic_controller, singles) == 21080);
+FLIC_ASSERT(offsetof(struct flic_controller, ais) == 21226);
 FLIC_ASSERT(FLIC_LONGEST_ENQUEUE == 258 * FLIC_RECORD);
 FLIC_ASSERT(KVM_DEV_FLIC_GET_ALL_IRQS == 1 && KVM_DEV_FLIC_ENQUEUE == 2);
 FLIC_ASSERT(KVM_DEV_FLIC_CLEAR_IRQS == 3 && KVM_DEV_FLIC_APF_ENABLE == 4);

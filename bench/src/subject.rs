@@ -3,7 +3,7 @@
 use crate::plain;
 use code::{
     flic_get, flic_make, flic_play_list, flic_set, flic_take, flic_write_list, Answer, Device,
-    Place, QUEUES, ROOM, SINGLES_BYTES, SLOT_BYTES,
+    Place, COUNTS, ORDER_BYTES, SINGLES_BYTES, SLOT_BYTES,
 };
 use model::{Ask, PLACES};
 
@@ -35,8 +35,8 @@ impl Subject for Library {
     fn fresh(capable: bool) -> Library {
         let c = Box::new(code::Controller {
             slots: [0; SLOT_BYTES],
-            order: [0; ROOM],
-            counts: [0; QUEUES],
+            order: [0; ORDER_BYTES],
+            counts: [0; COUNTS],
             singles: [0; SINGLES_BYTES],
             ais: 0,
         });

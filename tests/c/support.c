@@ -220,14 +220,28 @@ void expect_listing(int line, struct host *h, const uint8_t *records, size_t cou
     }
     /* the header's fields are where the library has them: the same records, read from the controller */
     const struct flic_controller *c = controller_of(h);
-    size_t at = 0;
-    for (unsigned queue = 0; queue < 9; queue++)
+    unsigned named[FLIC_ROOM] = {0}; /* how often the rows name each slot */
+    size_t at = 0, waiting = 0;
+    for (unsigned queue = 0; queue < 9; queue++) {
+        if (queue < 8 && c->counts[queue] > 0)
+            waiting |= 0x80 >> queue;
         for (size_t i = 0; i < c->counts[queue]; i++, at++) {
             if (at >= count)
                 fail(line, "records in the queues", at + 1, count);
-            same_bytes(line, "record in its slot", c->slots + c->order[at] * (size_t)FLIC_RECORD, records + at * FLIC_RECORD,
-                       FLIC_RECORD);
+            size_t slot = c->order[queue * FLIC_ROOM + i];
+            same_bytes(line, "record in its slot", c->slots + slot * FLIC_RECORD, records + at * FLIC_RECORD, FLIC_RECORD);
+            named[slot]++;
         }
+    }
+    if (c->counts[9] != at)
+        fail(line, "records of the queues together", c->counts[9], at);
+    if (c->counts[10] != waiting)
+        fail(line, "subclasses that have records", c->counts[10], waiting);
+    for (size_t i = 0; at + i < FLIC_ROOM; i++)
+        named[c->order[9 * FLIC_ROOM + i]]++;
+    for (unsigned slot = 0; slot < FLIC_ROOM; slot++)
+        if (named[slot] != 1)
+            fail(line, "times that a slot is named", named[slot], 1);
     for (unsigned single = 0; single < 2; single++)
         if (c->singles[2 * FLIC_RECORD + single] != 0) {
             if (at >= count)

@@ -17,11 +17,13 @@ pub mod xive;
 /// What a caller must not see.
 pub type Complaint = String;
 
-/// Bytes of the pending records' slots; entries of their order; queues; bytes
-/// of the service record and the machine check.
+/// Bytes of the pending records' slots; rows of slot numbers, one for each of
+/// the nine queues and one of the free slots; counts of each queue and of all,
+/// and the subclasses that have records; bytes of the service record and the
+/// machine check.
 pub const SLOT_BYTES: usize = 18_432;
-pub const ROOM: usize = 256;
-pub const QUEUES: usize = 9;
+pub const ORDER_BYTES: usize = 2_560;
+pub const COUNTS: usize = 11;
 pub const SINGLES_BYTES: usize = 146;
 
 // Bytes instead of bool: what the library leaves is looked at before it is trusted.
@@ -30,8 +32,8 @@ pub const SINGLES_BYTES: usize = 146;
 #[derive(Clone, Debug, PartialEq, Eq)]
 pub struct Controller {
     pub slots: [u8; SLOT_BYTES],
-    pub order: [u8; ROOM],
-    pub counts: [usize; QUEUES],
+    pub order: [u8; ORDER_BYTES],
+    pub counts: [usize; COUNTS],
     pub singles: [u8; SINGLES_BYTES],
     pub ais: u8,
 }

@@ -3,8 +3,8 @@
 
 use crate::subject::Subject;
 use model::{
-    ADAPTER_MODIFY, ADAPTER_REGISTER, AIRQ_INJECT, AISM_ALL, APF_ENABLE, CLEAR_IO_IRQ, ENQUEUE,
-    GET_ALL_IRQS, MACHINE_CHECK, RECORD, ROOM, SERVICE,
+    ADAPTER_MODIFY, ADAPTER_REGISTER, AIRQ_INJECT, AISM_ALL, APF_ENABLE, CLEAR_IO_IRQ, CLEAR_IRQS,
+    ENQUEUE, GET_ALL_IRQS, MACHINE_CHECK, RECORD, ROOM, SERVICE,
 };
 use std::hint::black_box;
 
@@ -33,6 +33,10 @@ pub fn goals() -> Vec<(&'static str, Option<f64>)> {
         ("write + play, full machine", Some(3.0)),
         ("APF_ENABLE, fresh machine", None),
         ("APF_ENABLE, full machine", None),
+        ("INJECT, suppressed", None),
+        ("MODIFY, mask", None),
+        ("CLEAR_IRQS of none", None),
+        ("ENQUEUE of 256 + CLEAR_IRQS", None),
     ]
 }
 
@@ -78,12 +82,19 @@ fn enqueue_take<S: Subject + 'static>(pending: usize, eight: bool) -> Box<dyn Fn
     })
 }
 
-fn inject_take<S: Subject + 'static>(suppressed: bool) -> Box<dyn FnMut(usize)> {
+/// Adapter 5 of subclass 3, which can be masked and suppressed, in mode ALL; or
+/// in mode SINGLE with its bit of nimm set, so that its interrupts are suppressed.
+fn adapter<S: Subject>(suppressed: bool) -> S {
     let mut s = S::fresh(true);
     assert_eq!(s.set(ADAPTER_REGISTER, 0, &[0, 0, 0, 5, 3, 1, 0, 1]), (0, 0));
     if suppressed {
         assert_eq!(s.set(AISM_ALL, 0, &[0x10, 0x10]), (0, 0));
     }
+    s
+}
+
+fn inject_take<S: Subject + 'static>(suppressed: bool) -> Box<dyn FnMut(usize)> {
+    let mut s = adapter::<S>(suppressed);
     let mut out = [0; RECORD];
     Box::new(move |times| {
         for _ in 0..times {
@@ -91,6 +102,29 @@ fn inject_take<S: Subject + 'static>(suppressed: bool) -> Box<dyn FnMut(usize)> 
             let taken = s.take(255, true, true, buffer(&mut out));
             debug_assert_eq!(given.1, u64::from(!suppressed));
             black_box((given, taken));
+        }
+    })
+}
+
+fn inject_suppressed<S: Subject + 'static>() -> Box<dyn FnMut(usize)> {
+    let mut s = adapter::<S>(true);
+    Box::new(move |times| {
+        for _ in 0..times {
+            let answer = s.set(AIRQ_INJECT, black_box(5), &[]);
+            debug_assert_eq!(answer, (0, 0));
+            black_box(answer);
+        }
+    })
+}
+
+fn modify<S: Subject + 'static>() -> Box<dyn FnMut(usize)> {
+    let mut s = adapter::<S>(false);
+    Box::new(move |times| {
+        for _ in 0..times {
+            let mask: &[u8; 16] = black_box(&[0, 0, 0, 5, 1, 1, 0, 0, 0, 0, 0, 0, 0, 0, 0, 0]);
+            let answer = s.set(ADAPTER_MODIFY, 0, mask);
+            debug_assert_eq!(answer, (0, 0));
+            black_box(answer);
         }
     })
 }
@@ -169,6 +203,33 @@ fn flag<S: Subject + 'static>(mut s: S) -> Box<dyn FnMut(usize)> {
     })
 }
 
+/// Nothing is pending, and all is cleared.
+fn clear_irqs<S: Subject + 'static>() -> Box<dyn FnMut(usize)> {
+    let mut s = S::fresh(true);
+    Box::new(move |times| {
+        for _ in 0..times {
+            let answer = s.set(CLEAR_IRQS, black_box(0), &[]);
+            debug_assert_eq!(answer, (0, 0));
+            black_box(answer);
+        }
+    })
+}
+
+/// As many records as there is room for come in one request, and all go.
+fn enqueue_clear<S: Subject + 'static>() -> Box<dyn FnMut(usize)> {
+    let mut s = S::fresh(true);
+    let records: Vec<u8> = (0..ROOM as u32).flat_map(|number| record(number % 8, number)).collect();
+    Box::new(move |times| {
+        for _ in 0..times {
+            let records: &Vec<u8> = black_box(&records);
+            let given = s.set(ENQUEUE, (ROOM * RECORD) as u64, records);
+            let removed = s.set(CLEAR_IRQS, black_box(0), &[]);
+            debug_assert_eq!((given, removed), ((0, 256), (0, 256)));
+            black_box((given, removed));
+        }
+    })
+}
+
 /// All work for one subject, in the order of the goals.
 pub fn all<S: Subject + 'static>() -> Vec<Work> {
     let runs = [
@@ -189,6 +250,10 @@ pub fn all<S: Subject + 'static>() -> Vec<Work> {
         moves::<S>(true, true),
         flag(S::fresh(true)),
         flag(full::<S>().0),
+        inject_suppressed::<S>(),
+        modify::<S>(),
+        clear_irqs::<S>(),
+        enqueue_clear::<S>(),
     ];
     let names = goals().into_iter().map(|(name, _)| name.to_string());
     names.zip(runs).map(|(name, run)| Work { name, run }).collect()

@@ -30,10 +30,11 @@ stateOf c d t =
     }
 
 -- 01, 'How much each promise says': the one premise is a record of facts that a fresh controller has and every call
--- keeps. Of the controller alone: no slot stands twice in the order, and the nine queues hold at most as many records
--- as there are slots. The rules leave open: in which slot a pending record lies; what the other slots hold and in which
--- order they stand; which number, other than 0, says that a service record or a machine check is there; the bytes of
--- one that is not there. Of these nothing more holds.
+-- keeps. Of the controller alone: the total is the sum of the nine counts and at most the number of slots, the mask has
+-- the bits of the subclasses that have records, and no slot is named twice by the entries in use of the rows, those of
+-- the nine queues and of the free slots. The rules leave open: in which slot a pending record lies; what the other slots
+-- hold and in which order they are free; the entries of a row behind those in use; which number, other than 0, says that
+-- a service record or a machine check is there; the bytes of one that is not there. Of these nothing more holds.
 abbrev pub Ready : Controller → Type 0
 Ready c = Held (c .order) (c .counts)
 

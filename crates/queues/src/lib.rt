@@ -77,11 +77,12 @@ pub fn append(
     slots::write(b, s, r);
     let i = q.0;
     let k = c[i];
+    let mask = c[10];
     o[i * ROOM + k] = s;
     c[i] = k + 1;
     c[9] = n + 1;
     if k == 0 {
-        c[10] = c[10] + (128 >> i);
+        c[10] = mask + (128 >> i);
     }
 }
 
@@ -95,12 +96,13 @@ pub fn remove(o: &mut [u8; ORDER_BYTES], c: &mut [usize; COUNTS], q: Queue, at: 
     let s = o[start + at];
     let k = c[i] - 1;
     let n = c[9];
+    let mask = c[10];
     slots::move_down(o, start + at, start + k);
     o[ORDER_BYTES - n] = s;
     c[i] = k;
     c[9] = n - 1;
     if k == 0 {
-        c[10] = c[10] - (128 >> i);
+        c[10] = mask - (128 >> i);
     }
 }
 

@@ -1,6 +1,5 @@
 -- The last free slot is the queue's next, and the counts follow.
-use mathlib.Core.Path.{_≡_}
-use Prim.Native.Nat.{ℕ, _+_, _/_, _^_, _≤_, _<_}
+use Prim.Native.Nat.{ℕ, _+_, _^_, _<_}
 use native.Mathlib.Nat.{div-le-self}
 use native.Mathlib.Omega.{arith}
 use borrow.Author.Needs.{needs}
@@ -11,10 +10,11 @@ use Rattle.queues.proofs.Laws.{append-leaves}
 use Rattle.queues.proofs.append.Statement.{statement}
 use Rattle.queues.proofs.append.Tie as tie
 
-abbrev start : tie.After-k → tie.Start
-start c = c .before .before .before .before
+abbrev start : tie.After-mask → tie.Start
+start c = c .before .before .before .before .before
 
-room : (c : tie.After-k) → let f = start c in getD (f .args .c .now) (f .args .q .0) 0 < slotCount
+-- there is room in the queue's row
+room : (c : tie.After-mask) → let f = start c in getD (f .args .c .now) (f .args .q .0) 0 < slotCount
 room c =
     let f = start c in
     omega (arith, count-small (f .args .c .now) (f .pre .3 .counted) (f .args .q .0) (f .pre .0), f .pre .1, f .pre .2)
@@ -30,19 +30,17 @@ add-c c = omega (arith, room c)
 
 add-c-3 : tie.Need-add-c-3
 add-c-3 c =
-    let f = start (c .before .before) in
-    let e = mask-stays (f .args .c .now) (f .pre .3 .counted .long) (f .args .q .0) (getD (f .args .c .now) (f .args .q .0) 0 + 1) (f .args .n + 1) (f .pre .0) .waiting-is in
-    rw e (omega (arith, waiting-small (f .args .c .now) (f .pre .3 .counted), div-le-self 128 (2 ^ (f .args .q .0))))
+    let f = start (c .before) in
+    omega (arith, waiting-small (f .args .c .now) (f .pre .3 .counted), div-le-self 128 (2 ^ (f .args .q .0)))
 
 returns : tie.Need-returns
 returns c =
-    let f = start (c .before .before) in
+    let f = start (c .before) in
     let a = f .args in
     let k : ℕ = getD (a .c .now) (a .q .0) 0 in
-    let e = mask-stays (a .c .now) (f .pre .3 .counted .long) (a .q .0) (k + 1) (a .n + 1) (f .pre .0) .waiting-is in
     append-leaves (a .o .now) (a .c .now) (f .pre .3) (a .n) (f .pre .1) (f .pre .2) (a .q .0) (f .pre .0) _ _
     (mask-set (a .c .now) (f .pre .3 .counted .long) (a .q .0) (k + 1) (a .n + 1) (f .pre .0) _) (a .b .now) _ (a .r) (c .before .before .before .write .ensures)
-    (rw (some-zero k (c .before .if1 .taken), e) (omega arith))
+    (rw (some-zero k (c .if1 .taken)) (omega arith))
 
 returns-2 : tie.Need-returns-2
 returns-2 c =
@@ -50,12 +48,12 @@ returns-2 c =
     let a = f .args in
     let k : ℕ = getD (a .c .now) (a .q .0) 0 in
     append-leaves (a .o .now) (a .c .now) (f .pre .3) (a .n) (f .pre .1) (f .pre .2) (a .q .0) (f .pre .0) _ _
-    (mask-stays (a .c .now) (f .pre .3 .counted .long) (a .q .0) (k + 1) (a .n + 1) (f .pre .0)) (a .b .now) _ (a .r) (c .before .before .write .ensures)
+    (mask-stays (a .c .now) (f .pre .3 .counted .long) (a .q .0) (k + 1) (a .n + 1) (f .pre .0)) (a .b .now) _ (a .r) (c .before .before .before .write .ensures)
     (rw (some-one k (c .if1 .left)) (omega arith))
 
 pub append-spec : {M : Type 1} → statement M
 append-spec =
     tie.close
     (tie.spec (λ c. search needs) (λ c. search needs) (λ c. search needs) (λ c κs. search needs) (λ c. search needs) (λ c. search needs)
-    (λ c. search needs) add-o element-write-o add-c (λ c. search needs) (λ c. search needs) (λ c. search needs) (λ c. search needs)
-    (λ c. search needs) (λ c. search needs) add-c-3 (λ c. search needs) returns returns-2)
+    (λ c. search needs) (λ c. search needs) add-o element-write-o add-c (λ c. search needs) (λ c. search needs) (λ c. search needs) (λ c. search needs)
+    (λ c. search needs) add-c-3 (λ c. search needs) returns returns-2)

@@ -24,7 +24,7 @@ loop-again c =
     let a = c .before .before .args in
     let l = c .before .loop in
     let v = up-at 0 slotCount (l .i) (omega arith) ∙ zero-add (l .i) in
-    (omega arith, length-set (l .o) (9 * slotCount + l .i) (l .i) ∙ l .inv .1, ap (set (l .o) (9 * slotCount + l .i)) (sym v) ∙ paste-more (l .o) (a .o .now) (9 * slotCount) (upFrom 0 slotCount) (l .i) (9 * slotCount + l .i) 0 (omega arith) (omega arith) (omega (arith, length-up 0 slotCount)) (l .inv .2))
+    (omega arith, simp length-set (l .inv .1), ap (set (l .o) (9 * slotCount + l .i)) (sym v) ∙ paste-more (l .o) (a .o .now) (9 * slotCount) (upFrom 0 slotCount) (l .i) (9 * slotCount + l .i) 0 (omega arith) (omega arith) (omega (arith, length-up 0 slotCount)) (l .inv .2))
 
 returns : tie.Need-returns Inv-loop μ-loop
 returns c =

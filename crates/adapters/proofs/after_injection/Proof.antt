@@ -6,12 +6,6 @@ use Rattle.adapters.specs.Values.{injectedDevice}
 use Rattle.adapters.proofs.after_injection.Statement.{statement}
 use Rattle.adapters.proofs.after_injection.Tie as tie
 
-under-ais-requires : tie.Need-under-ais-requires
-under-ais-requires c κs = search needs
-
-with-bit-requires : tie.Need-with-bit-requires
-with-bit-requires c κs = search needs
-
 returns : tie.Need-returns
 unfolding injectedDevice choose
 returns c = rw (sym (c .before .before .under-ais .ensures) ∙ c .before .if1 .taken, c .with-bit .ensures)
@@ -21,4 +15,4 @@ unfolding injectedDevice choose
 returns-2 c = rw (sym (c .before .under-ais .ensures) ∙ c .if1 .left)
 
 pub after-injection-spec : {M : Type 1} → statement M
-after-injection-spec = tie.close (tie.spec under-ais-requires with-bit-requires returns returns-2)
+after-injection-spec = tie.close (tie.spec (λ c κs. search needs) (λ c κs. search needs) returns returns-2)

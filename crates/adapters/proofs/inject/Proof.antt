@@ -19,9 +19,6 @@ returns-2 : tie.Need-returns-2
 unfolding injectionOf choose
 returns-2 c = rw (used (c .before), c .if2 .taken)
 
-under-ais-requires : tie.Need-under-ais-requires
-under-ais-requires c κs = search needs
-
 returns-3 : tie.Need-returns-3
 unfolding injectionOf choose
 returns-3 c = rw (used (c .before .before .before), c .before .before .if2 .left, sym (c .before .under-ais .ensures) ∙ c .if3 .taken)
@@ -44,4 +41,4 @@ returns-5 c =
     rw (p .0, p .1, p .2, c .if4 .left)
 
 pub inject-spec : {M : Type 1} → statement M
-inject-spec = tie.close (tie.spec returns returns-2 under-ais-requires returns-3 returns-4 returns-5)
+inject-spec = tie.close (tie.spec returns returns-2 (λ c κs. search needs) returns-3 returns-4 returns-5)

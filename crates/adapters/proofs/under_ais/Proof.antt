@@ -3,9 +3,6 @@ use borrow.Author.Needs.{needs}
 use Rattle.adapters.proofs.under_ais.Statement.{statement}
 use Rattle.adapters.proofs.under_ais.Tie as tie
 
-has-bit-requires : tie.Need-has-bit-requires
-has-bit-requires c κs = search needs
-
 returns : tie.Need-returns
 returns c = rw (c .before .before .if1 .taken, c .before .if2 .taken) (c .has-bit .ensures)
 
@@ -16,4 +13,4 @@ returns-3 : tie.Need-returns-3
 returns-3 c = rw (c .if1 .left)
 
 pub under-ais-spec : {M : Type 1} → statement M
-under-ais-spec = tie.close (tie.spec has-bit-requires returns returns-2 returns-3)
+under-ais-spec = tie.close (tie.spec (λ c κs. search needs) returns returns-2 returns-3)

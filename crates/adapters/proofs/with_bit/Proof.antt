@@ -8,15 +8,9 @@ use Rattle.adapters.proofs.Laws.{bit-room}
 use Rattle.adapters.proofs.with_bit.Statement.{statement}
 use Rattle.adapters.proofs.with_bit.Tie as tie
 
-has-bit-requires : tie.Need-has-bit-requires
-has-bit-requires c κs = search needs
-
 returns : tie.Need-returns
 unfolding withBit choose
 returns c = rw (sym (c .before .has-bit .ensures) ∙ c .if1 .taken)
-
-bit-of-requires : tie.Need-bit-of-requires
-bit-of-requires c κs = search needs
 
 add-result : tie.Need-add-result
 add-result c =
@@ -29,4 +23,4 @@ unfolding withBit choose
 returns-2 c = rw (sym (c .before .before .has-bit .ensures) ∙ c .before .if1 .left, c .bit-of .ensures .0)
 
 pub with-bit-spec : {M : Type 1} → statement M
-with-bit-spec = tie.close (tie.spec has-bit-requires returns bit-of-requires add-result returns-2)
+with-bit-spec = tie.close (tie.spec (λ c κs. search needs) returns (λ c κs. search needs) add-result returns-2)

@@ -8,12 +8,6 @@ use Rattle.adapters.proofs.Laws.{bit-room}
 use Rattle.adapters.proofs.without_bit.Statement.{statement}
 use Rattle.adapters.proofs.without_bit.Tie as tie
 
-has-bit-requires : tie.Need-has-bit-requires
-has-bit-requires c κs = search needs
-
-bit-of-requires : tie.Need-bit-of-requires
-bit-of-requires c κs = search needs
-
 sub-result : tie.Need-sub-result
 sub-result c =
     let a = c .before .before .before .args in
@@ -29,4 +23,4 @@ unfolding withoutBit choose
 returns-2 c = rw (sym (c .before .has-bit .ensures) ∙ c .if1 .left)
 
 pub without-bit-spec : {M : Type 1} → statement M
-without-bit-spec = tie.close (tie.spec has-bit-requires bit-of-requires sub-result returns returns-2)
+without-bit-spec = tie.close (tie.spec (λ c κs. search needs) (λ c κs. search needs) sub-result returns returns-2)

@@ -3,12 +3,6 @@ use borrow.Author.Needs.{needs}
 use Rattle.controller.proofs.hand_out.Statement.{statement}
 use Rattle.controller.proofs.hand_out.Tie as tie
 
-take-requires : tie.Need-take-requires
-take-requires c κs = search needs
-
-same-length : tie.Need-same-length
-same-length c = search needs
-
 returns : tie.Need-returns
 returns c = λ ais.
     record {
@@ -18,4 +12,4 @@ returns c = λ ais.
     }
 
 pub hand-out-spec : {M : Type 1} → statement M
-hand-out-spec = tie.close (tie.spec take-requires same-length returns)
+hand-out-spec = tie.close (tie.spec (λ c κs. search needs) (λ c. search needs) returns)

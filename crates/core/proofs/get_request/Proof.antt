@@ -7,28 +7,13 @@ use borrow.Author.Needs.{needs}
 use Rattle.core.proofs.get_request.Statement.{statement}
 use Rattle.core.proofs.get_request.Tie as tie
 
-get-all-requires : tie.Need-get-all-requires
-get-all-requires c κs = search needs
-
-same-length : tie.Need-same-length
-same-length c = search needs
-
 returns : tie.Need-returns
 unfolding request
 returns c = (λ L s e1 e2 e3. as-get L s _ _ _ 1 (c .before .before .before .before .if1 .taken) (c .before .before .get-all .ensures .0 L s e2), c .before .before .get-all .ensures .1)
 
-get-masks-requires : tie.Need-get-masks-requires
-get-masks-requires c κs = search needs
-
-same-length-2 : tie.Need-same-length-2
-same-length-2 c = search needs
-
 returns-2 : tie.Need-returns-2
 unfolding request
 returns-2 c = (λ L s e1 e2 e3. as-get L s _ _ _ 11 (c .before .before .before .before .if2 .taken) (c .before .before .get-masks .ensures .0 L s e1 e3), c .before .before .get-masks .ensures .1)
-
-refuse-requires : tie.Need-refuse-requires
-refuse-requires c κs = search needs
 
 returns-3 : tie.Need-returns-3
 unfolding request
@@ -37,12 +22,5 @@ returns-3 c = (λ L s e1 e2 e3. refused L s _ _ _ 22 _ refl (rw (no-get (c .befo
 pub get-request-spec : {M : Type 1} → statement M
 get-request-spec =
     tie.close
-    (tie.spec
-    get-all-requires
-    same-length
-    returns
-    get-masks-requires
-    same-length-2
-    returns-2
-    refuse-requires
+    (tie.spec (λ c κs. search needs) (λ c. search needs) returns (λ c κs. search needs) (λ c. search needs) returns-2 (λ c κs. search needs)
     returns-3)

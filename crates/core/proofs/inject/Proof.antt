@@ -24,12 +24,6 @@ use borrow.Author.Needs.{needs}
 use Rattle.core.proofs.inject.Statement.{statement}
 use Rattle.core.proofs.inject.Tie as tie
 
-refuse-requires : tie.Need-refuse-requires
-refuse-requires c κs = search needs
-
-with-answer-requires : tie.Need-with-answer-requires
-with-answer-requires c κs = search needs
-
 returns : tie.Need-returns
 unfolding injectionOf
 returns c =
@@ -50,45 +44,6 @@ returns c =
         ),
       ),
     )
-
-queued-requires : tie.Need-queued-requires
-queued-requires c κs = search needs
-
-after-injection-requires : tie.Need-after-injection-requires
-after-injection-requires c κs = search needs
-
-inject-requires : tie.Need-inject-requires
-inject-requires c κs = search needs
-
-enum-told : tie.Need-enum-told
-enum-told c = search needs
-
-refuse-requires-2 : tie.Need-refuse-requires-2
-refuse-requires-2 c κs = search needs
-
-with-answer-requires-2 : tie.Need-with-answer-requires-2
-with-answer-requires-2 c κs = search needs
-
-enum-told-2 : tie.Need-enum-told-2
-enum-told-2 c = search needs
-
-accept-requires : tie.Need-accept-requires
-accept-requires c κs = search needs
-
-with-answer-requires-3 : tie.Need-with-answer-requires-3
-with-answer-requires-3 c κs = search needs
-
-enum-told-3 : tie.Need-enum-told-3
-enum-told-3 c = search needs
-
-refuse-requires-3 : tie.Need-refuse-requires-3
-refuse-requires-3 c κs = search needs
-
-with-answer-requires-4 : tie.Need-with-answer-requires-4
-with-answer-requires-4 c κs = search needs
-
-enum-known-what : tie.Need-enum-known-what
-enum-known-what c = search needs
 
 -- what is known once `adapters::inject` was called
 abbrev start : tie.After-inject → tie.Start
@@ -122,12 +77,6 @@ append-interrupt-requires c κs =
       omega (arith, leb-false (f .args .room) (j .before .before .queued .result) (d .2), j .before .before .queued .ensures, f .pre .0),
       f .pre .1,
     )
-
-accept-requires-2 : tie.Need-accept-requires-2
-accept-requires-2 c κs = search needs
-
-with-answer-requires-5 : tie.Need-with-answer-requires-5
-with-answer-requires-5 c κs = search needs
 
 returns-2 : tie.Need-returns-2
 unfolding injectionOf
@@ -234,27 +183,7 @@ returns-5 c =
 pub inject-spec : {M : Type 1} → statement M
 inject-spec =
     tie.close
-    (tie.spec
-    refuse-requires
-    with-answer-requires
-    returns
-    queued-requires
-    after-injection-requires
-    inject-requires
-    enum-told
-    refuse-requires-2
-    with-answer-requires-2
-    enum-told-2
-    accept-requires
-    with-answer-requires-3
-    enum-told-3
-    refuse-requires-3
-    with-answer-requires-4
-    enum-known-what
-    append-interrupt-requires
-    accept-requires-2
-    with-answer-requires-5
-    returns-2
-    returns-3
-    returns-4
-    returns-5)
+    (tie.spec (λ c κs. search needs) (λ c κs. search needs) returns (λ c κs. search needs) (λ c κs. search needs) (λ c κs. search needs)
+    (λ c. search needs) (λ c κs. search needs) (λ c κs. search needs) (λ c. search needs) (λ c κs. search needs) (λ c κs. search needs)
+    (λ c. search needs) (λ c κs. search needs) (λ c κs. search needs) (λ c. search needs) append-interrupt-requires (λ c κs. search needs)
+    (λ c κs. search needs) returns-2 returns-3 returns-4 returns-5)

@@ -10,9 +10,6 @@ use Rattle.core.proofs.Laws.{as-set}
 use Rattle.core.proofs.set_others.Statement.{statement}
 use Rattle.core.proofs.set_others.Tie as tie
 
-inject-requires : tie.Need-inject-requires
-inject-requires c κs = search needs
-
 returns : tie.Need-returns
 unfolding request aboutOf changeOf choose
 returns c =
@@ -35,15 +32,6 @@ set-values-requires c κs =
     let f = c .before .before in
     (f .pre .3, f .pre .4, f .pre .5, c .if1 .left)
 
-by-fields-requires : tie.Need-by-fields-requires
-by-fields-requires c κs = search needs
-
-by-fields-requires-2 : tie.Need-by-fields-requires-2
-by-fields-requires-2 c κs = search needs
-
-with-answer-requires : tie.Need-with-answer-requires
-with-answer-requires c κs = search needs
-
 returns-2 : tie.Need-returns-2
 returns-2 c =
     let v = c .before .before .before .before .before .before in
@@ -58,11 +46,5 @@ returns-2 c =
 pub set-others-spec : {M : Type 1} → statement M
 set-others-spec =
     tie.close
-    (tie.spec
-    inject-requires
-    returns
-    set-values-requires
-    by-fields-requires
-    by-fields-requires-2
-    with-answer-requires
+    (tie.spec (λ c κs. search needs) returns set-values-requires (λ c κs. search needs) (λ c κs. search needs) (λ c κs. search needs)
     returns-2)

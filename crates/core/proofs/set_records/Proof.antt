@@ -8,12 +8,6 @@ use Rattle.core.proofs.Laws.{records-eight}
 use Rattle.core.proofs.set_records.Statement.{statement}
 use Rattle.core.proofs.set_records.Tie as tie
 
-enqueue-irqs-requires : tie.Need-enqueue-irqs-requires
-enqueue-irqs-requires c κs = search needs
-
-by-fields-requires : tie.Need-by-fields-requires
-by-fields-requires c κs = search needs
-
 returns : tie.Need-returns
 unfolding request
 returns c =
@@ -23,9 +17,6 @@ returns c =
       (e .1 .0, λ k. e .1 .1 (λ z. k (ap (λ (x : Answer). x .code) (c .by-fields .ensures) ∙ z))),
     )
 
-clear-irqs-requires : tie.Need-clear-irqs-requires
-clear-irqs-requires c κs = search needs
-
 returns-2 : tie.Need-returns-2
 unfolding request
 returns-2 c =
@@ -34,9 +25,6 @@ returns-2 c =
       λ L s er ep. as-answer L s (f .args .attr) _ _ 3 (c .before .before .before .before .if2 .taken) refl (e .0 L s _ _ ep),
       (e .1 .0, λ k. let m = e .1 .1 k in (refl, m .0, m .1, m .2)),
     )
-
-clear-io-requires : tie.Need-clear-io-requires
-clear-io-requires c κs = search needs
 
 returns-3 : tie.Need-returns-3
 unfolding request
@@ -51,11 +39,4 @@ returns-3 c =
 pub set-records-spec : {M : Type 1} → statement M
 set-records-spec =
     tie.close
-    (tie.spec
-    enqueue-irqs-requires
-    by-fields-requires
-    returns
-    clear-irqs-requires
-    returns-2
-    clear-io-requires
-    returns-3)
+    (tie.spec (λ c κs. search needs) (λ c κs. search needs) returns (λ c κs. search needs) returns-2 (λ c κs. search needs) returns-3)

@@ -6,12 +6,6 @@ use native.Mathlib.Omega.{arith}
 use Rattle.image.proofs.put_place.Statement.{statement}
 use Rattle.image.proofs.put_place.Tie as tie
 
-pack-requires : tie.Need-pack-requires
-pack-requires c κs = search needs
-
-slice-write-bytes : tie.Need-slice-write-bytes
-slice-write-bytes c = search needs
-
 returns : tie.Need-returns
 returns c = rw (c .pack .ensures)
 
@@ -19,4 +13,4 @@ returns-2 : tie.Need-returns-2
 returns-2 c = sym (set-out _ _ _ (omega arith))
 
 pub put-place-spec : {M : Type 1} → statement M
-put-place-spec = tie.close (tie.spec pack-requires slice-write-bytes returns returns-2)
+put-place-spec = tie.close (tie.spec (λ c κs. search needs) (λ c. search needs) returns returns-2)

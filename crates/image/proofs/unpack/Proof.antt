@@ -6,9 +6,6 @@ use Rattle.image.proofs.Laws.{unpacked-unused, unpacked-used}
 use Rattle.image.proofs.unpack.Statement.{statement}
 use Rattle.image.proofs.unpack.Tie as tie
 
-free-place-requires : tie.Need-free-place-requires
-free-place-requires c κs = search needs
-
 returns : tie.Need-returns
 returns c =
     let r = c .free-place .ensures in
@@ -18,4 +15,4 @@ returns-2 : tie.Need-returns-2
 returns-2 c = sym (unpacked-used _ (c .if1 .left))
 
 pub unpack-spec : {M : Type 1} → statement M
-unpack-spec = tie.close (tie.spec free-place-requires returns returns-2)
+unpack-spec = tie.close (tie.spec (λ c κs. search needs) returns returns-2)

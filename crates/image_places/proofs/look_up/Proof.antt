@@ -6,12 +6,6 @@ use Rattle.image_places.proofs.Laws.{read-in, read-out, read-canonical}
 use Rattle.image_places.proofs.look_up.Statement.{statement}
 use Rattle.image_places.proofs.look_up.Tie as tie
 
-shared-slice-read-unpack : tie.Need-shared-slice-read-unpack
-shared-slice-read-unpack c = search needs
-
-unpack-requires : tie.Need-unpack-requires
-unpack-requires c κs = search needs
-
 returns : tie.Need-returns
 returns c =
     let a = c .before .before .before .before .before in
@@ -19,9 +13,6 @@ returns c =
       ap placeOf e ∙ read-in (a .args .image .now) (a .args .places) (a .args .id .0) (c .before .before .if1 .taken),
       rw e (read-canonical (a .args .image .now) (a .args .places) (a .args .id .0) (a .pre .1)),
     )
-
-free-place-requires : tie.Need-free-place-requires
-free-place-requires c κs = search needs
 
 returns-2 : tie.Need-returns-2
 returns-2 c =
@@ -31,4 +22,4 @@ returns-2 c =
 pub look-up-spec : {M : Type 1} → statement M
 look-up-spec =
     tie.close
-    (tie.spec shared-slice-read-unpack unpack-requires returns free-place-requires returns-2)
+    (tie.spec (λ c. search needs) (λ c κs. search needs) returns (λ c κs. search needs) returns-2)

@@ -5,12 +5,6 @@ use Rattle.image_places.proofs.Laws.{write-in, write-out, write-canonic
 use Rattle.image_places.proofs.put.Statement.{statement}
 use Rattle.image_places.proofs.put.Tie as tie
 
-pack-requires : tie.Need-pack-requires
-pack-requires c κs = search needs
-
-slice-write-bytes : tie.Need-slice-write-bytes
-slice-write-bytes c = search needs
-
 returns : tie.Need-returns
 returns c =
     let s = c .before .before .before .before in
@@ -26,4 +20,4 @@ returns-2 c =
     (write-out (s .args .image .now) (s .args .places) (s .args .id .0) (placeOf (s .args .p)) (c .if1 .left), s .pre .1)
 
 pub put-spec : {M : Type 1} → statement M
-put-spec = tie.close (tie.spec pack-requires slice-write-bytes returns returns-2)
+put-spec = tie.close (tie.spec (λ c κs. search needs) (λ c. search needs) returns returns-2)

@@ -52,26 +52,14 @@ returns : tie.Need-returns
 unfolding plays
 returns c = refused-with _ _ 14 (omega arith) (λ L s e. fails _ _ _ (lt-leb headerBytes _ (c .if1 .taken)))
 
-read-be-requires : tie.Need-read-be-requires
-read-be-requires c κs = search needs
-
 returns-2 : tie.Need-returns-2
 returns-2 c = refused-with _ _ 22 (omega arith) (λ L s e. past-length (c .before .before) L s ∙ fails _ _ _ (ne-eqb _ _ (λ z. c .if2 .taken (c .before .read-be .ensures .0 ∙ z))))
-
-read-be-requires-2 : tie.Need-read-be-requires-2
-read-be-requires-2 c κs = search needs
 
 returns-3 : tie.Need-returns-3
 returns-3 c = refused-with _ _ 22 (omega arith) (λ L s e. past-total (c .before .before) L s ∙ fails _ _ _ (rw (← c .before .read-be2 .ensures .0) (lt-leb _ 1 (c .if3 .taken))))
 
-read-be-requires-3 : tie.Need-read-be-requires-3
-read-be-requires-3 c κs = search needs
-
 returns-4 : tie.Need-returns-4
 returns-4 c = refused-with _ _ 7 (omega arith) (λ L s e. past-flag (c .before .before) L s ∙ fails _ _ _ (rw (← c .before .read-be3 .ensures .0) (lt-leb _ mostRequests (c .if4 .taken))))
-
-offsets-requires : tie.Need-offsets-requires
-offsets-requires c κs = search needs
 
 returns-5 : tie.Need-returns-5
 returns-5 c =
@@ -85,9 +73,6 @@ returns-6 : tie.Need-returns-6
 returns-6 c =
     refused-with _ _ 22 (omega arith)
     (λ L s e. past-offsets (c .before .before) L s ∙ fails _ _ _ (rw (start-is (c .before .before) .0) (sym (said (c .before)) ∙ not-true _ (c .if6 .taken))))
-
-flag-of-requires : tie.Need-flag-of-requires
-flag-of-requires c κs = search needs
 
 returns-7 : tie.Need-returns-7
 returns-7 c =
@@ -109,18 +94,5 @@ returns-8 c =
 pub form-spec : {M : Type 1} → statement M
 form-spec =
     tie.close
-    (tie.spec
-    returns
-    read-be-requires
-    returns-2
-    read-be-requires-2
-    returns-3
-    read-be-requires-3
-    returns-4
-    offsets-requires
-    returns-5
-    slots-formed-requires
-    returns-6
-    flag-of-requires
-    returns-7
-    returns-8)
+    (tie.spec returns (λ c κs. search needs) returns-2 (λ c κs. search needs) returns-3 (λ c κs. search needs) returns-4
+    (λ c κs. search needs) returns-5 slots-formed-requires returns-6 (λ c κs. search needs) returns-7 returns-8)

@@ -6,20 +6,8 @@ use Rattle.rules.specs.MoveList.{tableOffsetIn, payloadOffsetIn, payloadOffset}
 use Rattle.list_form.proofs.offsets.Statement.{statement}
 use Rattle.list_form.proofs.offsets.Tie as tie
 
-read-be-requires : tie.Need-read-be-requires
-read-be-requires c κs = search needs
-
 returns : tie.Need-returns
 returns c = rw (ne-eqb (tableOffsetIn (c .before .before .before .args .list .now)) 20 (λ e. c .if1 .taken (c .before .read-be .ensures .0 ∙ e)))
-
-read-be-requires-2 : tie.Need-read-be-requires-2
-read-be-requires-2 c κs = search needs
-
-mul-if2 : tie.Need-mul-if2
-mul-if2 c = search needs
-
-add-if2 : tie.Need-add-if2
-add-if2 c = search needs
 
 returns-2 : tie.Need-returns-2
 returns-2 c =
@@ -34,4 +22,4 @@ returns-3 c =
 pub offsets-spec : {M : Type 1} → statement M
 offsets-spec =
     tie.close
-    (tie.spec read-be-requires returns read-be-requires-2 mul-if2 add-if2 returns-2 returns-3)
+    (tie.spec (λ c κs. search needs) returns (λ c κs. search needs) (λ c. search needs) (λ c. search needs) returns-2 returns-3)

@@ -19,12 +19,6 @@ Inv-loop list count at₀ i₀ at i =
 abbrev μ-loop : tie.MeasureT-loop
 μ-loop list count at₀ i₀ at i = count - i
 
-mul-at : tie.Need-mul-at Inv-loop μ-loop
-mul-at c = search needs
-
-add-at : tie.Need-add-at Inv-loop μ-loop
-add-at c = search needs
-
 loop-holds : tie.Need-loop-holds Inv-loop μ-loop
 loop-holds c = (omega arith, omega arith, rw slots-all)
 
@@ -37,23 +31,11 @@ returns c =
     let l = c .before .before .before .loop in
     sym (l .inv .2 ∙ formed-stops (length (a .list .now)) (l .at) (l .i) (a .count) (a .list .now) (c .before .before .loop-test .taken) (sym (c .before .slot-formed .ensures) ∙ not-true _ (c .if1 .taken)))
 
-mul-read-be : tie.Need-mul-read-be Inv-loop μ-loop
-mul-read-be c = search needs
-
-add-read-be : tie.Need-add-read-be Inv-loop μ-loop
-add-read-be c = search needs
-
 read-be-requires : tie.Need-read-be-requires Inv-loop μ-loop
 read-be-requires c κs = (omega arith, omega arith)
 
 add-at-2 : tie.Need-add-at-2 Inv-loop μ-loop
 add-at-2 c = omega (arith, c .read-be .ensures .1)
-
-add-i : tie.Need-add-i Inv-loop μ-loop
-add-i c = search needs
-
-loop-less : tie.Need-loop-less Inv-loop μ-loop
-loop-less c = search needs
 
 loop-again : tie.Need-loop-again Inv-loop μ-loop
 loop-again c =
@@ -76,19 +58,5 @@ returns-2 c =
 pub slots-formed-spec : {M : Type 1} → statement M
 slots-formed-spec =
     tie.close
-    (tie.spec
-    Inv-loop
-    μ-loop
-    mul-at
-    add-at
-    loop-holds
-    slot-formed-requires
-    returns
-    mul-read-be
-    add-read-be
-    read-be-requires
-    add-at-2
-    add-i
-    loop-less
-    loop-again
-    returns-2)
+    (tie.spec Inv-loop μ-loop (λ c. search needs) (λ c. search needs) loop-holds slot-formed-requires returns (λ c. search needs)
+    (λ c. search needs) read-be-requires add-at-2 (λ c. search needs) (λ c. search needs) loop-again returns-2)

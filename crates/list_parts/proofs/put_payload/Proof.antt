@@ -14,20 +14,11 @@ returns c = rw (not-true (c .before .before .args .on) (c .if1 .taken)) (put-non
 write-be-requires : tie.Need-write-be-requires
 write-be-requires c κs = let r = payload-room (c .before .before .before .args .on) (c .before .before .before .args .modify) _ _ (c .before .before .before .pre .1) (not-false _ (c .before .if1 .left)) .0 in (omega arith, omega arith)
 
-add-write-be : tie.Need-add-write-be
-add-write-be c = search needs
-
 write-be-requires-2 : tie.Need-write-be-requires-2
 write-be-requires-2 c κs = let r = payload-room (c .before .before .before .before .before .before .before .before .args .on) (c .before .before .before .before .before .before .before .before .args .modify) _ _ (c .before .before .before .before .before .before .before .before .pre .1) (not-false _ (c .before .before .before .before .before .before .if1 .left)) .0 in (omega arith, omega arith)
 
-add-write-be-2 : tie.Need-add-write-be-2
-add-write-be-2 c = search needs
-
 write-be-requires-3 : tie.Need-write-be-requires-3
 write-be-requires-3 c κs = let r = payload-room (c .before .before .before .before .before .before .before .before .before .before .before .before .args .on) (c .before .before .before .before .before .before .before .before .before .before .before .before .args .modify) _ _ (c .before .before .before .before .before .before .before .before .before .before .before .before .pre .1) (not-false _ (c .before .before .before .before .before .before .before .before .before .before .if1 .left)) .1 (c .before .before .before .before .before .if2 .taken) in (omega arith, omega arith)
-
-same-length : tie.Need-same-length
-same-length c = search needs
 
 returns-2 : tie.Need-returns-2
 unfolding choose
@@ -35,44 +26,8 @@ returns-2 c = let on = not-false (c .before .before .before .before .before .bef
     let r = payload-room (c .before .before .before .before .before .before .before .before .before .before .before .before .before .before .before .args .on) (c .before .before .before .before .before .before .before .before .before .before .before .before .before .before .before .args .modify) _ _ (c .before .before .before .before .before .before .before .before .before .before .before .before .before .before .before .pre .1) on .0 in
     rw (on, c .before .before .before .before .before .before .before .before .if2 .taken) (modify-put _ _ _ _ _ _ r (c .before .before .before .before .before .before .before .before .before .before .before .write-be .ensures) _ (c .before .before .before .before .before .before .write-be2 .ensures) (c .before .before .write-be3 .ensures))
 
-flag-of-requires : tie.Need-flag-of-requires
-flag-of-requires c κs = search needs
-
-mul-flags : tie.Need-mul-flags
-mul-flags c = search needs
-
-flag-of-requires-2 : tie.Need-flag-of-requires-2
-flag-of-requires-2 c κs = search needs
-
-mul-flags-2 : tie.Need-mul-flags-2
-mul-flags-2 c = search needs
-
-add-flags : tie.Need-add-flags
-add-flags c = search needs
-
-flag-of-requires-3 : tie.Need-flag-of-requires-3
-flag-of-requires-3 c κs = search needs
-
-add-flags-2 : tie.Need-add-flags-2
-add-flags-2 c = search needs
-
-add-write-be-3 : tie.Need-add-write-be-3
-add-write-be-3 c = search needs
-
-wide-requires : tie.Need-wide-requires
-wide-requires c κs = search needs
-
-mul-write-be : tie.Need-mul-write-be
-mul-write-be c = search needs
-
-add-write-be-4 : tie.Need-add-write-be-4
-add-write-be-4 c = search needs
-
 write-be-requires-4 : tie.Need-write-be-requires-4
 write-be-requires-4 c κs = let r = payload-room (c .before .before .before .before .before .before .before .before .before .before .before .before .args .on) (c .before .before .before .before .before .before .before .before .before .before .before .before .args .modify) _ _ (c .before .before .before .before .before .before .before .before .before .before .before .before .pre .1) (not-false _ (c .before .before .before .before .before .before .before .before .before .before .if1 .left)) .0 in (omega arith, omega arith)
-
-same-length-2 : tie.Need-same-length-2
-same-length-2 c = search needs
 
 returns-3 : tie.Need-returns-3
 unfolding choose
@@ -85,26 +40,7 @@ returns-3 c = let on = not-false (c .before .before .before .before .before .bef
 pub put-payload-spec : {M : Type 1} → statement M
 put-payload-spec =
     tie.close
-    (tie.spec
-    returns
-    write-be-requires
-    add-write-be
-    write-be-requires-2
-    add-write-be-2
-    write-be-requires-3
-    same-length
-    returns-2
-    flag-of-requires
-    mul-flags
-    flag-of-requires-2
-    mul-flags-2
-    add-flags
-    flag-of-requires-3
-    add-flags-2
-    add-write-be-3
-    wide-requires
-    mul-write-be
-    add-write-be-4
-    write-be-requires-4
-    same-length-2
-    returns-3)
+    (tie.spec returns write-be-requires (λ c. search needs) write-be-requires-2 (λ c. search needs) write-be-requires-3 (λ c. search needs)
+    returns-2 (λ c κs. search needs) (λ c. search needs) (λ c κs. search needs) (λ c. search needs) (λ c. search needs)
+    (λ c κs. search needs) (λ c. search needs) (λ c. search needs) (λ c κs. search needs) (λ c. search needs) (λ c. search needs)
+    write-be-requires-4 (λ c. search needs) returns-3)

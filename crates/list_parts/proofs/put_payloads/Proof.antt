@@ -34,29 +34,11 @@ room c =
 loop-holds : tie.Need-loop-holds Inv-loop μ-loop
 loop-holds c = let s = c .before in (omega arith, refl, s .pre, refl)
 
-array-read-unpack : tie.Need-array-read-unpack Inv-loop μ-loop
-array-read-unpack c = search needs
-
-unpack-requires : tie.Need-unpack-requires Inv-loop μ-loop
-unpack-requires c κs = search needs
-
-is-written-requires : tie.Need-is-written-requires Inv-loop μ-loop
-is-written-requires c κs = search needs
-
 put-payload-requires : tie.Need-put-payload-requires Inv-loop μ-loop
 put-payload-requires c κs = (rw (c .before .before .unpack .ensures) (unpacked-isc (getD (c .before .before .before .before .before .before .args .t3) (c .before .before .before .before .loop .i) 0)), omega (arith, room (c .before)))
 
-size-if-requires : tie.Need-size-if-requires Inv-loop μ-loop
-size-if-requires c κs = search needs
-
 add-a : tie.Need-add-a Inv-loop μ-loop
 add-a c = omega (arith, room (c .before .before .before .before .before), c .size-if .ensures .0)
-
-add-i : tie.Need-add-i Inv-loop μ-loop
-add-i c = search needs
-
-loop-less : tie.Need-loop-less Inv-loop μ-loop
-loop-less c = search needs
 
 loop-again : tie.Need-loop-again Inv-loop μ-loop
 loop-again c =
@@ -86,18 +68,5 @@ returns c =
 pub put-payloads-spec : {M : Type 1} → statement M
 put-payloads-spec =
     tie.close
-    (tie.spec
-    Inv-loop
-    μ-loop
-    loop-holds
-    array-read-unpack
-    unpack-requires
-    is-written-requires
-    put-payload-requires
-    size-if-requires
-    add-a
-    add-i
-    loop-less
-    loop-again
-    same-length
-    returns)
+    (tie.spec Inv-loop μ-loop loop-holds (λ c. search needs) (λ c κs. search needs) (λ c κs. search needs) put-payload-requires
+    (λ c κs. search needs) add-a (λ c. search needs) (λ c. search needs) loop-again same-length returns)

@@ -9,9 +9,6 @@ use Rattle.list_parts.proofs.put_slot.Tie as tie
 put-five-requires : tie.Need-put-five-requires
 put-five-requires c κs = (omega arith, omega (arith, rw (c .before .if1 .taken) at (c .before .before .before .pre)))
 
-same-length : tie.Need-same-length
-same-length c = search needs
-
 returns : tie.Need-returns
 unfolding choose
 returns c = rw (c .before .before .before .before .if1 .taken) (c .before .before .put-five .ensures)
@@ -21,4 +18,4 @@ unfolding choose
 returns-2 c = rw (c .if1 .left) (put-none _ _)
 
 pub put-slot-spec : {M : Type 1} → statement M
-put-slot-spec = tie.close (tie.spec put-five-requires same-length returns returns-2)
+put-slot-spec = tie.close (tie.spec put-five-requires (λ c. search needs) returns returns-2)

@@ -30,47 +30,17 @@ room c =
     let l = c .before .before .before .loop in
     room-turn (c .before .before .before .before .before .before .before .args .modify) (l .i) (c .before .before .before .before .before .before .before .args .t4) (search needs) (c .is-written .result) (on-is c) (l .out) (l .out) (l .a) 24 _ (l .inv .3)
 
-group-of-requires : tie.Need-group-of-requires Inv-loop μ-loop
-group-of-requires c κs = search needs
-
-size-of-requires : tie.Need-size-of-requires Inv-loop μ-loop
-size-of-requires c κs = search needs
-
 loop-holds : tie.Need-loop-holds Inv-loop μ-loop
 loop-holds c = let s = c .before .before .before in (omega arith, refl, omega arith, s .pre .1, refl)
-
-array-read-unpack : tie.Need-array-read-unpack Inv-loop μ-loop
-array-read-unpack c = search needs
-
-unpack-requires : tie.Need-unpack-requires Inv-loop μ-loop
-unpack-requires c κs = search needs
-
-is-written-requires : tie.Need-is-written-requires Inv-loop μ-loop
-is-written-requires c κs = search needs
 
 put-slot-requires : tie.Need-put-slot-requires Inv-loop μ-loop
 put-slot-requires c κs = omega (arith, room (c .before))
 
-flag-of-requires : tie.Need-flag-of-requires Inv-loop μ-loop
-flag-of-requires c κs = search needs
-
-mul-a : tie.Need-mul-a Inv-loop μ-loop
-mul-a c = search needs
-
 add-a : tie.Need-add-a Inv-loop μ-loop
 add-a c = omega (arith, room (c .before .before .before .before .before), c .flag-of .ensures .0)
 
-size-if-requires : tie.Need-size-if-requires Inv-loop μ-loop
-size-if-requires c κs = search needs
-
 add-p : tie.Need-add-p Inv-loop μ-loop
 add-p c = omega (arith, c .size-if .ensures .1, c .before .before .before .before .before .before .before .before .before .loop .inv .2, c .before .before .before .before .before .before .before .before .before .before .before .before .before .pre .0, c .before .before .before .before .before .before .before .before .loop-test .taken)
-
-add-i : tie.Need-add-i Inv-loop μ-loop
-add-i c = search needs
-
-loop-less : tie.Need-loop-less Inv-loop μ-loop
-loop-less c = search needs
 
 loop-again : tie.Need-loop-again Inv-loop μ-loop
 loop-again c =
@@ -101,23 +71,6 @@ returns c =
 pub put-slots-spec : {M : Type 1} → statement M
 put-slots-spec =
     tie.close
-    (tie.spec
-    Inv-loop
-    μ-loop
-    group-of-requires
-    size-of-requires
-    loop-holds
-    array-read-unpack
-    unpack-requires
-    is-written-requires
-    put-slot-requires
-    flag-of-requires
-    mul-a
-    add-a
-    size-if-requires
-    add-p
-    add-i
-    loop-less
-    loop-again
-    same-length
-    returns)
+    (tie.spec Inv-loop μ-loop (λ c κs. search needs) (λ c κs. search needs) loop-holds (λ c. search needs) (λ c κs. search needs)
+    (λ c κs. search needs) put-slot-requires (λ c κs. search needs) (λ c. search needs) add-a (λ c κs. search needs) add-p
+    (λ c. search needs) (λ c. search needs) loop-again same-length returns)

@@ -4,9 +4,6 @@ use borrow.Author.Needs.{needs}
 use Rattle.list_parts.proofs.size_if.Statement.{statement}
 use Rattle.list_parts.proofs.size_if.Tie as tie
 
-size-of-requires : tie.Need-size-of-requires
-size-of-requires c κs = search needs
-
 returns : tie.Need-returns
 returns c = rw (c .before .if1 .taken) (omega (arith, c .size-of .ensures .0), c .size-of .ensures .1)
 
@@ -14,4 +11,4 @@ returns-2 : tie.Need-returns-2
 returns-2 c = rw (c .if1 .left) (omega arith, omega arith)
 
 pub size-if-spec : {M : Type 1} → statement M
-size-if-spec = tie.close (tie.spec size-of-requires returns returns-2)
+size-if-spec = tie.close (tie.spec (λ c κs. search needs) returns returns-2)

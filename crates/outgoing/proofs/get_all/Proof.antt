@@ -21,28 +21,13 @@ room c =
     let a = f .args in
     omega (arith, c .before .before .pending .ensures .0 (a .order .now) (a .slots .now) (f .pre))
 
-refuse-requires : tie.Need-refuse-requires
-refuse-requires c κs = search needs
-
 returns : tie.Need-returns
 unfolding request
 returns c = (λ L s e. refused L s _ _ _ 22 _ refl (fails _ _ _ (ap not (eq-eqb _ 0 (c .before .if1 .taken)))) (c .refuse .ensures), λ k. refl)
 
-refuse-requires-2 : tie.Need-refuse-requires-2
-refuse-requires-2 c κs = search needs
-
 returns-2 : tie.Need-returns-2
 unfolding request
 returns-2 c = (λ L s e. refused L s _ _ _ 14 _ refl (passes _ _ _ (ap not (ne-eqb _ 0 (c .before .before .if1 .left))) ∙ fails _ _ _ (lt-leb _ _ (c .before .if2 .taken))) (c .refuse2 .ensures), λ k. refl)
-
-pending-requires : tie.Need-pending-requires
-pending-requires c κs = search needs
-
-mul-if3 : tie.Need-mul-if3
-mul-if3 c = search needs
-
-refuse-requires-3 : tie.Need-refuse-requires-3
-refuse-requires-3 c κs = search needs
 
 returns-3 : tie.Need-returns-3
 unfolding request
@@ -53,12 +38,6 @@ returns-3 c =
 
 list-all-requires : tie.Need-list-all-requires
 list-all-requires c κs = (c .before .before .before .before .before .before .pre, room c)
-
-accept-requires : tie.Need-accept-requires
-accept-requires c κs = search needs
-
-same-length : tie.Need-same-length
-same-length c = search needs
 
 returns-4 : tie.Need-returns-4
 unfolding request
@@ -79,16 +58,5 @@ returns-4 c =
 pub get-all-spec : {M : Type 1} → statement M
 get-all-spec =
     tie.close
-    (tie.spec
-    refuse-requires
-    returns
-    refuse-requires-2
-    returns-2
-    pending-requires
-    mul-if3
-    refuse-requires-3
-    returns-3
-    list-all-requires
-    accept-requires
-    same-length
-    returns-4)
+    (tie.spec (λ c κs. search needs) returns (λ c κs. search needs) returns-2 (λ c κs. search needs) (λ c. search needs)
+    (λ c κs. search needs) returns-3 list-all-requires (λ c κs. search needs) (λ c. search needs) returns-4)

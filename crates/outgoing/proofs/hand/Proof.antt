@@ -7,15 +7,6 @@ use lib.Seq.{take-all}
 use Rattle.outgoing.proofs.hand.Statement.{statement}
 use Rattle.outgoing.proofs.hand.Tie as tie
 
-save-requires : tie.Need-save-requires
-save-requires c κs = search needs
-
-accept-requires : tie.Need-accept-requires
-accept-requires c κs = search needs
-
-same-length : tie.Need-same-length
-same-length c = search needs
-
 returns : tie.Need-returns
 returns c =
     let d = c .before .before .before in
@@ -24,4 +15,4 @@ returns c =
     (c .accept .ensures, d .save .ensures ∙ rw (take-all 72 (f .args .r) (omega arith)))
 
 pub hand-spec : {M : Type 1} → statement M
-hand-spec = tie.close (tie.spec save-requires accept-requires same-length returns)
+hand-spec = tie.close (tie.spec (λ c κs. search needs) (λ c κs. search needs) (λ c. search needs) returns)

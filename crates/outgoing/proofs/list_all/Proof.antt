@@ -54,31 +54,10 @@ mchk-room c r e = room-more _ _ _ _ (service c) _ r e _ (room (c .before .before
 list-requires : tie.Need-list-requires
 list-requires c κs = (c .before .before .pre .0, fits c)
 
-queued-requires : tie.Need-queued-requires
-queued-requires c κs = search needs
-
-mul-at : tie.Need-mul-at
-mul-at c = search needs
-
-has-service-requires : tie.Need-has-service-requires
-has-service-requires c κs = search needs
-
-read-service-requires : tie.Need-read-service-requires
-read-service-requires c κs = search needs
-
 save-requires : tie.Need-save-requires
 save-requires c κs =
     let d = c .before .before .before in
     omega (arith, service-room (d .before) _ (service-there _ _ _ (d .has-service .ensures) (c .before .before .if1 .taken) (c .read-service .ensures)), wrote (d .before) .long)
-
-add-at : tie.Need-add-at
-add-at c = search needs
-
-has-mchk-requires : tie.Need-has-mchk-requires
-has-mchk-requires c κs = search needs
-
-read-mchk-requires : tie.Need-read-mchk-requires
-read-mchk-requires c κs = search needs
 
 save-requires-2 : tie.Need-save-requires-2
 save-requires-2 c κs =
@@ -108,18 +87,5 @@ returns-2 c =
 pub list-all-spec : {M : Type 1} → statement M
 list-all-spec =
     tie.close
-    (tie.spec
-    list-requires
-    queued-requires
-    mul-at
-    has-service-requires
-    read-service-requires
-    save-requires
-    add-at
-    has-mchk-requires
-    read-mchk-requires
-    save-requires-2
-    same-length
-    returns
-    same-length-2
-    returns-2)
+    (tie.spec list-requires (λ c κs. search needs) (λ c. search needs) (λ c κs. search needs) (λ c κs. search needs) save-requires
+    (λ c. search needs) (λ c κs. search needs) (λ c κs. search needs) save-requires-2 same-length returns same-length-2 returns-2)

@@ -10,12 +10,6 @@ use Rattle.play.proofs.Laws.{as-state}
 use Rattle.play.proofs.apply.Statement.{statement}
 use Rattle.play.proofs.apply.Tie as tie
 
-enqueue-irqs-requires : tie.Need-enqueue-irqs-requires
-enqueue-irqs-requires c κs = search needs
-
-by-fields-requires : tie.Need-by-fields-requires
-by-fields-requires c κs = search needs
-
 returns : tie.Need-returns
 unfolding request
 returns c =
@@ -24,12 +18,6 @@ returns c =
       as-answer (limitsFrom (f .args .places) (f .args .room)) _ (f .args .attr) (f .args .payload .now) _ 2 (c .before .before .before .before .before .before .if1 .taken) (c .by-fields .ensures) (e .0 _ _ refl refl),
       (e .1 .0, f .pre .3),
     )
-
-about-requires : tie.Need-about-requires
-about-requires c κs = search needs
-
-look-up-requires : tie.Need-look-up-requires
-look-up-requires c κs = search needs
 
 set-values-requires : tie.Need-set-values-requires
 set-values-requires c κs =
@@ -40,12 +28,6 @@ put-requires : tie.Need-put-requires
 put-requires c κs =
     let f = c .before .before .before .before .before .before .before .before .before in
     (f .pre .1, f .pre .3, c .before .before .before .set-values .ensures (f .args .room) .canonical (c .before .before .before .before .look-up .ensures .1))
-
-by-fields-requires-2 : tie.Need-by-fields-requires-2
-by-fields-requires-2 c κs = search needs
-
-by-fields-requires-3 : tie.Need-by-fields-requires-3
-by-fields-requires-3 c κs = search needs
 
 returns-2 : tie.Need-returns-2
 returns-2 c =
@@ -63,14 +45,5 @@ returns-2 c =
 pub apply-spec : {M : Type 1} → statement M
 apply-spec =
     tie.close
-    (tie.spec
-    enqueue-irqs-requires
-    by-fields-requires
-    returns
-    about-requires
-    look-up-requires
-    set-values-requires
-    put-requires
-    by-fields-requires-2
-    by-fields-requires-3
-    returns-2)
+    (tie.spec (λ c κs. search needs) (λ c κs. search needs) returns (λ c κs. search needs) (λ c κs. search needs) set-values-requires
+    put-requires (λ c κs. search needs) (λ c κs. search needs) returns-2)

@@ -42,12 +42,6 @@ returns c =
       r .ensures .1,
     )
 
-add-i : tie.Need-add-i Inv-loop μ-loop
-add-i c = search needs
-
-loop-less : tie.Need-loop-less Inv-loop μ-loop
-loop-less c = search needs
-
 loop-again : tie.Need-loop-again Inv-loop μ-loop
 loop-again c =
     let a = c .before .before .before .before .before .before .before .before .before .before .before .args in
@@ -58,9 +52,6 @@ loop-again c =
       r .ensures .1 .1,
       l .inv .3 ∙ applies-next _ _ _ (a .list .now) (r .result .answer) (l .i) (a .count) (c .before .before .before .before .before .before .before .before .loop-test .taken) (r .ensures .0) (c .if1 .left),
     )
-
-accept-requires : tie.Need-accept-requires Inv-loop μ-loop
-accept-requires c κs = search needs
 
 returns-2 : tie.Need-returns-2 Inv-loop μ-loop
 returns-2 c =
@@ -75,14 +66,5 @@ returns-2 c =
 pub apply-all-spec : {M : Type 1} → statement M
 apply-all-spec =
     tie.close
-    (tie.spec
-    Inv-loop
-    μ-loop
-    loop-holds
-    apply-at-requires
-    returns
-    add-i
-    loop-less
-    loop-again
-    accept-requires
+    (tie.spec Inv-loop μ-loop loop-holds apply-at-requires returns (λ c. search needs) (λ c. search needs) loop-again (λ c κs. search needs)
     returns-2)

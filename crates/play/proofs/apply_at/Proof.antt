@@ -18,45 +18,6 @@ ends-within : (c : tie.After-read-be3) → c .before .before .read-be .result + 
 ends-within c =
     omega (arith, size-is c, c .before .before .read-be .ensures .0, slot-within (c .before .before .before .before .args .list .now) (c .before .before .before .before .args .place) (c .before .before .before .before .pre .4) (c .before .before .before .before .pre .5) .0)
 
-mul-e : tie.Need-mul-e
-mul-e c = search needs
-
-add-e : tie.Need-add-e
-add-e c = search needs
-
-read-be-requires : tie.Need-read-be-requires
-read-be-requires c κs = search needs
-
-add-read-be : tie.Need-add-read-be
-add-read-be c = search needs
-
-read-be-requires-2 : tie.Need-read-be-requires-2
-read-be-requires-2 c κs = search needs
-
-cast-group : tie.Need-cast-group
-cast-group c = search needs
-
-add-read-be-2 : tie.Need-add-read-be-2
-add-read-be-2 c = search needs
-
-read-be-requires-3 : tie.Need-read-be-requires-3
-read-be-requires-3 c κs = search needs
-
-add-end : tie.Need-add-end
-add-end c = search needs
-
-add-read-doubleword : tie.Need-add-read-doubleword
-add-read-doubleword c = search needs
-
-read-doubleword-requires : tie.Need-read-doubleword-requires
-read-doubleword-requires c κs = search needs
-
-sub-apply : tie.Need-sub-apply
-sub-apply c = search needs
-
-part-apply-start : tie.Need-part-apply-start
-part-apply-start c = search needs
-
 part-apply-end : tie.Need-part-apply-end
 part-apply-end c = ends-within (c .before .before .before .before .before .before)
 
@@ -80,20 +41,6 @@ returns c =
 pub apply-at-spec : {M : Type 1} → statement M
 apply-at-spec =
     tie.close
-    (tie.spec
-    mul-e
-    add-e
-    read-be-requires
-    add-read-be
-    read-be-requires-2
-    cast-group
-    add-read-be-2
-    read-be-requires-3
-    add-end
-    add-read-doubleword
-    read-doubleword-requires
-    sub-apply
-    part-apply-start
-    part-apply-end
-    apply-requires
-    returns)
+    (tie.spec (λ c. search needs) (λ c. search needs) (λ c κs. search needs) (λ c. search needs) (λ c κs. search needs) (λ c. search needs)
+    (λ c. search needs) (λ c κs. search needs) (λ c. search needs) (λ c. search needs) (λ c κs. search needs) (λ c. search needs)
+    (λ c. search needs) part-apply-end apply-requires returns)

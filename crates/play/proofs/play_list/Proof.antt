@@ -9,12 +9,6 @@ use Rattle.play.proofs.play_list.Statement.{statement}
 use Rattle.play.proofs.play_list.Tie as tie
 use Rattle.image.specs.Image.{imageSize}
 
-form-requires : tie.Need-form-requires
-form-requires c κs = search needs
-
-not-played-requires : tie.Need-not-played-requires
-not-played-requires c κs = search needs
-
 returns : tie.Need-returns
 returns c =
     let s = c .before .before .before .before in
@@ -27,31 +21,13 @@ returns c =
       ),
     )
 
-empty-requires : tie.Need-empty-requires
-empty-requires c κs = search needs
-
-fresh-requires : tie.Need-fresh-requires
-fresh-requires c κs = search needs
-
 read-be-requires : tie.Need-read-be-requires
 read-be-requires c κs = let t = c .before .before .before .before .before .before .form .ensures .good (c .before .before .before .before .before .if1 .left) .table in (omega arith, omega arith)
-
-fresh-device-requires : tie.Need-fresh-device-requires
-fresh-device-requires c κs = search needs
 
 apply-all-requires : tie.Need-apply-all-requires
 apply-all-requires c κs =
     let s = c .before .before .before .before .before .before .before .before .before .before .before .before .before .before .before in
     (s .pre .0, s .pre .2, c .before .before .before .before .before .before .before .fresh .ensures .0, rw (c .before .before .before .before .before .before .before .before .before .before .before .empty .ensures) (canonical-zeros imageSize), c .before .before .before .before .before .before .before .before .before .before .before .before .before .form .ensures .good (c .before .before .before .before .before .before .before .before .before .before .before .before .if1 .left), c .before .before .before .before .before .before .read-be .ensures .0)
-
-fresh-requires-2 : tie.Need-fresh-requires-2
-fresh-requires-2 c κs = search needs
-
-fresh-device-requires-2 : tie.Need-fresh-device-requires-2
-fresh-device-requires-2 c κs = search needs
-
-empty-requires-2 : tie.Need-empty-requires-2
-empty-requires-2 c κs = search needs
 
 returns-2 : tie.Need-returns-2
 returns-2 c =
@@ -86,17 +62,5 @@ returns-3 c =
 pub play-list-spec : {M : Type 1} → statement M
 play-list-spec =
     tie.close
-    (tie.spec
-    form-requires
-    not-played-requires
-    returns
-    empty-requires
-    fresh-requires
-    read-be-requires
-    fresh-device-requires
-    apply-all-requires
-    fresh-requires-2
-    fresh-device-requires-2
-    empty-requires-2
-    returns-2
-    returns-3)
+    (tie.spec (λ c κs. search needs) (λ c κs. search needs) returns (λ c κs. search needs) (λ c κs. search needs) read-be-requires
+    (λ c κs. search needs) apply-all-requires (λ c κs. search needs) (λ c κs. search needs) (λ c κs. search needs) returns-2 returns-3)

@@ -7,11 +7,8 @@ use Rattle.printing.proofs.capable.Tie as tie
 returns : tie.Need-returns
 returns c = (λ h. absurd (omega arith))
 
-read-be-requires : tie.Need-read-be-requires
-read-be-requires c κs = search needs
-
 returns-2 : tie.Need-returns-2
 returns-2 c = (λ h. rw (c .read-be .ensures .0))
 
 pub capable-spec : {M : Type 1} → statement M
-capable-spec = tie.close (tie.spec returns read-be-requires returns-2)
+capable-spec = tie.close (tie.spec returns (λ c κs. search needs) returns-2)

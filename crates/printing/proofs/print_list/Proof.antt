@@ -27,29 +27,11 @@ answered c =
     printed-is _ _ _ (p .result .restored) _ _ (f .before .before .before .before .if1 .left) (c .before .capable .ensures) a refl
     (λ z. let k = p .ensures .1 .1 .1 .1 z in rw (k .0, k .1, k .2, k .3) (sym e))
 
-write-refusal-requires : tie.Need-write-refusal-requires
-write-refusal-requires c κs = search needs
-
 returns : tie.Need-returns
 returns c = whole _ (c .write-refusal .ensures) (too-long _ (c .before .before .if1 .taken))
 
-fresh-requires : tie.Need-fresh-requires
-fresh-requires c κs = search needs
-
-capable-requires : tie.Need-capable-requires
-capable-requires c κs = search needs
-
-play-list-requires : tie.Need-play-list-requires
-play-list-requires c κs = search needs
-
-write-refusal-requires-2 : tie.Need-write-refusal-requires-2
-write-refusal-requires-2 c κs = search needs
-
 returns-2 : tie.Need-returns-2
 returns-2 c = whole _ (c .write-refusal2 .ensures) (answered (c .before .before .before) ∙ passed _ _ _ (ne-eqb _ 0 (c .before .before .if2 .taken)))
-
-write-pending-requires : tie.Need-write-pending-requires
-write-pending-requires c κs = search needs
 
 returns-3 : tie.Need-returns-3
 returns-3 c =
@@ -59,13 +41,5 @@ returns-3 c =
 pub print-list-spec : {M : Type 1} → statement M
 print-list-spec =
     tie.close
-    (tie.spec
-    write-refusal-requires
-    returns
-    fresh-requires
-    capable-requires
-    play-list-requires
-    write-refusal-requires-2
-    returns-2
-    write-pending-requires
-    returns-3)
+    (tie.spec (λ c κs. search needs) returns (λ c κs. search needs) (λ c κs. search needs) (λ c κs. search needs) (λ c κs. search needs)
+    returns-2 (λ c κs. search needs) returns-3)

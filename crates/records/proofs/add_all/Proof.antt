@@ -24,21 +24,12 @@ abbrev μ-loop : tie.MeasureT-loop
 loop-holds : tie.Need-loop-holds Inv-loop μ-loop
 loop-holds c = (omega arith, c .before .pre .2, c .before .pre .3, rw records-all (c .before .pre .4), rw records-all, λ z. (refl, refl, refl, refl))
 
-mul-add-one : tie.Need-mul-add-one Inv-loop μ-loop
-mul-add-one c = search needs
-
 add-one-requires : tie.Need-add-one-requires Inv-loop μ-loop
 add-one-requires c κs =
     let j = c .before .before .before .before .before in
     let f = j .before .before in
     let v = j .loop .inv in
     (omega arith, v .1, v .2, omega (arith, v .3, want-next (j .loop .i) (f .args .n) (f .args .b .now) (c .before .before .before .before .loop-test .taken)))
-
-add-i : tie.Need-add-i Inv-loop μ-loop
-add-i c = search needs
-
-loop-less : tie.Need-loop-less Inv-loop μ-loop
-loop-less c = search needs
 
 loop-again : tie.Need-loop-again Inv-loop μ-loop
 loop-again c =
@@ -64,13 +55,4 @@ returns c =
 pub add-all-spec : {M : Type 1} → statement M
 add-all-spec =
     tie.close
-    (tie.spec
-    Inv-loop
-    μ-loop
-    loop-holds
-    mul-add-one
-    add-one-requires
-    add-i
-    loop-less
-    loop-again
-    returns)
+    (tie.spec Inv-loop μ-loop loop-holds (λ c. search needs) add-one-requires (λ c. search needs) (λ c. search needs) loop-again returns)

@@ -11,18 +11,6 @@ use Rattle.records.proofs.Laws.{good-few}
 use Rattle.records.proofs.answer_to.Statement.{statement}
 use Rattle.records.proofs.answer_to.Tie as tie
 
-check-requires : tie.Need-check-requires
-check-requires c κs = search needs
-
-enum-known-wanted : tie.Need-enum-known-wanted
-enum-known-wanted c = search needs
-
-enum-told : tie.Need-enum-told
-enum-told c = search needs
-
-refuse-requires : tie.Need-refuse-requires
-refuse-requires c κs = search needs
-
 returns : tie.Need-returns
 unfolding answerTo
 returns c =
@@ -35,9 +23,6 @@ add-if1 c =
     let f = c .before .before .before .before .before in
     omega (arith, f .pre .2, good-few (f .args .n) _ (f .args .b .now) (sym (c .before .wanted .given .1) ∙ c .before .before .before .check .ensures))
 
-refuse-requires-2 : tie.Need-refuse-requires-2
-refuse-requires-2 c κs = search needs
-
 returns-2 : tie.Need-returns-2
 unfolding answerTo
 returns-2 c =
@@ -46,9 +31,6 @@ returns-2 c =
     let w = k .wanted .given .0 .0 in
     c .refuse2 .ensures ∙ sym (passed _ _ _ (lt-leb (f .args .queued + w) (f .args .room) (c .before .if1 .taken)))
     ∙ ap (λ (x : Checked). answerTo x (f .args .n) (f .args .queued) (f .args .room)) (sym (k .wanted .given .1) ∙ k .before .before .check .ensures)
-
-accept-requires : tie.Need-accept-requires
-accept-requires c κs = search needs
 
 returns-3 : tie.Need-returns-3
 unfolding answerTo
@@ -62,14 +44,5 @@ returns-3 c =
 pub answer-to-spec : {M : Type 1} → statement M
 answer-to-spec =
     tie.close
-    (tie.spec
-    check-requires
-    enum-known-wanted
-    enum-told
-    refuse-requires
-    returns
-    add-if1
-    refuse-requires-2
-    returns-2
-    accept-requires
-    returns-3)
+    (tie.spec (λ c κs. search needs) (λ c. search needs) (λ c. search needs) (λ c κs. search needs) returns add-if1 (λ c κs. search needs)
+    returns-2 (λ c κs. search needs) returns-3)

@@ -25,18 +25,6 @@ abbrev μ-loop : tie.MeasureT-loop
 loop-holds : tie.Need-loop-holds Inv-loop μ-loop
 loop-holds c = (omega arith, omega arith, rw records-all)
 
-mul-kind-at : tie.Need-mul-kind-at Inv-loop μ-loop
-mul-kind-at c = search needs
-
-kind-at-requires : tie.Need-kind-at-requires Inv-loop μ-loop
-kind-at-requires c κs = search needs
-
-add-wanted : tie.Need-add-wanted Inv-loop μ-loop
-add-wanted c = search needs
-
-enum-told : tie.Need-enum-told Inv-loop μ-loop
-enum-told c = search needs
-
 returns : tie.Need-returns Inv-loop μ-loop
 unfolding kindAccepted
 returns c =
@@ -46,12 +34,6 @@ returns c =
     let r : Record = part (j .loop .place * 72) 72 (a .b .now) in
     let k = kind-known (kind r) (subclass r) _ (c .before .before .kind-at .ensures) ∙ ap kindFor (c .enum-told .given .1) in
     sym (j .loop .inv .2 ∙ check-stops (j .loop .place) (a .n) _ (a .b .now) (c .before .before .before .loop-test .taken) (rw k))
-
-add-place : tie.Need-add-place Inv-loop μ-loop
-add-place c = search needs
-
-loop-less : tie.Need-loop-less Inv-loop μ-loop
-loop-less c = search needs
 
 loop-again : tie.Need-loop-again Inv-loop μ-loop
 loop-again c =
@@ -73,16 +55,5 @@ returns-2 c =
 pub check-spec : {M : Type 1} → statement M
 check-spec =
     tie.close
-    (tie.spec
-    Inv-loop
-    μ-loop
-    loop-holds
-    mul-kind-at
-    kind-at-requires
-    add-wanted
-    enum-told
-    returns
-    add-place
-    loop-less
-    loop-again
-    returns-2)
+    (tie.spec Inv-loop μ-loop loop-holds (λ c. search needs) (λ c κs. search needs) (λ c. search needs) (λ c. search needs) returns
+    (λ c. search needs) (λ c. search needs) loop-again returns-2)

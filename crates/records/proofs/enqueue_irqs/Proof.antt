@@ -18,9 +18,6 @@ use Rattle.records.proofs.Laws.{queued-total, add-none, answer-good, en
 use Rattle.records.proofs.enqueue_irqs.Statement.{statement}
 use Rattle.records.proofs.enqueue_irqs.Tie as tie
 
-refuse-requires : tie.Need-refuse-requires
-refuse-requires c κs = search needs
-
 returns : tie.Need-returns
 unfolding request
 returns c =
@@ -30,9 +27,6 @@ returns c =
       (f .pre .1, λ k. (refl, refl, refl, refl)),
     )
 
-refuse-requires-2 : tie.Need-refuse-requires-2
-refuse-requires-2 c κs = search needs
-
 returns-2 : tie.Need-returns-2
 unfolding request
 returns-2 c =
@@ -41,9 +35,6 @@ returns-2 c =
           (fails _ _ _ (rw (ne-eqb (f .args .attr) 0 (c .before .before .if1 .left), lt-leb (f .args .attr) enqueueBytes (c .before .if2 .taken)))) (c .refuse2 .ensures),
       (f .pre .1, λ k. (refl, refl, refl, refl)),
     )
-
-refuse-requires-3 : tie.Need-refuse-requires-3
-refuse-requires-3 c κs = search needs
 
 returns-3 : tie.Need-returns-3
 unfolding request
@@ -59,9 +50,6 @@ returns-3 c =
       (f .pre .1, λ k. (refl, refl, refl, refl)),
     )
 
-refuse-requires-4 : tie.Need-refuse-requires-4
-refuse-requires-4 c κs = search needs
-
 returns-4 : tie.Need-returns-4
 returns-4 c =
     let f = c .before .before .before .before .before .before in
@@ -71,9 +59,6 @@ returns-4 c =
           ∙ fails _ _ _ (lt-leb (a .attr) (length (a .payload .now)) (c .before .if4 .taken))) (c .refuse4 .ensures),
       (f .pre .1, λ k. (refl, refl, refl, refl)),
     )
-
-queued-requires : tie.Need-queued-requires
-queued-requires c κs = search needs
 
 answer-to-requires : tie.Need-answer-to-requires
 answer-to-requires c κs =
@@ -138,16 +123,5 @@ returns-5 c =
 pub enqueue-irqs-spec : {M : Type 1} → statement M
 enqueue-irqs-spec =
     tie.close
-    (tie.spec
-    refuse-requires
-    returns
-    refuse-requires-2
-    returns-2
-    refuse-requires-3
-    returns-3
-    refuse-requires-4
-    returns-4
-    queued-requires
-    answer-to-requires
-    add-all-requires
-    returns-5)
+    (tie.spec (λ c κs. search needs) returns (λ c κs. search needs) returns-2 (λ c κs. search needs) returns-3 (λ c κs. search needs)
+    returns-4 (λ c κs. search needs) answer-to-requires add-all-requires returns-5)

@@ -8,12 +8,6 @@ use Rattle.records.proofs.Laws.{kind-at-is}
 use Rattle.records.proofs.kind_at.Statement.{statement}
 use Rattle.records.proofs.kind_at.Tie as tie
 
-read-doubleword-requires : tie.Need-read-doubleword-requires
-read-doubleword-requires c κs = search needs
-
-subclass-at-requires : tie.Need-subclass-at-requires
-subclass-at-requires c κs = search needs
-
 returns : tie.Need-returns
 unfolding asCase choose rules.kindOf
 returns c =
@@ -72,11 +66,4 @@ returns-5 c =
 pub kind-at-spec : {M : Type 1} → statement M
 kind-at-spec =
     tie.close
-    (tie.spec
-    read-doubleword-requires
-    subclass-at-requires
-    returns
-    returns-2
-    returns-3
-    returns-4
-    returns-5)
+    (tie.spec (λ c κs. search needs) (λ c κs. search needs) returns returns-2 returns-3 returns-4 returns-5)

@@ -8,15 +8,6 @@ use Rattle.records.proofs.Laws.{field-part}
 use Rattle.records.proofs.subclass_at.Statement.{statement}
 use Rattle.records.proofs.subclass_at.Tie as tie
 
-add-read-be : tie.Need-add-read-be
-add-read-be c = search needs
-
-read-be-requires : tie.Need-read-be-requires
-read-be-requires c κs = search needs
-
-cast-t7 : tie.Need-cast-t7
-cast-t7 c = search needs
-
 returns : tie.Need-returns
 unfolding subclass
 returns c =
@@ -24,4 +15,4 @@ returns c =
     ap (λ (w : ℕ). record { 0 = w / 2 ^ 27 % 8 }) (c .read-be .ensures .0 ∙ sym (field-part 16 4 (a .at) (a .b .now) (omega arith)))
 
 pub subclass-at-spec : {M : Type 1} → statement M
-subclass-at-spec = tie.close (tie.spec add-read-be read-be-requires cast-t7 returns)
+subclass-at-spec = tie.close (tie.spec (λ c. search needs) (λ c κs. search needs) (λ c. search needs) returns)

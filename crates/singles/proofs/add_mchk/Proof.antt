@@ -11,18 +11,6 @@ use Rattle.singles.proofs.Laws.{absent, saved, kept, second-mchk, secon
 use Rattle.singles.proofs.add_mchk.Statement.{statement}
 use Rattle.singles.proofs.add_mchk.Tie as tie
 
-element-copy-out-if1 : tie.Need-element-copy-out-if1
-element-copy-out-if1 c = search needs
-
-save-requires : tie.Need-save-requires
-save-requires c κs = search needs
-
-element-write-g : tie.Need-element-write-g
-element-write-g c = search needs
-
-merge-requires : tie.Need-merge-requires
-merge-requires c κs = search needs
-
 returns : tie.Need-returns
 unfolding serviceOf mchkOf
 returns c =
@@ -45,4 +33,4 @@ returns-2 c =
 pub add-mchk-spec : {M : Type 1} → statement M
 add-mchk-spec =
     tie.close
-    (tie.spec element-copy-out-if1 save-requires element-write-g merge-requires returns returns-2)
+    (tie.spec (λ c. search needs) (λ c κs. search needs) (λ c. search needs) (λ c κs. search needs) returns returns-2)

@@ -11,15 +11,6 @@ use Rattle.singles.proofs.Laws.{absent, there, saved, kept}
 use Rattle.singles.proofs.add_service.Statement.{statement}
 use Rattle.singles.proofs.add_service.Tie as tie
 
-element-copy-out-if1 : tie.Need-element-copy-out-if1
-element-copy-out-if1 c = search needs
-
-save-requires : tie.Need-save-requires
-save-requires c κs = search needs
-
-element-write-g : tie.Need-element-write-g
-element-write-g c = search needs
-
 returns : tie.Need-returns
 unfolding serviceOf mchkOf
 returns c =
@@ -40,4 +31,4 @@ returns-2 c =
 
 pub add-service-spec : {M : Type 1} → statement M
 add-service-spec =
-    tie.close (tie.spec element-copy-out-if1 save-requires element-write-g returns returns-2)
+    tie.close (tie.spec (λ c. search needs) (λ c κs. search needs) (λ c. search needs) returns returns-2)

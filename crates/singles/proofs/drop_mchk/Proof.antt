@@ -6,9 +6,6 @@ use Rattle.singles.proofs.Laws.{absent, cleared, other}
 use Rattle.singles.proofs.drop_mchk.Statement.{statement}
 use Rattle.singles.proofs.drop_mchk.Tie as tie
 
-element-write-g : tie.Need-element-write-g
-element-write-g c = search needs
-
 returns : tie.Need-returns
 unfolding serviceOf mchkOf
 returns c =
@@ -16,4 +13,4 @@ returns c =
     (absent _ _ (cleared g 145), other g 0 145 0 (omega arith) 144 (omega arith))
 
 pub drop-mchk-spec : {M : Type 1} → statement M
-drop-mchk-spec = tie.close (tie.spec element-write-g returns)
+drop-mchk-spec = tie.close (tie.spec (λ c. search needs) returns)

@@ -6,9 +6,6 @@ use Rattle.singles.proofs.Laws.{absent, cleared, other}
 use Rattle.singles.proofs.drop_service.Statement.{statement}
 use Rattle.singles.proofs.drop_service.Tie as tie
 
-element-write-g : tie.Need-element-write-g
-element-write-g c = search needs
-
 returns : tie.Need-returns
 unfolding serviceOf mchkOf
 returns c =
@@ -16,4 +13,4 @@ returns c =
     (absent _ _ (cleared g 144), other g 72 144 0 (omega arith) 145 (omega arith))
 
 pub drop-service-spec : {M : Type 1} → statement M
-drop-service-spec = tie.close (tie.spec element-write-g returns)
+drop-service-spec = tie.close (tie.spec (λ c. search needs) returns)

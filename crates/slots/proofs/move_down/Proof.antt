@@ -21,30 +21,12 @@ loop-holds c =
     let a = c .args in
     (omega arith, omega arith, refl, paste-none (a .o .now) (a .lo) (drop (a .lo + 1) (a .o .now)) (a .lo - a .lo) (omega arith))
 
-add-o : tie.Need-add-o Inv-loop μ-loop
-add-o c = search needs
-
-slice-read-o : tie.Need-slice-read-o Inv-loop μ-loop
-slice-read-o c = search needs
-
-slice-write-o : tie.Need-slice-write-o Inv-loop μ-loop
-slice-write-o c = search needs
-
-add-i : tie.Need-add-i Inv-loop μ-loop
-add-i c = search needs
-
-loop-less : tie.Need-loop-less Inv-loop μ-loop
-loop-less c = search needs
-
 loop-again : tie.Need-loop-again Inv-loop μ-loop
 loop-again c =
     let a = c .before .before .before .args in
     let l = c .before .before .loop in
     let t = down-turn (l .o) (a .o .now) (a .lo) (a .end) (l .i) 0 (omega arith) (omega arith) (omega arith) (l .inv .3) in
     (omega arith, omega arith, simp length-set (l .inv .2), t)
-
-same-length : tie.Need-same-length Inv-loop μ-loop
-same-length c = search needs
 
 returns : tie.Need-returns Inv-loop μ-loop
 returns c =
@@ -54,15 +36,5 @@ returns c =
 pub move-down-spec : {M : Type 1} → statement M
 move-down-spec =
     tie.close
-    (tie.spec
-    Inv-loop
-    μ-loop
-    loop-holds
-    add-o
-    slice-read-o
-    slice-write-o
-    add-i
-    loop-less
-    loop-again
-    same-length
-    returns)
+    (tie.spec Inv-loop μ-loop loop-holds (λ c. search needs) (λ c. search needs) (λ c. search needs) (λ c. search needs) (λ c. search needs)
+    loop-again (λ c. search needs) returns)

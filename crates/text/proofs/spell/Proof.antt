@@ -25,26 +25,8 @@ loop-holds c =
     let e : a .n - a .n ≡ 0 = omega arith in
     (omega arith, refl, rw (e, pow-zero, div-one), paste-none (a .out .now) (a .at + a .n) (digits (a .base) (a .n - a .n) (a .v)) (a .n - a .n) e)
 
-sub-i : tie.Need-sub-i Inv-loop μ-loop
-sub-i c = search needs
-
-rem-letter : tie.Need-rem-letter Inv-loop μ-loop
-rem-letter c = search needs
-
 letter-requires : tie.Need-letter-requires Inv-loop μ-loop
 letter-requires c κs = lt-of-lt-of-le (mod-lt _ (omega arith)) (omega arith)
-
-add-out : tie.Need-add-out Inv-loop μ-loop
-add-out c = search needs
-
-slice-write-out : tie.Need-slice-write-out Inv-loop μ-loop
-slice-write-out c = search needs
-
-div-w : tie.Need-div-w Inv-loop μ-loop
-div-w c = search needs
-
-loop-less : tie.Need-loop-less Inv-loop μ-loop
-loop-less c = search needs
 
 loop-again : tie.Need-loop-again Inv-loop μ-loop
 loop-again c =
@@ -53,12 +35,6 @@ loop-again c =
     let l = c .before .before .loop in
     let t = spell-turn (l .out) (a .out .now) (a .at) (a .base) (a .n) (l .i) (a .v) (l .w) (omega arith) (omega arith) (omega arith) (l .inv .2) (l .inv .3) in
     (omega arith, simp length-set (l .inv .1), t .0, rw (c .letter .ensures) (t .1))
-
-add-result : tie.Need-add-result Inv-loop μ-loop
-add-result c = search needs
-
-same-length : tie.Need-same-length Inv-loop μ-loop
-same-length c = search needs
 
 returns : tie.Need-returns Inv-loop μ-loop
 returns c =
@@ -72,18 +48,5 @@ returns c =
 pub spell-spec : {M : Type 1} → statement M
 spell-spec =
     tie.close
-    (tie.spec
-    Inv-loop
-    μ-loop
-    loop-holds
-    sub-i
-    rem-letter
-    letter-requires
-    add-out
-    slice-write-out
-    div-w
-    loop-less
-    loop-again
-    add-result
-    same-length
-    returns)
+    (tie.spec Inv-loop μ-loop loop-holds (λ c. search needs) (λ c. search needs) letter-requires (λ c. search needs) (λ c. search needs)
+    (λ c. search needs) (λ c. search needs) loop-again (λ c. search needs) (λ c. search needs) returns)

@@ -11,30 +11,12 @@ use Rattle.text.proofs.write_io.Tie as tie
 one : (c : tie.After-wide) → digitCount (c .wide .result) (c .wide .result) ≡ 1
 one c = size-one (c .wide .result) (c .wide .result) (omega arith)
 
-slice-aggregate-append : tie.Need-slice-aggregate-append
-slice-aggregate-append c = search needs
-
-append-requires : tie.Need-append-requires
-append-requires c κs = search needs
-
-wide-requires : tie.Need-wide-requires
-wide-requires c κs = search needs
-
-slice-aggregate-write-decimal : tie.Need-slice-aggregate-write-decimal
-slice-aggregate-write-decimal c = search needs
-
 write-decimal-requires : tie.Need-write-decimal-requires
 write-decimal-requires c κs = omega (arith, one (c .before))
-
-slice-aggregate-write-hex8 : tie.Need-slice-aggregate-write-hex8
-slice-aggregate-write-hex8 c = search needs
 
 write-hex8-requires : tie.Need-write-hex8-requires
 write-hex8-requires c κs =
     omega (arith, one (c .before .before .before .before .before .before))
-
-slice-aggregate-write-hex8-2 : tie.Need-slice-aggregate-write-hex8-2
-slice-aggregate-write-hex8-2 c = search needs
 
 write-hex8-requires-2 : tie.Need-write-hex8-requires-2
 write-hex8-requires-2 c κs =
@@ -42,9 +24,6 @@ write-hex8-requires-2 c κs =
     let e = d .before .before .before .before .before in
     let f = e .before .before .before .before .before .before in
     omega (arith, f .append .ensures .ends, e .write-decimal .ensures .1, one (e .before .before), d .write-hex8 .ensures .1)
-
-same-length : tie.Need-same-length
-same-length c = search needs
 
 returns : tie.Need-returns
 unfolding ascii
@@ -59,15 +38,5 @@ returns c =
 pub write-io-spec : {M : Type 1} → statement M
 write-io-spec =
     tie.close
-    (tie.spec
-    slice-aggregate-append
-    append-requires
-    wide-requires
-    slice-aggregate-write-decimal
-    write-decimal-requires
-    slice-aggregate-write-hex8
-    write-hex8-requires
-    slice-aggregate-write-hex8-2
-    write-hex8-requires-2
-    same-length
-    returns)
+    (tie.spec (λ c. search needs) (λ c κs. search needs) (λ c κs. search needs) (λ c. search needs) write-decimal-requires
+    (λ c. search needs) write-hex8-requires (λ c. search needs) write-hex8-requires-2 (λ c. search needs) returns)

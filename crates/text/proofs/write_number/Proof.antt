@@ -11,24 +11,9 @@ use Rattle.text.proofs.write_number.Tie as tie
 few : (c : tie.Start) → digitCount (c .args .v) (c .args .v) ≤ 20
 few c = size-most 19 (c .args .v) (c .args .v) (omega arith)
 
-append-requires : tie.Need-append-requires
-append-requires c κs = search needs
-
-slice-aggregate-append : tie.Need-slice-aggregate-append
-slice-aggregate-append c = search needs
-
-append-requires-2 : tie.Need-append-requires-2
-append-requires-2 c κs = search needs
-
-slice-aggregate-write-decimal : tie.Need-slice-aggregate-write-decimal
-slice-aggregate-write-decimal c = search needs
-
 write-decimal-requires : tie.Need-write-decimal-requires
 write-decimal-requires c κs =
     omega (arith, few (c .before .before .before .before .before .before .before .before .before .before .before .before .before))
-
-same-length : tie.Need-same-length
-same-length c = search needs
 
 returns : tie.Need-returns
 unfolding ascii
@@ -41,11 +26,5 @@ returns c =
 pub write-number-spec : {M : Type 1} → statement M
 write-number-spec =
     tie.close
-    (tie.spec
-    append-requires
-    slice-aggregate-append
-    append-requires-2
-    slice-aggregate-write-decimal
-    write-decimal-requires
-    same-length
-    returns)
+    (tie.spec (λ c κs. search needs) (λ c. search needs) (λ c κs. search needs) (λ c. search needs) write-decimal-requires
+    (λ c. search needs) returns)

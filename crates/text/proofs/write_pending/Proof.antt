@@ -24,29 +24,11 @@ written c =
           (search needs) (omega (arith, c .before .before .pending .ensures .1)) n (c .list-all .ensures),
     )
 
-pending-requires : tie.Need-pending-requires
-pending-requires c κs = search needs
-
-slice-aggregate-list-all : tie.Need-slice-aggregate-list-all
-slice-aggregate-list-all c = search needs
-
 list-all-requires : tie.Need-list-all-requires
 list-all-requires c κs =
     let d = c .before .before in
     let a = d .args in
     (d .pre, omega (arith, c .before .pending .ensures .0 (a .order .now) (a .slots .now) (d .pre), c .before .pending .ensures .1))
-
-slice-aggregate-write-number : tie.Need-slice-aggregate-write-number
-slice-aggregate-write-number c = search needs
-
-write-number-requires : tie.Need-write-number-requires
-write-number-requires c κs = search needs
-
-slice-aggregate-write-records : tie.Need-slice-aggregate-write-records
-slice-aggregate-write-records c = search needs
-
-write-records-requires : tie.Need-write-records-requires
-write-records-requires c κs = search needs
 
 returns : tie.Need-returns
 unfolding shown ascii
@@ -58,12 +40,5 @@ returns c =
 pub write-pending-spec : {M : Type 1} → statement M
 write-pending-spec =
     tie.close
-    (tie.spec
-    pending-requires
-    slice-aggregate-list-all
-    list-all-requires
-    slice-aggregate-write-number
-    write-number-requires
-    slice-aggregate-write-records
-    write-records-requires
-    returns)
+    (tie.spec (λ c κs. search needs) (λ c. search needs) list-all-requires (λ c. search needs) (λ c κs. search needs) (λ c. search needs)
+    (λ c κs. search needs) returns)

@@ -10,27 +10,6 @@ use Rattle.text.proofs.Laws.{wrote-then, io-line, other-line}
 use Rattle.text.proofs.write_record.Statement.{statement}
 use Rattle.text.proofs.write_record.Tie as tie
 
-slice-aggregate-write-decimal : tie.Need-slice-aggregate-write-decimal
-slice-aggregate-write-decimal c = search needs
-
-write-decimal-requires : tie.Need-write-decimal-requires
-write-decimal-requires c κs = search needs
-
-read-be-requires : tie.Need-read-be-requires
-read-be-requires c κs = search needs
-
-kind-at-requires : tie.Need-kind-at-requires
-kind-at-requires c κs = search needs
-
-enum-known-isc : tie.Need-enum-known-isc
-enum-known-isc c = search needs
-
-add-read-be : tie.Need-add-read-be
-add-read-be c = search needs
-
-read-be-requires-2 : tie.Need-read-be-requires-2
-read-be-requires-2 c κs = search needs
-
 write-io-requires : tie.Need-write-io-requires
 write-io-requires c κs =
     let f = c .before .before .before .before in
@@ -38,45 +17,6 @@ write-io-requires c κs =
     let e = d .before .before .before .before in
     let k = io-told _ _ (c .before .before .before .isc .given .0 .0) (d .kind-at .ensures) (c .before .before .before .isc .given .1) in
     (k .2, omega (arith, e .write-decimal .ensures .1))
-
-enum-told : tie.Need-enum-told
-enum-told c = search needs
-
-slice-aggregate-write-other : tie.Need-slice-aggregate-write-other
-slice-aggregate-write-other c = search needs
-
-write-other-requires : tie.Need-write-other-requires
-write-other-requires c κs = search needs
-
-enum-told-2 : tie.Need-enum-told-2
-enum-told-2 c = search needs
-
-slice-aggregate-write-other-2 : tie.Need-slice-aggregate-write-other-2
-slice-aggregate-write-other-2 c = search needs
-
-write-other-requires-2 : tie.Need-write-other-requires-2
-write-other-requires-2 c κs = search needs
-
-enum-told-3 : tie.Need-enum-told-3
-enum-told-3 c = search needs
-
-slice-aggregate-write-other-3 : tie.Need-slice-aggregate-write-other-3
-slice-aggregate-write-other-3 c = search needs
-
-write-other-requires-3 : tie.Need-write-other-requires-3
-write-other-requires-3 c κs = search needs
-
-enum-told-4 : tie.Need-enum-told-4
-enum-told-4 c = search needs
-
-slice-aggregate-write-other-4 : tie.Need-slice-aggregate-write-other-4
-slice-aggregate-write-other-4 c = search needs
-
-write-other-requires-4 : tie.Need-write-other-requires-4
-write-other-requires-4 c κs = search needs
-
-same-length : tie.Need-same-length
-same-length c = search needs
 
 returns : tie.Need-returns
 unfolding ascii
@@ -92,9 +32,6 @@ returns c =
     let w = wrote-then (h .write-decimal .ensures .0) (c .before .before .write-io .ensures .0) in
     (rw (← io-line (a .place) (a .from) _ (a .b .now) (g .read-be .ensures .0) _ _ (k .0) (k .1) (d .read-be2 .ensures .0)) w, omega (arith, h .write-decimal .ensures .1, c .before .before .write-io .ensures .1))
 
-same-length-2 : tie.Need-same-length-2
-same-length-2 c = search needs
-
 returns-2 : tie.Need-returns-2
 unfolding ascii name ofIo
 returns-2 c =
@@ -107,9 +44,6 @@ returns-2 c =
     let a = h .args in
     let w = wrote-then (g .write-decimal .ensures .0) (c .before .before .write-other .ensures .0) in
     (rw (← other-line (a .place) (a .from) _ (a .b .now) (f .read-be .ensures .0) _ Done (e .kind-at .ensures) (d .enum-told .given .1) (λ w. refl)) w, omega arith)
-
-same-length-3 : tie.Need-same-length-3
-same-length-3 c = search needs
 
 returns-3 : tie.Need-returns-3
 unfolding ascii name ofIo
@@ -124,9 +58,6 @@ returns-3 c =
     let w = wrote-then (g .write-decimal .ensures .0) (c .before .before .write-other2 .ensures .0) in
     (rw (← other-line (a .place) (a .from) _ (a .b .now) (f .read-be .ensures .0) _ Service (e .kind-at .ensures) (d .enum-told2 .given .1) (λ w. refl)) w, omega arith)
 
-same-length-4 : tie.Need-same-length-4
-same-length-4 c = search needs
-
 returns-4 : tie.Need-returns-4
 unfolding ascii name ofIo
 returns-4 c =
@@ -139,9 +70,6 @@ returns-4 c =
     let a = h .args in
     let w = wrote-then (g .write-decimal .ensures .0) (c .before .before .write-other3 .ensures .0) in
     (rw (← other-line (a .place) (a .from) _ (a .b .now) (f .read-be .ensures .0) _ MachineCheck (e .kind-at .ensures) (d .enum-told3 .given .1) (λ w. refl)) w, omega arith)
-
-same-length-5 : tie.Need-same-length-5
-same-length-5 c = search needs
 
 returns-5 : tie.Need-returns-5
 unfolding ascii name ofIo
@@ -159,34 +87,8 @@ returns-5 c =
 pub write-record-spec : {M : Type 1} → statement M
 write-record-spec =
     tie.close
-    (tie.spec
-    slice-aggregate-write-decimal
-    write-decimal-requires
-    read-be-requires
-    kind-at-requires
-    enum-known-isc
-    add-read-be
-    read-be-requires-2
-    write-io-requires
-    enum-told
-    slice-aggregate-write-other
-    write-other-requires
-    enum-told-2
-    slice-aggregate-write-other-2
-    write-other-requires-2
-    enum-told-3
-    slice-aggregate-write-other-3
-    write-other-requires-3
-    enum-told-4
-    slice-aggregate-write-other-4
-    write-other-requires-4
-    same-length
-    returns
-    same-length-2
-    returns-2
-    same-length-3
-    returns-3
-    same-length-4
-    returns-4
-    same-length-5
-    returns-5)
+    (tie.spec (λ c. search needs) (λ c κs. search needs) (λ c κs. search needs) (λ c κs. search needs) (λ c. search needs)
+    (λ c. search needs) (λ c κs. search needs) write-io-requires (λ c. search needs) (λ c. search needs) (λ c κs. search needs)
+    (λ c. search needs) (λ c. search needs) (λ c κs. search needs) (λ c. search needs) (λ c. search needs) (λ c κs. search needs)
+    (λ c. search needs) (λ c. search needs) (λ c κs. search needs) (λ c. search needs) returns (λ c. search needs) returns-2
+    (λ c. search needs) returns-3 (λ c. search needs) returns-4 (λ c. search needs) returns-5)

@@ -26,17 +26,8 @@ loop-holds c =
     let a = c .before .before .args in
     (omega arith, omega arith, refl, record { ends = omega arith; fits = omega arith; now = paste-zero (a .out .now) (a .at) [] })
 
-mul-write-record : tie.Need-mul-write-record Inv-loop μ-loop
-mul-write-record c = search needs
-
 write-record-requires : tie.Need-write-record-requires Inv-loop μ-loop
 write-record-requires c κs = (size-most 2 _ _ (omega arith), omega arith, omega arith)
-
-add-i : tie.Need-add-i Inv-loop μ-loop
-add-i c = search needs
-
-loop-less : tie.Need-loop-less Inv-loop μ-loop
-loop-less c = search needs
 
 loop-again : tie.Need-loop-again Inv-loop μ-loop
 loop-again c =
@@ -48,9 +39,6 @@ loop-again c =
     let w = wrote-then (l .inv .3) (x .0) in
     (omega arith, omega arith, wrote-long (x .0) ∙ l .inv .2, rw (← lines-next (l .i) (a .b .now)) w)
 
-same-length : tie.Need-same-length Inv-loop μ-loop
-same-length c = search needs
-
 returns : tie.Need-returns Inv-loop μ-loop
 returns c =
     let d = c .before .before .before .before in
@@ -61,14 +49,5 @@ returns c =
 pub write-records-spec : {M : Type 1} → statement M
 write-records-spec =
     tie.close
-    (tie.spec
-    Inv-loop
-    μ-loop
-    loop-holds
-    mul-write-record
-    write-record-requires
-    add-i
-    loop-less
-    loop-again
-    same-length
-    returns)
+    (tie.spec Inv-loop μ-loop loop-holds (λ c. search needs) write-record-requires (λ c. search needs) (λ c. search needs) loop-again
+    (λ c. search needs) returns)

@@ -13,38 +13,17 @@ use borrow.Author.Needs.{needs}
 use Rattle.values.proofs.get_masks.Statement.{statement}
 use Rattle.values.proofs.get_masks.Tie as tie
 
-refuse-requires : tie.Need-refuse-requires
-refuse-requires c κs = search needs
-
 returns : tie.Need-returns
 unfolding request
 returns c = (λ L s e1 e2. refused L s _ _ _ 22 _ refl (fails _ _ _ (ne-eqb _ 0 (c .before .if1 .taken))) (c .refuse .ensures), λ k. refl)
-
-refuse-requires-2 : tie.Need-refuse-requires-2
-refuse-requires-2 c κs = search needs
 
 returns-2 : tie.Need-returns-2
 unfolding request
 returns-2 c = (λ L s e1 e2. refused L s _ _ _ 95 _ refl (passes _ _ _ (eq-eqb _ 0 (c .before .before .if1 .left)) ∙ fails _ _ _ (e1 ∙ not-true _ (c .before .if2 .taken))) (c .refuse2 .ensures), λ k. refl)
 
-refuse-requires-3 : tie.Need-refuse-requires-3
-refuse-requires-3 c κs = search needs
-
 returns-3 : tie.Need-returns-3
 unfolding request
 returns-3 c = (λ L s e1 e2. refused L s _ _ _ 14 _ refl (passes _ _ _ (eq-eqb _ 0 (c .before .before .before .if1 .left)) ∙ passes _ _ _ (e1 ∙ not-false _ (c .before .before .if2 .left)) ∙ fails _ _ _ (lt-leb 2 (length (c .before .before .before .before .before .args .out .now)) (c .before .if3 .taken))) (c .refuse3 .ensures), λ k. refl)
-
-slice-write-out : tie.Need-slice-write-out
-slice-write-out c = search needs
-
-slice-write-out-2 : tie.Need-slice-write-out-2
-slice-write-out-2 c = search needs
-
-accept-requires : tie.Need-accept-requires
-accept-requires c κs = search needs
-
-same-length : tie.Need-same-length
-same-length c = search needs
 
 returns-4 : tie.Need-returns-4
 unfolding request
@@ -57,15 +36,5 @@ returns-4 c = (
 pub get-masks-spec : {M : Type 1} → statement M
 get-masks-spec =
     tie.close
-    (tie.spec
-    refuse-requires
-    returns
-    refuse-requires-2
-    returns-2
-    refuse-requires-3
-    returns-3
-    slice-write-out
-    slice-write-out-2
-    accept-requires
-    same-length
-    returns-4)
+    (tie.spec (λ c κs. search needs) returns (λ c κs. search needs) returns-2 (λ c κs. search needs) returns-3 (λ c. search needs)
+    (λ c. search needs) (λ c κs. search needs) (λ c. search needs) returns-4)

@@ -12,12 +12,9 @@ returns : tie.Need-returns
 unfolding payloadId
 returns c = sym (passed _ _ _ (lt-leb 4 _ (c .if1 .taken)))
 
-read-be-requires : tie.Need-read-be-requires
-read-be-requires c κs = search needs
-
 returns-2 : tie.Need-returns-2
 unfolding payloadId
 returns-2 c = c .read-be .ensures .0 ∙ sym (id-there (c .before .before .before .args .payload .now) (c .before .if1 .left))
 
 pub payload-id-spec : {M : Type 1} → statement M
-payload-id-spec = tie.close (tie.spec returns read-be-requires returns-2)
+payload-id-spec = tie.close (tie.spec returns (λ c κs. search needs) returns-2)

@@ -24,25 +24,10 @@ mul-v c =
     let l = c .before .loop in
     omega (arith, read-fits (l .v) (l .i) _ (l .inv .2) (c .loop-test .taken) (omega arith))
 
-add-wide : tie.Need-add-wide Inv-loop μ-loop
-add-wide c = search needs
-
-shared-slice-read-wide : tie.Need-shared-slice-read-wide Inv-loop μ-loop
-shared-slice-read-wide c = search needs
-
-wide-requires : tie.Need-wide-requires Inv-loop μ-loop
-wide-requires c κs = search needs
-
 add-v : tie.Need-add-v Inv-loop μ-loop
 add-v c =
     let l = c .before .before .before .loop in
     omega (arith, read-fits (l .v) (l .i) _ (l .inv .2) (c .before .before .loop-test .taken) (omega arith))
-
-add-i : tie.Need-add-i Inv-loop μ-loop
-add-i c = search needs
-
-loop-less : tie.Need-loop-less Inv-loop μ-loop
-loop-less c = search needs
 
 loop-again : tie.Need-loop-again Inv-loop μ-loop
 loop-again c =
@@ -60,16 +45,5 @@ returns c =
 pub read-be-spec : {M : Type 1} → statement M
 read-be-spec =
     tie.close
-    (tie.spec
-    Inv-loop
-    μ-loop
-    loop-holds
-    mul-v
-    add-wide
-    shared-slice-read-wide
-    wide-requires
-    add-v
-    add-i
-    loop-less
-    loop-again
-    returns)
+    (tie.spec Inv-loop μ-loop loop-holds mul-v (λ c. search needs) (λ c. search needs) (λ c κs. search needs) add-v (λ c. search needs)
+    (λ c. search needs) loop-again returns)

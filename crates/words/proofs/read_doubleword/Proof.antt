@@ -7,21 +7,6 @@ use Rattle.words.proofs.Laws.{number-words}
 use Rattle.words.proofs.read_doubleword.Statement.{statement}
 use Rattle.words.proofs.read_doubleword.Tie as tie
 
-read-be-requires : tie.Need-read-be-requires
-read-be-requires c κs = search needs
-
-mul-result : tie.Need-mul-result
-mul-result c = search needs
-
-add-read-be : tie.Need-add-read-be
-add-read-be c = search needs
-
-read-be-requires-2 : tie.Need-read-be-requires-2
-read-be-requires-2 c κs = search needs
-
-add-result : tie.Need-add-result
-add-result c = search needs
-
 returns : tie.Need-returns
 returns c =
     let a = c .before .before .before .args in
@@ -31,4 +16,4 @@ returns c =
 pub read-doubleword-spec : {M : Type 1} → statement M
 read-doubleword-spec =
     tie.close
-    (tie.spec read-be-requires mul-result add-read-be read-be-requires-2 add-result returns)
+    (tie.spec (λ c κs. search needs) (λ c. search needs) (λ c. search needs) (λ c κs. search needs) (λ c. search needs) returns)

@@ -23,30 +23,12 @@ loop-holds c =
     let e : a .n - a .n ≡ 0 = omega arith in
     (omega arith, refl, rw (e, div-one), paste-none (a .b .now) (a .at + a .n) (bytes (a .n - a .n) (a .v)) (a .n - a .n) e)
 
-sub-i : tie.Need-sub-i Inv-loop μ-loop
-sub-i c = search needs
-
-cast-b : tie.Need-cast-b Inv-loop μ-loop
-cast-b c = search needs
-
-add-b : tie.Need-add-b Inv-loop μ-loop
-add-b c = search needs
-
-slice-write-b : tie.Need-slice-write-b Inv-loop μ-loop
-slice-write-b c = search needs
-
-loop-less : tie.Need-loop-less Inv-loop μ-loop
-loop-less c = search needs
-
 loop-again : tie.Need-loop-again Inv-loop μ-loop
 loop-again c =
     let a = c .before .before .args in
     let l = c .before .loop in
     let t = write-turn (l .b) (a .b .now) (a .at) (a .n) (l .i) (a .v) (l .w) (omega arith) (omega arith) (omega arith) (l .inv .2) (l .inv .3) in
     (omega arith, simp length-set (l .inv .1), t .0, t .1)
-
-same-length : tie.Need-same-length Inv-loop μ-loop
-same-length c = search needs
 
 returns : tie.Need-returns Inv-loop μ-loop
 returns c =
@@ -59,15 +41,5 @@ returns c =
 pub write-be-spec : {M : Type 1} → statement M
 write-be-spec =
     tie.close
-    (tie.spec
-    Inv-loop
-    μ-loop
-    loop-holds
-    sub-i
-    cast-b
-    add-b
-    slice-write-b
-    loop-less
-    loop-again
-    same-length
-    returns)
+    (tie.spec Inv-loop μ-loop loop-holds (λ c. search needs) (λ c. search needs) (λ c. search needs) (λ c. search needs) (λ c. search needs)
+    loop-again (λ c. search needs) returns)

@@ -10,27 +10,6 @@ use Rattle.write.proofs.Laws.{table-next, registers-size}
 use Rattle.write.proofs.put_adapters.Statement.{statement}
 use Rattle.write.proofs.put_adapters.Tie as tie
 
-put-slots-requires : tie.Need-put-slots-requires
-put-slots-requires c κs = search needs
-
-mul-at : tie.Need-mul-at
-mul-at c = search needs
-
-add-at : tie.Need-add-at
-add-at c = search needs
-
-mul-pay : tie.Need-mul-pay
-mul-pay c = search needs
-
-add-pay : tie.Need-add-pay
-add-pay c = search needs
-
-put-slots-requires-2 : tie.Need-put-slots-requires-2
-put-slots-requires-2 c κs = search needs
-
-same-length : tie.Need-same-length
-same-length c = search needs
-
 returns : tie.Need-returns
 unfolding adapterEntries
 returns c =
@@ -43,12 +22,5 @@ returns c =
 pub put-adapters-spec : {M : Type 1} → statement M
 put-adapters-spec =
     tie.close
-    (tie.spec
-    put-slots-requires
-    mul-at
-    add-at
-    mul-pay
-    add-pay
-    put-slots-requires-2
-    same-length
-    returns)
+    (tie.spec (λ c κs. search needs) (λ c. search needs) (λ c. search needs) (λ c. search needs) (λ c. search needs) (λ c κs. search needs)
+    (λ c. search needs) returns)

@@ -4,21 +4,6 @@ use Rattle.write.proofs.Laws.{listing-put}
 use Rattle.write.proofs.put_listing.Statement.{statement}
 use Rattle.write.proofs.put_listing.Tie as tie
 
-sub-list-all : tie.Need-sub-list-all
-sub-list-all c = search needs
-
-part-list-all-start : tie.Need-part-list-all-start
-part-list-all-start c = search needs
-
-part-list-all-end : tie.Need-part-list-all-end
-part-list-all-end c = search needs
-
-list-all-requires : tie.Need-list-all-requires
-list-all-requires c κs = search needs
-
-same-length : tie.Need-same-length
-same-length c = search needs
-
 returns : tie.Need-returns
 returns c =
     let s = c .before .before .before .before .before in
@@ -28,10 +13,4 @@ returns c =
 pub put-listing-spec : {M : Type 1} → statement M
 put-listing-spec =
     tie.close
-    (tie.spec
-    sub-list-all
-    part-list-all-start
-    part-list-all-end
-    list-all-requires
-    same-length
-    returns)
+    (tie.spec (λ c. search needs) (λ c. search needs) (λ c. search needs) (λ c κs. search needs) (λ c. search needs) returns)

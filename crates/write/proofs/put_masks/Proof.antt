@@ -10,23 +10,8 @@ use Rattle.write.proofs.Laws.{two-bytes}
 use Rattle.write.proofs.put_masks.Statement.{statement}
 use Rattle.write.proofs.put_masks.Tie as tie
 
-wide-requires : tie.Need-wide-requires
-wide-requires c κs = search needs
-
-mul-write-be : tie.Need-mul-write-be
-mul-write-be c = search needs
-
-wide-requires-2 : tie.Need-wide-requires-2
-wide-requires-2 c κs = search needs
-
-add-write-be : tie.Need-add-write-be
-add-write-be c = search needs
-
 write-be-requires : tie.Need-write-be-requires
 write-be-requires c κs = (omega arith, omega (arith, rw (c .before .before .before .if1 .taken) at (c .before .before .before .before .before .pre)))
-
-same-length : tie.Need-same-length
-same-length c = search needs
 
 returns : tie.Need-returns
 unfolding choose
@@ -45,12 +30,5 @@ returns-2 c = rw (c .if1 .left) (put-none _ _)
 pub put-masks-spec : {M : Type 1} → statement M
 put-masks-spec =
     tie.close
-    (tie.spec
-    wide-requires
-    mul-write-be
-    wide-requires-2
-    add-write-be
-    write-be-requires
-    same-length
-    returns
-    returns-2)
+    (tie.spec (λ c κs. search needs) (λ c. search needs) (λ c κs. search needs) (λ c. search needs) write-be-requires (λ c. search needs)
+    returns returns-2)

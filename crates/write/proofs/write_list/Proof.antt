@@ -57,60 +57,15 @@ same-entries : (c : tie.After-has-masks) (s : State) → let a = c .before .befo
     → s .pending ≡ pendingOf (a .order .now) (a .counts .now) (a .slots .now) (a .singles .now) → s .device ≡ deviceOf (a .device) → wanted c ≡ listRequests s
 same-entries c s e1 e2 e3 e4 = sym (entries-are s _ _ _ (c .before .before .before .before .before .before .before .args .device) _ e1 e2 e3 e4 (c .has-masks .ensures))
 
-count-requires : tie.Need-count-requires
-count-requires c κs = search needs
-
-count-requires-2 : tie.Need-count-requires-2
-count-requires-2 c κs = search needs
-
-records-pending-requires : tie.Need-records-pending-requires
-records-pending-requires c κs = search needs
-
-has-masks-requires : tie.Need-has-masks-requires
-has-masks-requires c κs = search needs
-
-entry-count-requires : tie.Need-entry-count-requires
-entry-count-requires c κs = search needs
-
-mul-start : tie.Need-mul-start
-mul-start c = search needs
-
-add-start : tie.Need-add-start
-add-start c = search needs
-
-payload-bytes-requires : tie.Need-payload-bytes-requires
-payload-bytes-requires c κs = search needs
-
-add-total : tie.Need-add-total
-add-total c = search needs
-
-refuse-requires : tie.Need-refuse-requires
-refuse-requires c κs = search needs
-
 returns : tie.Need-returns
 returns c = (
   λ L s e1 e2 e3 e4. too-short L s _ _ _ _ (same-entries (c .before .before .before .before) s e1 e2 e3 e4) (total-is (c .before .before)) (c .before .if1 .taken) (c .refuse .ensures),
   λ k. refl,
 )
 
-flag-of-requires : tie.Need-flag-of-requires
-flag-of-requires c κs = search needs
-
-put-five-requires : tie.Need-put-five-requires
-put-five-requires c κs = search needs
-
-put-table-requires : tie.Need-put-table-requires
-put-table-requires c κs = search needs
-
 put-payloads-requires : tie.Need-put-payloads-requires
 put-payloads-requires c κs =
     (c .before .before .before .before .before .before .before .before .before .before .before .before .before .before .before .before .before .before .before .before .pre, counted (c .before .before .before .before .before .before .before .before .before .before .before .before .before), c .before .before .before .before .before .before .before .before .before .before .before .before .before .before .records-pending .ensures .0, omega (arith, c .before .before .before .before .before .before .before .before .before .before .before .before .entry-count .ensures .1), rw (← c .before .before .before .before .before .before .before .before .before .before .before .payload-bytes .ensures .0) (omega (arith, c .before .before .before .before .before .before .before .before .before .before .if1 .left)))
-
-accept-requires : tie.Need-accept-requires
-accept-requires c κs = search needs
-
-same-length : tie.Need-same-length
-same-length c = search needs
 
 returns-2 : tie.Need-returns-2
 returns-2 c =
@@ -126,22 +81,6 @@ returns-2 c =
 pub write-list-spec : {M : Type 1} → statement M
 write-list-spec =
     tie.close
-    (tie.spec
-    count-requires
-    count-requires-2
-    records-pending-requires
-    has-masks-requires
-    entry-count-requires
-    mul-start
-    add-start
-    payload-bytes-requires
-    add-total
-    refuse-requires
-    returns
-    flag-of-requires
-    put-five-requires
-    put-table-requires
-    put-payloads-requires
-    accept-requires
-    same-length
-    returns-2)
+    (tie.spec (λ c κs. search needs) (λ c κs. search needs) (λ c κs. search needs) (λ c κs. search needs) (λ c κs. search needs)
+    (λ c. search needs) (λ c. search needs) (λ c κs. search needs) (λ c. search needs) (λ c κs. search needs) returns (λ c κs. search needs)
+    (λ c κs. search needs) (λ c κs. search needs) put-payloads-requires (λ c κs. search needs) (λ c. search needs) returns-2)

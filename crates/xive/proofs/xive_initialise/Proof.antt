@@ -4,29 +4,11 @@ use Rattle.xive.proofs.Laws.{initialise-short, initialise-unknown, init
 use Rattle.xive.proofs.xive_initialise.Statement.{statement}
 use Rattle.xive.proofs.xive_initialise.Tie as tie
 
-refuse-requires : tie.Need-refuse-requires
-refuse-requires c κs = search needs
-
 returns : tie.Need-returns
 returns c = initialise-short _ _ _ _ (c .before .if1 .taken) (c .refuse .ensures)
 
-refuse-requires-2 : tie.Need-refuse-requires-2
-refuse-requires-2 c κs = search needs
-
 returns-2 : tie.Need-returns-2
 returns-2 c = initialise-unknown _ _ _ _ (c .before .before .if1 .left) (c .before .if2 .taken) (c .refuse2 .ensures)
-
-read-doubleword-requires : tie.Need-read-doubleword-requires
-read-doubleword-requires c κs = search needs
-
-initialised-with-requires : tie.Need-initialised-with-requires
-initialised-with-requires c κs = search needs
-
-store-requires : tie.Need-store-requires
-store-requires c κs = search needs
-
-accept-requires : tie.Need-accept-requires
-accept-requires c κs = search needs
 
 returns-3 : tie.Need-returns-3
 returns-3 c =
@@ -36,13 +18,5 @@ returns-3 c =
 pub xive-initialise-spec : {M : Type 1} → statement M
 xive-initialise-spec =
     tie.close
-    (tie.spec
-    refuse-requires
-    returns
-    refuse-requires-2
-    returns-2
-    read-doubleword-requires
-    initialised-with-requires
-    store-requires
-    accept-requires
-    returns-3)
+    (tie.spec (λ c κs. search needs) returns (λ c κs. search needs) returns-2 (λ c κs. search needs) (λ c κs. search needs)
+    (λ c κs. search needs) (λ c κs. search needs) returns-3)

@@ -11,5 +11,4 @@ returns c = zeros-stored 1024
 pub xive-make-spec : {M : Type 1} → statement M
 xive-make-spec =
     tie.close
-    (tie.spec
-    returns)
+    (tie.spec returns)

@@ -5,21 +5,6 @@ use Rattle.xive.proofs.Laws.{read-lacks, read-done}
 use Rattle.xive.proofs.xive_read.Statement.{statement}
 use Rattle.xive.proofs.xive_read.Tie as tie
 
-look-up-requires : tie.Need-look-up-requires
-look-up-requires c κs = search needs
-
-enum-known-code : tie.Need-enum-known-code
-enum-known-code c = search needs
-
-read-nothing-requires : tie.Need-read-nothing-requires
-read-nothing-requires c κs = search needs
-
-enum-known-stored : tie.Need-enum-known-stored
-enum-known-stored c = search needs
-
-read-out-requires : tie.Need-read-out-requires
-read-out-requires c κs = search needs
-
 returns : tie.Need-returns
 returns c = read-lacks _ _ _ _ (as-refused (c .before .before .before .before .before .args .sources .now) _ (c .before .before .before .before .look-up .ensures) (c .before .before .code .given .1)) (c .read-nothing .ensures)
 
@@ -32,11 +17,4 @@ returns-2 c =
 pub xive-read-spec : {M : Type 1} → statement M
 xive-read-spec =
     tie.close
-    (tie.spec
-    look-up-requires
-    enum-known-code
-    read-nothing-requires
-    enum-known-stored
-    read-out-requires
-    returns
-    returns-2)
+    (tie.spec (λ c κs. search needs) (λ c. search needs) (λ c κs. search needs) (λ c. search needs) (λ c κs. search needs) returns returns-2)

@@ -5,21 +5,6 @@ use Rattle.xive.proofs.Laws.{sync-lacks, sync-done}
 use Rattle.xive.proofs.xive_sync.Statement.{statement}
 use Rattle.xive.proofs.xive_sync.Tie as tie
 
-look-up-requires : tie.Need-look-up-requires
-look-up-requires c κs = search needs
-
-enum-known-code : tie.Need-enum-known-code
-enum-known-code c = search needs
-
-refuse-requires : tie.Need-refuse-requires
-refuse-requires c κs = search needs
-
-enum-told : tie.Need-enum-told
-enum-told c = search needs
-
-accept-requires : tie.Need-accept-requires
-accept-requires c κs = search needs
-
 returns : tie.Need-returns
 returns c = sync-lacks _ _ _ _ (as-refused (c .before .before .before .before .before .args .sources .now) _ (c .before .before .before .before .look-up .ensures) (c .before .before .code .given .1)) (c .refuse .ensures)
 
@@ -29,11 +14,4 @@ returns-2 c = sync-done _ _ _ _ (as-found (c .before .before .before .before .ar
 pub xive-sync-spec : {M : Type 1} → statement M
 xive-sync-spec =
     tie.close
-    (tie.spec
-    look-up-requires
-    enum-known-code
-    refuse-requires
-    enum-told
-    accept-requires
-    returns
-    returns-2)
+    (tie.spec (λ c κs. search needs) (λ c. search needs) (λ c κs. search needs) (λ c. search needs) (λ c κs. search needs) returns returns-2)

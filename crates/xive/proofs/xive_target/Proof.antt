@@ -13,35 +13,8 @@ use Rattle.xive.proofs.Laws.{target-short, target-lacks, target-no-serv
 use Rattle.xive.proofs.xive_target.Statement.{statement}
 use Rattle.xive.proofs.xive_target.Tie as tie
 
-refuse-requires : tie.Need-refuse-requires
-refuse-requires c κs = search needs
-
 returns : tie.Need-returns
 returns c = target-short _ _ _ _ (c .before .if1 .taken) (c .refuse .ensures)
-
-look-up-requires : tie.Need-look-up-requires
-look-up-requires c κs = search needs
-
-enum-known-code : tie.Need-enum-known-code
-enum-known-code c = search needs
-
-refuse-requires-2 : tie.Need-refuse-requires-2
-refuse-requires-2 c κs = search needs
-
-enum-known-stored : tie.Need-enum-known-stored
-enum-known-stored c = search needs
-
-read-doubleword-requires : tie.Need-read-doubleword-requires
-read-doubleword-requires c κs = search needs
-
-server-in-requires : tie.Need-server-in-requires
-server-in-requires c κs = search needs
-
-is-server-requires : tie.Need-is-server-requires
-is-server-requires c κs = search needs
-
-refuse-requires-3 : tie.Need-refuse-requires-3
-refuse-requires-3 c κs = search needs
 
 -- what is known once the server was looked at: the source that was found, and whether there is such a server
 module _ (c : tie.After-is-server) where
@@ -77,9 +50,6 @@ targeted-with-requires c κs = ltb-true _ _ (served (c .before .before) ∙ not-
 store-requires : tie.Need-store-requires
 store-requires c κs = found (c .before .before .before) .known
 
-accept-requires : tie.Need-accept-requires
-accept-requires c κs = search needs
-
 returns-3 : tie.Need-returns-3
 returns-3 c =
     let k = c .before .before .before .before in
@@ -97,20 +67,6 @@ returns-4 c =
 pub xive-target-spec : {M : Type 1} → statement M
 xive-target-spec =
     tie.close
-    (tie.spec
-    refuse-requires
-    returns
-    look-up-requires
-    enum-known-code
-    refuse-requires-2
-    enum-known-stored
-    read-doubleword-requires
-    server-in-requires
-    is-server-requires
-    refuse-requires-3
-    returns-2
-    targeted-with-requires
-    store-requires
-    accept-requires
-    returns-3
-    returns-4)
+    (tie.spec (λ c κs. search needs) returns (λ c κs. search needs) (λ c. search needs) (λ c κs. search needs) (λ c. search needs)
+    (λ c κs. search needs) (λ c κs. search needs) (λ c κs. search needs) (λ c κs. search needs) returns-2 targeted-with-requires
+    store-requires (λ c κs. search needs) returns-3 returns-4)

@@ -5,14 +5,8 @@ use Rattle.xive_sources.proofs.Laws.{initial-stored}
 use Rattle.xive_sources.proofs.initialised_with.Statement.{statement}
 use Rattle.xive_sources.proofs.initialised_with.Tie as tie
 
-mul-result : tie.Need-mul-result
-mul-result c = search needs
-
-add-result : tie.Need-add-result
-add-result c = search needs
-
 returns : tie.Need-returns
 returns c = initial-stored _ _ refl
 
 pub initialised-with-spec : {M : Type 1} → statement M
-initialised-with-spec = tie.close (tie.spec mul-result add-result returns)
+initialised-with-spec = tie.close (tie.spec (λ c. search needs) (λ c. search needs) returns)

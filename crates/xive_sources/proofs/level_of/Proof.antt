@@ -5,9 +5,6 @@ use Rattle.xive_sources.proofs.Laws.{as-msi, as-lsi}
 use Rattle.xive_sources.proofs.level_of.Statement.{statement}
 use Rattle.xive_sources.proofs.level_of.Tie as tie
 
-cast-result : tie.Need-cast-result
-cast-result c = search needs
-
 returns : tie.Need-returns
 returns c = sym (as-lsi _ (c .if1 .taken))
 
@@ -15,4 +12,4 @@ returns-2 : tie.Need-returns-2
 returns-2 c = sym (as-msi _ (c .if1 .left))
 
 pub level-of-spec : {M : Type 1} → statement M
-level-of-spec = tie.close (tie.spec cast-result returns returns-2)
+level-of-spec = tie.close (tie.spec (λ c. search needs) returns returns-2)

@@ -7,12 +7,6 @@ use Rattle.xive_sources.proofs.look_up.Tie as tie
 returns : tie.Need-returns
 returns c = too-large (c .before .args .sources .now) _ (c .if1 .taken)
 
-mul-stored : tie.Need-mul-stored
-mul-stored c = search needs
-
-element-copy-out-stored : tie.Need-element-copy-out-stored
-element-copy-out-stored c = search needs
-
 returns-2 : tie.Need-returns-2
 returns-2 c = not-there (c .before .before .before .args .sources .now) _ (c .before .before .if1 .left) (c .if2 .taken)
 
@@ -20,4 +14,4 @@ returns-3 : tie.Need-returns-3
 returns-3 c = there (c .before .before .before .args .sources .now) _ (c .before .before .if1 .left) (c .if2 .left)
 
 pub look-up-spec : {M : Type 1} → statement M
-look-up-spec = tie.close (tie.spec returns mul-stored element-copy-out-stored returns-2 returns-3)
+look-up-spec = tie.close (tie.spec returns (λ c. search needs) (λ c. search needs) returns-2 returns-3)

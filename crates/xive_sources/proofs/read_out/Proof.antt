@@ -5,20 +5,8 @@ use Rattle.xive_sources.proofs.Laws.{masked-values, targeted-values}
 use Rattle.xive_sources.proofs.read_out.Statement.{statement}
 use Rattle.xive_sources.proofs.read_out.Tie as tie
 
-level-of-requires : tie.Need-level-of-requires
-level-of-requires c κs = search needs
-
-cast-kind : tie.Need-cast-kind
-cast-kind c = search needs
-
 returns : tie.Need-returns
 returns c = (refl, refl, λ x h. rw (c .before .level-of .ensures) (masked-values _ x h (c .if1 .taken)))
-
-targeting-of-requires : tie.Need-targeting-of-requires
-targeting-of-requires c κs = search needs
-
-word-of-requires : tie.Need-word-of-requires
-word-of-requires c κs = search needs
 
 returns-2 : tie.Need-returns-2
 returns-2 c =
@@ -26,4 +14,4 @@ returns-2 c =
     (refl, refl, λ x h. rw (c .before .before .before .level-of .ensures, c .word-of .ensures, t .0, t .1, t .2, t .3) (targeted-values _ x h (c .before .before .if1 .left)))
 
 pub read-out-spec : {M : Type 1} → statement M
-read-out-spec = tie.close (tie.spec level-of-requires cast-kind returns targeting-of-requires word-of-requires returns-2)
+read-out-spec = tie.close (tie.spec (λ c κs. search needs) (λ c. search needs) returns (λ c κs. search needs) (λ c κs. search needs) returns-2)

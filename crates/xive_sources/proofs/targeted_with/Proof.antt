@@ -6,17 +6,8 @@ use Rattle.xive_sources.proofs.Laws.{targeted-stored}
 use Rattle.xive_sources.proofs.targeted_with.Statement.{statement}
 use Rattle.xive_sources.proofs.targeted_with.Tie as tie
 
-add-result : tie.Need-add-result
-add-result c = search needs
-
-mul-result : tie.Need-mul-result
-mul-result c = search needs
-
-add-result-2 : tie.Need-add-result-2
-add-result-2 c = search needs
-
 returns : tie.Need-returns
 returns c = λ x k. targeted-stored _ _ _ x k (c .pre) (omega arith) refl
 
 pub targeted-with-spec : {M : Type 1} → statement M
-targeted-with-spec = tie.close (tie.spec add-result mul-result add-result-2 returns)
+targeted-with-spec = tie.close (tie.spec (λ c. search needs) (λ c. search needs) (λ c. search needs) returns)

@@ -4,7 +4,7 @@ ghost use mathlib.Core.Bool.{true, false};
 ghost use Prim.Native.Nat.{_<_, _≤_};
 ghost use Rattle.rules.specs.State.{free, holds, bit, hasBit, withBit, withoutBit};
 ghost use Rattle.adapters.specs.Values.{placeOf, deviceOf, Canonical, maskedAs, modeSet, underAis, injectionOf, injectedDevice, withMasked};
-use words::Subclass;
+use numbers::Subclass;
 
 // The masks and the page-fault flag.
 #[repr(C)]

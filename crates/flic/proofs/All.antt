@@ -9,8 +9,8 @@ use Rattle.adapters.specs.declared.Place.{Place}
 use Rattle.adapters.proofs.Device as D
 use Rattle.adapters.proofs.Device.Laws as D′
 use Rattle.adapters.proofs.Place as P
-use Rattle.controller.specs.declared.Controller.{Controller}
-use Rattle.controller.proofs.Controller as C
+use Rattle.calls.specs.declared.Controller.{Controller}
+use Rattle.calls.proofs.Controller as C
 use Rattle.flic.proofs.Opened.{Has, OpenAt, opens-ctl, closes-ctl}
 
 -- the three references as they are passed

@@ -12,22 +12,22 @@ use Rattle.adapters.specs.declared.Place.{Place}
 use Rattle.adapters.proofs.Device as D
 use Rattle.adapters.proofs.Device.Laws as D′
 use Rattle.adapters.proofs.Place as P
-use Rattle.core.specs.Cases.{onRecords}
-use Rattle.core.proofs.on_records as group-of
-use Rattle.core.proofs.on_records.Symbol.{name as #group-of}
-use Rattle.values.specs.States.{onPlace}
-use Rattle.values.proofs.on_place as on-place
-use Rattle.values.proofs.on_place.Symbol.{name as #on-place}
-use Rattle.lent.specs.Requests.{ModesSet, PlaceSet}
-use Rattle.table.proofs.Record.{ReadDevice}
-use Rattle.table.proofs.Gives.{at-list, Lent, LentCell, gives}
-use Rattle.lent.proofs.Payload.{payload, Payload, asks-record, asks-table}
-use Rattle.table.proofs.Called.{asks-nothing, calls-told}
-use Rattle.table.proofs.read_device.Symbol.{name as #read-device}
-use Rattle.lent.proofs.set_place as set-place
-use Rattle.lent.proofs.set_place.Symbol.{name as #set-place}
-use Rattle.lent.proofs.set_modes as set-modes
-use Rattle.lent.proofs.set_modes.Symbol.{name as #set-modes}
+use Rattle.calls.specs.Cases.{onRecords}
+use Rattle.calls.proofs.on_records as group-of
+use Rattle.calls.proofs.on_records.Symbol.{name as #group-of}
+use Rattle.adapter_requests.specs.States.{onPlace}
+use Rattle.adapter_requests.proofs.on_place as on-place
+use Rattle.adapter_requests.proofs.on_place.Symbol.{name as #on-place}
+use Rattle.lent_requests.specs.Requests.{ModesSet, PlaceSet}
+use Rattle.lent_table.proofs.Record.{ReadDevice}
+use Rattle.lent_table.proofs.Gives.{at-list, Lent, LentCell, gives}
+use Rattle.lent_requests.proofs.Payload.{payload, Payload, asks-record, asks-table}
+use Rattle.lent_table.proofs.Called.{asks-nothing, calls-told}
+use Rattle.lent_table.proofs.read_device.Symbol.{name as #read-device}
+use Rattle.lent_requests.proofs.set_place as set-place
+use Rattle.lent_requests.proofs.set_place.Symbol.{name as #set-place}
+use Rattle.lent_requests.proofs.set_modes as set-modes
+use Rattle.lent_requests.proofs.set_modes.Symbol.{name as #set-modes}
 
 -- a `&mut [u8]` is given up: what is in it then is its last value
 module _ {M : Type 1} {𝓤 : URA M} {H : Heap 𝓤} {A : Atoms 𝓤} {K : Type 0} {W : Given 𝓤 H A} {Γ : List (Item 𝓤)} {G : Goal 𝓤 H} where

@@ -11,8 +11,8 @@ use Rattle.rules.specs.Machine.{writeList, playList, Call, step, answers, after
 use Rattle.rules.proofs.Reachable.{fresh-ais, reachable}
 use Rattle.rules.proofs.Move.{Move, move}
 use Rattle.rules.proofs.Replay.{Movable}
-use Rattle.controller.specs.Limits.{limitsOf}
-use Rattle.controller.proofs.Limits.{limits-sized}
+use Rattle.calls.specs.Limits.{limitsOf}
+use Rattle.calls.proofs.Limits.{limits-sized}
 use Rattle.flic.specs.Claim.{Fresh, machine, Moved, listOf, callsOf, Claim}
 use Rattle.flic.specs.Chain.{Host, its-own, asked, Ran}
 use Rattle.flic.proofs.Follows.{hostState, Good, own-length, Stepped, requested, follows}

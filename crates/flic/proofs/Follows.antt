@@ -10,8 +10,8 @@ use Rattle.rules.specs.Machine.{Ask, setAttr, getAttr, guestTake, writeList, pl
 use Rattle.adapters.specs.declared.Device.{Device}
 use Rattle.adapters.specs.declared.Place.{Place}
 use Rattle.adapters.specs.Values.{placeOf}
-use Rattle.controller.specs.declared.Controller.{Controller}
-use Rattle.controller.specs.Limits.{limitsOf}
+use Rattle.calls.specs.declared.Controller.{Controller}
+use Rattle.calls.specs.Limits.{limitsOf}
 use Rattle.flic.specs.Surface.{stateOf, Valid, Requested, Taken}
 use Rattle.flic.specs.Chain.{Host, Lends, its-own, another, asked, Leaves, Ran, end, asks, take}
 use Rattle.flic.proofs.Promises.{next-sound, Tabled, refused-table}

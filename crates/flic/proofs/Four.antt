@@ -7,12 +7,12 @@ use Rattle.flic.proofs.Walk.{ℕ, [], _∷_, List, URA, fullShare, name
 use types.Kit as Kit
 use types.Kit.{mean}
 use mir.Syntax.{Width, Name, Place as Where, Body as Code, Opd as Operand, seq, call}
-use Rattle.table.proofs.Rows.{shares-cell, cell-shared-back, lends-cell, cell-back}
-use Rattle.controller.specs.declared.Controller.{Controller}
-use Rattle.controller.specs.Inner.{controller}
+use Rattle.lent_table.proofs.Rows.{shares-cell, cell-shared-back, lends-cell, cell-back}
+use Rattle.calls.specs.declared.Controller.{Controller}
+use Rattle.calls.specs.Inner.{controller}
 use Rattle.flic.proofs.Ints.{Ints, ints, FitsInts, ints-tells, ints-makes}
 use Rattle.flic.proofs.Opened.{Has, Arrays}
-use Rattle.table.proofs.Called.{Told, calls-told}
+use Rattle.lent_table.proofs.Called.{Told, calls-told}
 
 pub data Way : Type 0 where
   mutably : Way

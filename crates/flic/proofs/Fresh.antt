@@ -7,7 +7,7 @@ use mathlib.Core.Bool.{not}
 use lib.Dec.{eqb}
 use native.Mathlib.Omega.{arith}
 use borrow.Author.Tests.{eqb-true, eqb-false}
-use Rattle.image.specs.Image.{imageSize}
+use Rattle.list_image.specs.Image.{imageSize}
 use mir.Syntax.{place as local, deref, field, copy, int, op2, ne, addrOf, aggregate, rvOpd, Body as Code, seq, assign, cond, call, skip, return}
 use denote.Struct.Laws as LL
 use Rattle.answers.proofs.Answer as An
@@ -18,21 +18,21 @@ use Rattle.adapters.proofs.Device as D
 use Rattle.adapters.proofs.Device.Laws as D′
 use Rattle.adapters.proofs.Place as P
 use Rattle.adapters.proofs.Place.Laws as P′
-use Rattle.table.specs.Table.{restored}
-use Rattle.table.proofs.Tables.{length-restored}
-use Rattle.table.proofs.Images.{image-of-field}
-use Rattle.table.proofs.Record.{StoreDevice, stores-device}
-use Rattle.table.proofs.Calls.{Restore, restores}
-use Rattle.table.proofs.store_device.Symbol.{name as #store-device}
-use Rattle.table.proofs.restore.Symbol.{name as #restore}
-use Rattle.controller.specs.declared.Controller.{Controller}
-use Rattle.controller.specs.declared.Started.{Started}
-use Rattle.controller.proofs.Controller as C
-use Rattle.controller.proofs.Controller.Laws as C′
-use Rattle.controller.proofs.Started as St
-use Rattle.controller.proofs.Started.Laws as St′
-use Rattle.table.proofs.Locals.{Content, blank, holds, since, locals, frees-all, swaps, holds-false, not-not}
-use Rattle.lent.proofs.Answered.{FitsAnswer, refused, Refuse, refuses}
+use Rattle.lent_table.specs.Table.{restored}
+use Rattle.lent_table.proofs.Tables.{length-restored}
+use Rattle.lent_table.proofs.Images.{image-of-field}
+use Rattle.lent_table.proofs.Record.{StoreDevice, stores-device}
+use Rattle.lent_table.proofs.Calls.{Restore, restores}
+use Rattle.lent_table.proofs.store_device.Symbol.{name as #store-device}
+use Rattle.lent_table.proofs.restore.Symbol.{name as #restore}
+use Rattle.calls.specs.declared.Controller.{Controller}
+use Rattle.calls.specs.declared.Started.{Started}
+use Rattle.calls.proofs.Controller as C
+use Rattle.calls.proofs.Controller.Laws as C′
+use Rattle.calls.proofs.Started as St
+use Rattle.calls.proofs.Started.Laws as St′
+use Rattle.lent_table.proofs.Locals.{Content, blank, holds, since, locals, frees-all, swaps, holds-false, not-not}
+use Rattle.lent_requests.proofs.Answered.{FitsAnswer, refused, Refuse, refuses}
 use Rattle.answers.proofs.refuse.Symbol.{name as #refuse}
 use Rattle.flic.proofs.Opened.{Has}
 use Rattle.flic.proofs.All.{Refs, table, Passed, Open, Closed, opens-all, closes-all}

@@ -3,9 +3,9 @@
 use Rattle.flic.proofs.Walk.{refl, subst, ℕ, [], _∷_, List, URA, fullShare, w8, w64, tyInt, tyBool, vbool, id⊢, GName, Lft, Share, ftrue, flft, fobs, fbor, fobor, fauth, fshr-bor, fat, Heap, Atoms, Soaks, Goal, Step, step, Given, Item, Seq, ‵, raw, _⊛_, _$_, move, drop, use1, split, join, Body, Is, shows, mem, partAt, cellAt, Boolean, opens, closes, looks, shuts, owned, peeks, nothing, spelt, _+_, Tys, tcons, tnil, tyArray, tyStruct, Vals, vnil, vcons, vstruct}
 use prog.Model.{fieldsAt}
 use denote.Struct.Laws as LL
-use Rattle.controller.specs.declared.Controller.{Controller}
-use Rattle.controller.proofs.Controller as C
-use Rattle.controller.proofs.Controller.Laws as C′
+use Rattle.calls.specs.declared.Controller.{Controller}
+use Rattle.calls.proofs.Controller as C
+use Rattle.calls.proofs.Controller.Laws as C′
 use Rattle.flic.proofs.Fields.{FieldsBack, fields-out, fields-in}
 use Rattle.flic.proofs.Ints.{Ints, ints, FitsInts, int-in, int-out}
 

@@ -23,19 +23,19 @@ use Rattle.answers.specs.declared.Answer.{Answer}
 use Rattle.adapters.specs.declared.Device.{Device}
 use Rattle.adapters.specs.declared.Place.{Place}
 use Rattle.adapters.specs.Values.{placeOf, deviceOf, unused, Canonical}
-use Rattle.image.specs.Image.{imageSize, unpacked}
-use Rattle.image.proofs.Laws.{unpacked-zero, unpacked-table}
-use Rattle.table.specs.Table.{snapTo, restored}
-use Rattle.lent.specs.Requests.{ModesSet, PlaceSet}
-use Rattle.table.proofs.Tables.{snap-all, restored-all, restored-whole}
-use Rattle.lent.proofs.Maps.{map-replicate}
-use Rattle.lent.proofs.Laws.{canonical-unused}
-use Rattle.controller.specs.declared.Controller.{Controller}
-use Rattle.controller.specs.declared.Started.{Started}
-use Rattle.controller.specs.Limits.{limitsOf}
-use Rattle.controller.proofs.Limits.{limits-sized, limits-made, limits-kept}
+use Rattle.list_image.specs.Image.{imageSize, unpacked}
+use Rattle.list_image.proofs.Packed.{unpacked-zero, unpacked-table}
+use Rattle.lent_table.specs.Table.{snapTo, restored}
+use Rattle.lent_requests.specs.Requests.{ModesSet, PlaceSet}
+use Rattle.lent_table.proofs.Tables.{snap-all, restored-all, restored-whole}
+use Rattle.lent_requests.proofs.Maps.{map-replicate}
+use Rattle.lent_requests.proofs.Laws.{canonical-unused}
+use Rattle.calls.specs.declared.Controller.{Controller}
+use Rattle.calls.specs.declared.Started.{Started}
+use Rattle.calls.specs.Limits.{limitsOf}
+use Rattle.calls.proofs.Limits.{limits-sized, limits-made, limits-kept}
 use Rattle.flic.specs.Surface.{stateOf, Valid, Steps, Made, Requested, Taken}
-use Rattle.controller.specs.Inner.{pendingIn, Began, playedState, Replayed, Wrote, Recorded, notedIn, Injected, Got, Handed}
+use Rattle.calls.specs.Inner.{pendingIn, Began, playedState, Replayed, Wrote, Recorded, notedIn, Injected, Got, Handed}
 use Rattle.answers.specs.Answers.{answered, saw}
 
 -- a state that a step leads to is sound

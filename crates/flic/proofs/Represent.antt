@@ -16,14 +16,14 @@ use Rattle.rules.proofs.Lists.{flatten-append}
 use Rattle.rules.proofs.Reachable.{listing-sendable}
 use Rattle.adapters.specs.declared.Place.{Place}
 use Rattle.adapters.specs.Values.{placeOf, unused, Canonical}
-use Rattle.slots.specs.Slots.{slotCount, slot, Apart}
-use Rattle.queues.specs.Queues.{row, rows, each, total, used, spare, listed, queues, sum, bits, upFrom, Held}
-use Rattle.queues.proofs.Laws.{length-up, up-once}
-use Rattle.singles.specs.Singles.{ifThere, serviceOf, mchkOf}
-use Rattle.records.specs.Memory.{pendingOf}
-use Rattle.controller.specs.declared.Controller.{Controller}
-use Rattle.controller.specs.Limits.{limitsOf}
-use Rattle.controller.proofs.Limits.{limits-sized, limits-kept}
+use Rattle.store_queues.specs.Slots.{slotCount, slot, Apart}
+use Rattle.store_queues.specs.Queues.{row, rows, each, total, used, spare, listed, queues, sum, bits, upFrom, Held}
+use Rattle.store_queues.proofs.Laws.{length-up, up-once}
+use Rattle.store_singles.specs.Singles.{ifThere, serviceOf, mchkOf}
+use Rattle.store.specs.Memory.{pendingOf}
+use Rattle.calls.specs.declared.Controller.{Controller}
+use Rattle.calls.specs.Limits.{limitsOf}
+use Rattle.calls.proofs.Limits.{limits-sized, limits-kept}
 use Rattle.flic.specs.Surface.{stateOf, Ready, Valid}
 use Rattle.flic.specs.Chain.{Host}
 

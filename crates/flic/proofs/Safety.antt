@@ -31,8 +31,8 @@ use Rattle.answers.specs.declared.Answer.{Answer}
 use Rattle.adapters.specs.declared.Device.{Device}
 use Rattle.adapters.specs.declared.Place.{Place}
 use Rattle.adapters.specs.Values.{placeOf, unused, Canonical}
-use Rattle.controller.specs.declared.Controller.{Controller}
-use Rattle.controller.specs.Limits.{limitsOf}
+use Rattle.calls.specs.declared.Controller.{Controller}
+use Rattle.calls.specs.Limits.{limitsOf}
 use Rattle.flic.specs.Surface.{stateOf, Steps, Requested, Taken, Made}
 use Rattle.flic.specs.Chain.{asked}
 use Rattle.flic.specs.Safety.{SafeRequest, SafeTake, IsFresh, playing, SafePlay, SafeMake}

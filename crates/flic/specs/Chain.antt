@@ -10,8 +10,8 @@ use Rattle.rules.specs.Outcome.{Seen}
 use Rattle.rules.specs.Machine.{Ask, setAttr, getAttr, guestTake, writeList, playList, Call}
 use Rattle.adapters.specs.declared.Device.{Device}
 use Rattle.adapters.specs.declared.Place.{Place}
-use Rattle.controller.specs.declared.Controller.{Controller}
-use Rattle.controller.specs.Limits.{limitsOf}
+use Rattle.calls.specs.declared.Controller.{Controller}
+use Rattle.calls.specs.Limits.{limitsOf}
 use Rattle.flic.specs.Surface.{Ready, Premise, Requested, Taken}
 
 -- A controller with its device record and its own table, as the calls before returned or left them.

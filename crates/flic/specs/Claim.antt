@@ -12,7 +12,7 @@ use Rattle.rules.specs.Machine.{writeList, playList, Call, answers, after}
 use Rattle.answers.specs.declared.Answer.{Answer}
 use Rattle.adapters.specs.declared.Device.{Device}
 use Rattle.adapters.specs.declared.Place.{Place}
-use Rattle.controller.specs.declared.Controller.{Controller}
+use Rattle.calls.specs.declared.Controller.{Controller}
 use Rattle.flic.specs.Surface.{Made, Requested}
 use Rattle.flic.specs.Chain.{Host, asked, Ran}
 

@@ -14,9 +14,9 @@ use Rattle.answers.specs.declared.Answer.{Answer}
 use Rattle.adapters.specs.declared.Device.{Device}
 use Rattle.adapters.specs.declared.Place.{Place}
 use Rattle.adapters.specs.Values.{unused}
-use Rattle.records.specs.Memory.{pendingOf}
-use Rattle.controller.specs.declared.Controller.{Controller}
-use Rattle.controller.specs.Limits.{limitsOf}
+use Rattle.store.specs.Memory.{pendingOf}
+use Rattle.calls.specs.declared.Controller.{Controller}
+use Rattle.calls.specs.Limits.{limitsOf}
 use Rattle.answers.specs.Answers.{answered}
 
 -- 01, 'Codes and the order of checks': the code is 0 or one of the six.

@@ -13,10 +13,10 @@ use Rattle.answers.specs.declared.Answer.{Answer}
 use Rattle.adapters.specs.declared.Device.{Device}
 use Rattle.adapters.specs.declared.Place.{Place}
 use Rattle.adapters.specs.Values.{placeOf, deviceOf, Canonical}
-use Rattle.queues.specs.Queues.{Held}
-use Rattle.records.specs.Memory.{pendingOf}
-use Rattle.controller.specs.declared.Controller.{Controller}
-use Rattle.controller.specs.Limits.{limitsOf}
+use Rattle.store_queues.specs.Queues.{Held}
+use Rattle.store.specs.Memory.{pendingOf}
+use Rattle.calls.specs.declared.Controller.{Controller}
+use Rattle.calls.specs.Limits.{limitsOf}
 use Rattle.answers.specs.Answers.{answered}
 
 -- 01, 'What it holds': the plain machine's state.

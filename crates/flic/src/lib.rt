@@ -1,4 +1,4 @@
-// The public calls: what a caller may use is this crate, with the records `controller::Controller`, `adapters::Device` and `adapters::Place` that he lends and the
+// The public calls: what a caller may use is this crate, with the records `calls::Controller`, `adapters::Device` and `adapters::Place` that he lends and the
 // `answers::Answer` that he gets.
 ghost use Rattle.rules.specs.State.{paperLimits};
 ghost use Rattle.rules.specs.Machine.{setAttr, getAttr, writeList, playList};
@@ -8,10 +8,10 @@ use adapters::Device;
 use adapters::Place;
 use answers::Answer;
 use answers::EFAULT;
-use controller::Controller;
-use words::AIRQ_INJECT;
-use words::AdapterId;
-use words::PLACES;
+use calls::Controller;
+use numbers::AIRQ_INJECT;
+use numbers::AdapterId;
+use numbers::PLACES;
 
 // A fresh controller with this capability. Its memory holds any values of its types before, for example zeros.
 #[no_mangle]
@@ -26,7 +26,7 @@ pub extern "C" fn flic_make(
     if t.len() != PLACES {
         return answers::refuse(EFAULT);
     }
-    let r = controller::start(
+    let r = calls::start(
         &mut c.slots,
         &mut c.order,
         &mut c.counts,
@@ -34,8 +34,8 @@ pub extern "C" fn flic_make(
         ais,
     );
     c.ais = r.ais;
-    table::store_device(d, r.device);
-    table::restore(t, r.restored, r.image);
+    lent_table::store_device(d, r.device);
+    lent_table::restore(t, r.restored, r.image);
     r.answer
 }
 
@@ -55,8 +55,8 @@ pub extern "C" fn flic_set(
     if t.len() != PLACES {
         return answers::refuse(EFAULT);
     }
-    if core::on_records(group) {
-        return controller::answer_records(
+    if calls::on_records(group) {
+        return calls::answer_records(
             &mut c.slots,
             &mut c.order,
             &mut c.counts,
@@ -68,9 +68,9 @@ pub extern "C" fn flic_set(
     }
     if group == AIRQ_INJECT {
         let id = AdapterId(attr);
-        let place = table::look_up(t, id);
-        let device = table::read_device(d);
-        let r = controller::answer_inject(
+        let place = lent_table::look_up(t, id);
+        let device = lent_table::read_device(d);
+        let r = calls::answer_inject(
             &mut c.slots,
             &mut c.order,
             &mut c.counts,
@@ -83,13 +83,13 @@ pub extern "C" fn flic_set(
         if r.count != 1 {
             return r; // refused, or dropped
         }
-        table::note_injection(d, c.ais, place);
+        lent_table::note_injection(d, c.ais, place);
         return r;
     }
-    if values::on_place(group) {
-        return lent::set_place(t, group, attr, payload);
+    if adapter_requests::on_place(group) {
+        return lent_requests::set_place(t, group, attr, payload);
     }
-    lent::set_modes(d, c.ais, group, attr, payload)
+    lent_requests::set_modes(d, c.ais, group, attr, payload)
 }
 
 // A request that gets.
@@ -108,8 +108,8 @@ pub extern "C" fn flic_get(
     if t.len() != PLACES {
         return answers::refuse(EFAULT);
     }
-    let device = table::read_device(d);
-    controller::answer_get(
+    let device = lent_table::read_device(d);
+    calls::answer_get(
         &c.slots,
         &c.order,
         &c.counts,
@@ -134,7 +134,7 @@ pub extern "C" fn flic_take(
     requires { ⌜ Ready (now c) ⌝ }
     ensures { λ r. ⌜ Taken subclasses external mcheck (now (c .entry)) (now (c .exit)) (now (out .entry)) (saw r (now (out .exit))) ⌝ }
 {
-    controller::hand_out(
+    calls::hand_out(
         &mut c.slots,
         &mut c.order,
         &mut c.counts,
@@ -155,9 +155,9 @@ pub extern "C" fn flic_write_list(c: &Controller, d: &Device, t: &[Place], out: 
     if t.len() != PLACES {
         return answers::refuse(EFAULT);
     }
-    let device = table::read_device(d);
-    let image = table::snapshot(t);
-    controller::write_from(
+    let device = lent_table::read_device(d);
+    let image = lent_table::snapshot(t);
+    calls::write_from(
         &c.slots,
         &c.order,
         &c.counts,
@@ -183,7 +183,7 @@ pub extern "C" fn flic_play_list(
     if t.len() != PLACES {
         return answers::refuse(EFAULT);
     }
-    let r = controller::replay(
+    let r = calls::replay(
         &mut c.slots,
         &mut c.order,
         &mut c.counts,
@@ -194,7 +194,7 @@ pub extern "C" fn flic_play_list(
     if r.restored == 0 {
         return r.answer;
     }
-    table::store_device(d, r.device);
-    table::restore(t, r.restored, r.image);
+    lent_table::store_device(d, r.device);
+    lent_table::restore(t, r.restored, r.image);
     r.answer
 }

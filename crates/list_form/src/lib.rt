@@ -10,7 +10,7 @@ use answers::E2BIG;
 use answers::EFAULT;
 use answers::EINVAL;
 use answers::EOPNOTSUPP;
-use words::MOST_REQUESTS;
+use numbers::MOST_REQUESTS;
 
 pub fn flag_of(on: bool) -> u64
     ensures { λ r. ⌜ (r ≡ oneIf on) × (r ≤ 1) ⌝ }
@@ -43,13 +43,13 @@ fn slot_formed(list: &[u8], place: usize, at: u64) -> bool
     ensures { λ r. ⌜ r ≡ slotFormed at (slotAt place (now (list .entry))) ⌝ }
 {
     let e = 20 + 24 * place;
-    if words::read_be(list, e, 4) != at {
+    if numbers::read_be(list, e, 4) != at {
         return false; // not where the one before ended
     }
-    if words::read_be(list, e + 12, 4) != 0 {
+    if numbers::read_be(list, e + 12, 4) != 0 {
         return false;
     }
-    is_movable(words::read_be(list, e + 4, 4))
+    is_movable(numbers::read_be(list, e + 4, 4))
 }
 
 // Entry by entry, and the last end.
@@ -63,7 +63,7 @@ fn slots_formed(list: &[u8], count: usize) -> bool
         if !slot_formed(list, i, at) {
             return false;
         }
-        at += words::read_be(list, 28 + 24 * i, 4); // cannot wrap: MOST_REQUESTS lengths below 2^32
+        at += numbers::read_be(list, 28 + 24 * i, 4); // cannot wrap: MOST_REQUESTS lengths below 2^32
         i += 1;
     }
     at == list.len() as u64
@@ -74,10 +74,10 @@ fn offsets(list: &[u8], count: u64) -> bool
     requires { ⌜ (headerBytes ≤ length (now list)) × (count ≤ mostRequests) ⌝ }
     ensures { λ r. ⌜ r ≡ (eqb (tableOffsetIn (now (list .entry))) headerBytes && (eqb (payloadOffsetIn (now (list .entry))) (payloadOffset count) && leb (payloadOffsetIn (now (list .entry))) (length (now (list .entry))))) ⌝ }
 {
-    if words::read_be(list, 8, 4) != 20 {
+    if numbers::read_be(list, 8, 4) != 20 {
         return false;
     }
-    let start = words::read_be(list, 12, 4);
+    let start = numbers::read_be(list, 12, 4);
     if start != 20 + 24 * count {
         return false;
     }
@@ -91,14 +91,14 @@ pub fn form(list: &[u8], ais: bool) -> u32
     if list.len() < 20 {
         return EFAULT;
     }
-    if words::read_be(list, 0, 4) != list.len() as u64 {
+    if numbers::read_be(list, 0, 4) != list.len() as u64 {
         return EINVAL; // another total
     }
-    let flag = words::read_be(list, 16, 4);
+    let flag = numbers::read_be(list, 16, 4);
     if 1 < flag {
         return EINVAL;
     }
-    let count = words::read_be(list, 4, 4);
+    let count = numbers::read_be(list, 4, 4);
     if MOST_REQUESTS < count {
         return E2BIG;
     }

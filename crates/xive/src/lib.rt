@@ -39,7 +39,7 @@ pub extern "C" fn xive_initialise(
     if SOURCES as u64 <= number {
         return answers::refuse(E2BIG);
     }
-    let word = words::read_doubleword(payload, 0);
+    let word = numbers::read_doubleword(payload, 0);
     xive_sources::store(
         sources,
         SourceNumber(number),
@@ -59,7 +59,7 @@ pub extern "C" fn xive_target(sources: &mut [u64; SOURCES], number: u64, payload
     match xive_sources::look_up(sources, SourceNumber(number)) {
         Look::Refused(code) => answers::refuse(code),
         Look::At(stored) => {
-            let word = words::read_doubleword(payload, 0);
+            let word = numbers::read_doubleword(payload, 0);
             if !xive_sources::is_server(xive_sources::server_in(word)) {
                 return answers::refuse(EINVAL);
             }

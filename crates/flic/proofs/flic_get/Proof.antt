@@ -8,9 +8,9 @@ use mathlib.Core.Bool.{not}
 use borrow.Author.Tests.{eqb-true, eqb-false}
 use denote.Struct.Laws as LL
 use denote.Signature.{shrRefTo, shrSliceOf}
-use Rattle.controller.specs.Limits.{limitsOf}
-use Rattle.controller.proofs.Limits.{right-length, wrong-length}
-use Rattle.image.specs.Image.{imageSize}
+use Rattle.calls.specs.Limits.{limitsOf}
+use Rattle.calls.proofs.Limits.{right-length, wrong-length}
+use Rattle.list_image.specs.Image.{imageSize}
 use Rattle.rules.specs.Machine.{getAttr}
 use Rattle.answers.specs.declared.Answer.{Answer}
 use Rattle.answers.specs.Answers.{saw}
@@ -21,25 +21,25 @@ use Rattle.adapters.specs.declared.Place.{Place}
 use Rattle.adapters.proofs.Device as D
 use Rattle.adapters.proofs.Device.Laws as D′
 use Rattle.adapters.proofs.Place as P
-use Rattle.table.proofs.Record.{ReadDevice}
-use Rattle.controller.specs.declared.Controller.{Controller}
+use Rattle.lent_table.proofs.Record.{ReadDevice}
+use Rattle.calls.specs.declared.Controller.{Controller}
 use Rattle.flic.specs.Surface.{Valid, Requested}
-use Rattle.controller.specs.Inner.{Got}
-use Rattle.controller.proofs.Controller as C
+use Rattle.calls.specs.Inner.{Got}
+use Rattle.calls.proofs.Controller as C
 use Rattle.flic.proofs.Promises.{get-promises, wrong-promises}
-use Rattle.table.proofs.Locals.{Content, blank, holds, since, locals, frees-all, swaps, holds-false, not-not}
+use Rattle.lent_table.proofs.Locals.{Content, blank, holds, since, locals, frees-all, swaps, holds-false, not-not}
 use Rattle.flic.proofs.Opened.{Has, Cells, looks-ctl, shuts-ctl}
 use Rattle.flic.proofs.Four.{shared, at-array, Loan, Toks, Lent, lent-lfts, lent-shares, lent-args, lent-vals, calls-four}
 use Rattle.flic.proofs.Calls.{gives-up, reads-passed}
-use Rattle.table.proofs.Count.{taken}
-use Rattle.lent.proofs.Answered.{refused, Refuse, refuses}
+use Rattle.lent_table.proofs.Count.{taken}
+use Rattle.lent_requests.proofs.Answered.{refused, Refuse, refuses}
 use Rattle.answers.proofs.refuse.Symbol as refuse-def
 use Rattle.answers.proofs.refuse.Met as refuse-thm
-use Rattle.table.proofs.read_device.Symbol as read-device-def
-use Rattle.table.proofs.read_device.Met as read-device-thm
-use Rattle.controller.proofs.answer_get as answer-get
-use Rattle.controller.proofs.answer_get.Symbol as answer-get-def
-use Rattle.controller.proofs.answer_get.Met as answer-get-thm
+use Rattle.lent_table.proofs.read_device.Symbol as read-device-def
+use Rattle.lent_table.proofs.read_device.Met as read-device-thm
+use Rattle.calls.proofs.answer_get as answer-get
+use Rattle.calls.proofs.answer_get.Symbol as answer-get-def
+use Rattle.calls.proofs.answer_get.Met as answer-get-thm
 use Rattle.flic.proofs.flic_get.Key.{name as #key}
 use Rattle.flic.proofs.flic_get as f
 use Rattle.flic.proofs.flic_get.Statement as stated
@@ -220,5 +220,5 @@ flic-get-spec 𝓤 H 𝓜 𝓖 𝓡 =
     (tables 𝓤 H 𝓜 𝓡 code.env .C) (tables 𝓤 H 𝓜 𝓡 code.env .Λ) #key code.function (code.unfolded 𝓤 H 𝓜 𝓡)
     (meets 𝓤 H (𝓖 .A) (givenOf 𝓤 H 𝓜 𝓖) (𝓜 .mem) (𝓡 .run) (tablesOf 𝓤 H 𝓜 (tables 𝓤 H 𝓜 𝓡 code.env))
     (cited 𝓤 H (Refuse 𝓤 H (𝓖 .A) (𝓜 .mem) (𝓡 .run)) 𝓜 𝓡 code.env refuse-def.name refuse-def.routine code.calls-answers·refuse (refuse-thm.met 𝓤 H 𝓜 𝓖 𝓡))
-    (cited 𝓤 H (ReadDevice 𝓤 H (𝓖 .A) (𝓜 .mem) (𝓡 .run)) 𝓜 𝓡 code.env read-device-def.name read-device-def.routine code.calls-table·read-device (read-device-thm.met 𝓤 H 𝓜 𝓖 𝓡))
-    (cited 𝓤 H (AnswerGet 𝓤 H (𝓖 .A) (𝓜 .mem) (𝓡 .run)) 𝓜 𝓡 code.env answer-get-def.name answer-get-def.routine code.calls-controller·answer-get (answer-get-thm.met 𝓤 H 𝓜 𝓖 𝓡)))
+    (cited 𝓤 H (ReadDevice 𝓤 H (𝓖 .A) (𝓜 .mem) (𝓡 .run)) 𝓜 𝓡 code.env read-device-def.name read-device-def.routine code.calls-lent-table·read-device (read-device-thm.met 𝓤 H 𝓜 𝓖 𝓡))
+    (cited 𝓤 H (AnswerGet 𝓤 H (𝓖 .A) (𝓜 .mem) (𝓡 .run)) 𝓜 𝓡 code.env answer-get-def.name answer-get-def.routine code.calls-calls·answer-get (answer-get-thm.met 𝓤 H 𝓜 𝓖 𝓡)))

@@ -3,7 +3,7 @@ use Rattle.flic.proofs.Walk.{_≡_, refl, ap, subst, ℕ, Bool, [], _�
 use denote.Struct.Laws as LL
 use mathlib.Core.Path.{sym, _∙_}
 use Rattle.rules.specs.State.{paperLimits}
-use Rattle.play.proofs.Sized.{paper-sized}
+use Rattle.list_play.proofs.Sized.{paper-sized}
 use Rattle.answers.specs.declared.Answer.{Answer}
 use Rattle.answers.proofs.Answer as An
 use Rattle.answers.proofs.Answer.Laws as An′
@@ -12,33 +12,33 @@ use Rattle.adapters.specs.declared.Place.{Place}
 use Rattle.adapters.proofs.Device as D
 use Rattle.adapters.proofs.Device.Laws as D′
 use Rattle.adapters.proofs.Place as P
-use Rattle.table.proofs.Record.{StoreDevice}
-use Rattle.table.proofs.Calls.{Restore}
-use Rattle.controller.specs.declared.Controller.{Controller}
-use Rattle.controller.specs.declared.Started.{Started}
+use Rattle.lent_table.proofs.Record.{StoreDevice}
+use Rattle.lent_table.proofs.Calls.{Restore}
+use Rattle.calls.specs.declared.Controller.{Controller}
+use Rattle.calls.specs.declared.Started.{Started}
 use Rattle.flic.specs.Surface.{Made}
-use Rattle.controller.specs.Inner.{controller, Began}
-use Rattle.controller.proofs.Controller as C
-use Rattle.controller.proofs.Started as St
-use Rattle.controller.proofs.Started.Laws as St′
+use Rattle.calls.specs.Inner.{controller, Began}
+use Rattle.calls.proofs.Controller as C
+use Rattle.calls.proofs.Started as St
+use Rattle.calls.proofs.Started.Laws as St′
 use Rattle.flic.proofs.Promises.{make-promises, wrong-makes}
-use Rattle.table.proofs.Locals.{Content, blank, holds, locals}
+use Rattle.lent_table.proofs.Locals.{Content, blank, holds, locals}
 use Rattle.flic.proofs.Opened.{Has}
-use Rattle.table.proofs.Called.{asks-nothing}
+use Rattle.lent_table.proofs.Called.{asks-nothing}
 use Rattle.flic.proofs.All.{Refs, refs, at-ctl, at-dev, at-tab, table, Owned, Tokens, Open, Closed, takes-all, gives-all}
 use Rattle.flic.proofs.Four.{mutably, Loan, left-by, lent-lfts, lent-shares, lent-args, lent-vals, calls-four}
 use Rattle.flic.proofs.Fresh as Fresh
 use Rattle.flic.proofs.Fresh.{Known, starts, finishes}
 use Rattle.answers.proofs.refuse.Symbol as refuse-def
 use Rattle.answers.proofs.refuse.Met as refuse-thm
-use Rattle.lent.proofs.Answered.{refused, Refuse}
-use Rattle.table.proofs.store_device.Symbol as store-device-def
-use Rattle.table.proofs.store_device.Met as store-device-thm
-use Rattle.table.proofs.restore.Symbol as restore-def
-use Rattle.table.proofs.restore.Met as restore-thm
-use Rattle.controller.proofs.start as start
-use Rattle.controller.proofs.start.Symbol as start-def
-use Rattle.controller.proofs.start.Met as start-thm
+use Rattle.lent_requests.proofs.Answered.{refused, Refuse}
+use Rattle.lent_table.proofs.store_device.Symbol as store-device-def
+use Rattle.lent_table.proofs.store_device.Met as store-device-thm
+use Rattle.lent_table.proofs.restore.Symbol as restore-def
+use Rattle.lent_table.proofs.restore.Met as restore-thm
+use Rattle.calls.proofs.start as start
+use Rattle.calls.proofs.start.Symbol as start-def
+use Rattle.calls.proofs.start.Met as start-thm
 use Rattle.flic.proofs.flic_make.Key.{name as #key}
 use Rattle.flic.proofs.flic_make as f
 use Rattle.flic.proofs.flic_make.Statement as stated
@@ -134,6 +134,6 @@ flic-make-spec 𝓤 H 𝓜 𝓖 𝓡 =
     (tables 𝓤 H 𝓜 𝓡 code.env .C) (tables 𝓤 H 𝓜 𝓡 code.env .Λ) #key code.function (code.unfolded 𝓤 H 𝓜 𝓡)
     (meets 𝓤 H (𝓖 .A) (givenOf 𝓤 H 𝓜 𝓖) (𝓜 .mem) (𝓡 .run) (tablesOf 𝓤 H 𝓜 (tables 𝓤 H 𝓜 𝓡 code.env)) (record {
       refuse = cited 𝓤 H (Refuse 𝓤 H (𝓖 .A) (𝓜 .mem) (𝓡 .run)) 𝓜 𝓡 code.env refuse-def.name refuse-def.routine code.calls-answers·refuse (refuse-thm.met 𝓤 H 𝓜 𝓖 𝓡);
-      store-device = cited 𝓤 H (StoreDevice 𝓤 H (𝓖 .A) (𝓜 .mem) (𝓡 .run)) 𝓜 𝓡 code.env store-device-def.name store-device-def.routine code.calls-table·store-device (store-device-thm.met 𝓤 H 𝓜 𝓖 𝓡);
-      restore = cited 𝓤 H (Restore 𝓤 H (𝓖 .A) (𝓜 .mem) (𝓡 .run)) 𝓜 𝓡 code.env restore-def.name restore-def.routine code.calls-table·restore (restore-thm.met 𝓤 H 𝓜 𝓖 𝓡);
-    }) (cited 𝓤 H (Start 𝓤 H (𝓖 .A) (𝓜 .mem) (𝓡 .run)) 𝓜 𝓡 code.env start-def.name start-def.routine code.calls-controller·start (start-thm.met 𝓤 H 𝓜 𝓖 𝓡)))
+      store-device = cited 𝓤 H (StoreDevice 𝓤 H (𝓖 .A) (𝓜 .mem) (𝓡 .run)) 𝓜 𝓡 code.env store-device-def.name store-device-def.routine code.calls-lent-table·store-device (store-device-thm.met 𝓤 H 𝓜 𝓖 𝓡);
+      restore = cited 𝓤 H (Restore 𝓤 H (𝓖 .A) (𝓜 .mem) (𝓡 .run)) 𝓜 𝓡 code.env restore-def.name restore-def.routine code.calls-lent-table·restore (restore-thm.met 𝓤 H 𝓜 𝓖 𝓡);
+    }) (cited 𝓤 H (Start 𝓤 H (𝓖 .A) (𝓜 .mem) (𝓡 .run)) 𝓜 𝓡 code.env start-def.name start-def.routine code.calls-calls·start (start-thm.met 𝓤 H 𝓜 𝓖 𝓡)))

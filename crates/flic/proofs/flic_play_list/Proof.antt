@@ -5,8 +5,8 @@ use lib.Dec.{eqb}
 use borrow.Author.Tests.{eqb-true, eqb-false}
 use denote.Struct.Laws as LL
 use denote.Signature.{shrSliceOf}
-use Rattle.controller.specs.Limits.{limitsOf}
-use Rattle.controller.proofs.Limits.{right-length, wrong-length}
+use Rattle.calls.specs.Limits.{limitsOf}
+use Rattle.calls.proofs.Limits.{right-length, wrong-length}
 use Rattle.rules.specs.Machine.{playList}
 use Rattle.answers.specs.declared.Answer.{Answer}
 use Rattle.answers.specs.Answers.{saw}
@@ -17,17 +17,17 @@ use Rattle.adapters.specs.declared.Place.{Place}
 use Rattle.adapters.proofs.Device as D
 use Rattle.adapters.proofs.Device.Laws as D′
 use Rattle.adapters.proofs.Place as P
-use Rattle.table.proofs.Record.{StoreDevice}
-use Rattle.table.proofs.Calls.{Restore}
-use Rattle.controller.specs.declared.Controller.{Controller}
-use Rattle.controller.specs.declared.Started.{Started}
+use Rattle.lent_table.proofs.Record.{StoreDevice}
+use Rattle.lent_table.proofs.Calls.{Restore}
+use Rattle.calls.specs.declared.Controller.{Controller}
+use Rattle.calls.specs.declared.Started.{Started}
 use Rattle.flic.specs.Surface.{Valid, Requested}
-use Rattle.controller.specs.Inner.{Replayed}
-use Rattle.controller.proofs.Controller as C
-use Rattle.controller.proofs.Started as St
-use Rattle.controller.proofs.Started.Laws as St′
+use Rattle.calls.specs.Inner.{Replayed}
+use Rattle.calls.proofs.Controller as C
+use Rattle.calls.proofs.Started as St
+use Rattle.calls.proofs.Started.Laws as St′
 use Rattle.flic.proofs.Promises.{same-promises, play-promises, wrong-promises}
-use Rattle.table.proofs.Locals.{Content, blank, holds, locals, frees-all, swaps, holds-true, holds-false}
+use Rattle.lent_table.proofs.Locals.{Content, blank, holds, locals, frees-all, swaps, holds-true, holds-false}
 use Rattle.flic.proofs.Opened.{Has}
 use Rattle.flic.proofs.All.{Refs, refs, at-ctl, at-dev, at-tab, table, Owned, Tokens, Open, Closed, closes-all, takes-all, gives-all}
 use Rattle.flic.proofs.Four.{mutably, at-array, Loan, Toks, Lent, left-by, lent-lfts, lent-shares, lent-args, lent-vals, calls-four}
@@ -35,15 +35,15 @@ use Rattle.flic.proofs.Fresh as Fresh
 use Rattle.flic.proofs.Fresh.{Known, starts, finishes}
 use Rattle.answers.proofs.refuse.Symbol as refuse-def
 use Rattle.answers.proofs.refuse.Met as refuse-thm
-use Rattle.table.proofs.Count.{taken}
-use Rattle.lent.proofs.Answered.{refused, Refuse}
-use Rattle.table.proofs.store_device.Symbol as store-device-def
-use Rattle.table.proofs.store_device.Met as store-device-thm
-use Rattle.table.proofs.restore.Symbol as restore-def
-use Rattle.table.proofs.restore.Met as restore-thm
-use Rattle.controller.proofs.replay as replay
-use Rattle.controller.proofs.replay.Symbol as replay-def
-use Rattle.controller.proofs.replay.Met as replay-thm
+use Rattle.lent_table.proofs.Count.{taken}
+use Rattle.lent_requests.proofs.Answered.{refused, Refuse}
+use Rattle.lent_table.proofs.store_device.Symbol as store-device-def
+use Rattle.lent_table.proofs.store_device.Met as store-device-thm
+use Rattle.lent_table.proofs.restore.Symbol as restore-def
+use Rattle.lent_table.proofs.restore.Met as restore-thm
+use Rattle.calls.proofs.replay as replay
+use Rattle.calls.proofs.replay.Symbol as replay-def
+use Rattle.calls.proofs.replay.Met as replay-thm
 use Rattle.flic.proofs.flic_play_list.Key.{name as #key}
 use Rattle.flic.proofs.flic_play_list as f
 use Rattle.flic.proofs.flic_play_list.Statement as stated
@@ -177,6 +177,6 @@ flic-play-list-spec 𝓤 H 𝓜 𝓖 𝓡 =
     (tables 𝓤 H 𝓜 𝓡 code.env .C) (tables 𝓤 H 𝓜 𝓡 code.env .Λ) #key code.function (code.unfolded 𝓤 H 𝓜 𝓡)
     (meets 𝓤 H (𝓖 .A) (givenOf 𝓤 H 𝓜 𝓖) (𝓜 .mem) (𝓡 .run) (tablesOf 𝓤 H 𝓜 (tables 𝓤 H 𝓜 𝓡 code.env)) (record {
       refuse = cited 𝓤 H (Refuse 𝓤 H (𝓖 .A) (𝓜 .mem) (𝓡 .run)) 𝓜 𝓡 code.env refuse-def.name refuse-def.routine code.calls-answers·refuse (refuse-thm.met 𝓤 H 𝓜 𝓖 𝓡);
-      store-device = cited 𝓤 H (StoreDevice 𝓤 H (𝓖 .A) (𝓜 .mem) (𝓡 .run)) 𝓜 𝓡 code.env store-device-def.name store-device-def.routine code.calls-table·store-device (store-device-thm.met 𝓤 H 𝓜 𝓖 𝓡);
-      restore = cited 𝓤 H (Restore 𝓤 H (𝓖 .A) (𝓜 .mem) (𝓡 .run)) 𝓜 𝓡 code.env restore-def.name restore-def.routine code.calls-table·restore (restore-thm.met 𝓤 H 𝓜 𝓖 𝓡);
-    }) (cited 𝓤 H (Replay 𝓤 H (𝓖 .A) (𝓜 .mem) (𝓡 .run)) 𝓜 𝓡 code.env replay-def.name replay-def.routine code.calls-controller·replay (replay-thm.met 𝓤 H 𝓜 𝓖 𝓡)))
+      store-device = cited 𝓤 H (StoreDevice 𝓤 H (𝓖 .A) (𝓜 .mem) (𝓡 .run)) 𝓜 𝓡 code.env store-device-def.name store-device-def.routine code.calls-lent-table·store-device (store-device-thm.met 𝓤 H 𝓜 𝓖 𝓡);
+      restore = cited 𝓤 H (Restore 𝓤 H (𝓖 .A) (𝓜 .mem) (𝓡 .run)) 𝓜 𝓡 code.env restore-def.name restore-def.routine code.calls-lent-table·restore (restore-thm.met 𝓤 H 𝓜 𝓖 𝓡);
+    }) (cited 𝓤 H (Replay 𝓤 H (𝓖 .A) (𝓜 .mem) (𝓡 .run)) 𝓜 𝓡 code.env replay-def.name replay-def.routine code.calls-calls·replay (replay-thm.met 𝓤 H 𝓜 𝓖 𝓡)))

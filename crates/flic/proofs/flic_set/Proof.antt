@@ -11,15 +11,15 @@ use borrow.Author.Tests.{eqb-true, eqb-false}
 use package.mir.Syntax.{return}
 use denote.Struct.Laws as LL
 use denote.Signature.{shrSliceOf}
-use Rattle.controller.specs.Limits.{limitsOf}
-use Rattle.controller.proofs.Limits.{right-length, wrong-length}
-use Rattle.image.specs.Image.{imageSize}
+use Rattle.calls.specs.Limits.{limitsOf}
+use Rattle.calls.proofs.Limits.{right-length, wrong-length}
+use Rattle.list_image.specs.Image.{imageSize}
 use Rattle.rules.specs.Machine.{setAttr}
 use Rattle.rules.proofs.Checks.{chosen, passed}
 use Rattle.rules.proofs.Lists.{all-get}
-use Rattle.words.specs.declared.AdapterId.{AdapterId}
-use Rattle.words.proofs.AdapterId as I
-use Rattle.words.proofs.AdapterId.Laws as I′
+use Rattle.numbers.specs.declared.AdapterId.{AdapterId}
+use Rattle.numbers.proofs.AdapterId as I
+use Rattle.numbers.proofs.AdapterId.Laws as I′
 use Rattle.answers.specs.declared.Answer.{Answer}
 use Rattle.answers.specs.Answers.{saw}
 use Rattle.answers.proofs.Answer as An
@@ -33,39 +33,39 @@ use Rattle.adapters.proofs.Device as D
 use Rattle.adapters.proofs.Device.Laws as D′
 use Rattle.adapters.proofs.Place as P
 use Rattle.adapters.proofs.Place.Laws as P′
-use Rattle.values.specs.States.{onPlace}
-use Rattle.values.proofs.on_place.Symbol as on-place-def
-use Rattle.values.proofs.on_place.Met as on-place-thm
-use Rattle.table.proofs.Count.{afters, taken}
-use Rattle.table.proofs.Places.{FitsId, fit-id, typed-id, makes-id}
-use Rattle.table.proofs.Locals.{Content, blank, holds, since, locals, frees-front, swaps, holds-true, holds-false, not-not}
-use Rattle.lent.proofs.Answered.{FitsAnswer, refused, Refuse, refuses}
-use Rattle.lent.proofs.Laws.{canonical-unused}
-use Rattle.table.proofs.Record.{ReadDevice, NoteInjection, reads-device, notes-injection}
-use Rattle.table.proofs.Calls.{LookUp, looks-up}
-use Rattle.table.proofs.look_up.Symbol as look-up-def
-use Rattle.table.proofs.look_up.Met as look-up-thm
-use Rattle.table.proofs.read_device.Symbol as read-device-def
-use Rattle.table.proofs.read_device.Met as read-device-thm
-use Rattle.table.proofs.note_injection.Symbol as note-injection-def
-use Rattle.table.proofs.note_injection.Met as note-injection-thm
-use Rattle.lent.proofs.set_place.Symbol as set-place-def
-use Rattle.lent.proofs.set_place.Met as set-place-thm
-use Rattle.lent.proofs.set_modes.Symbol as set-modes-def
-use Rattle.lent.proofs.set_modes.Met as set-modes-thm
-use Rattle.core.specs.Cases.{onRecords}
-use Rattle.core.proofs.Laws.{not-records}
-use Rattle.core.proofs.on_records.Symbol as group-def
-use Rattle.core.proofs.on_records.Met as group-thm
-use Rattle.controller.specs.declared.Controller.{Controller}
-use Rattle.controller.specs.Inner.{controller, notedIn, Recorded, Injected}
-use Rattle.controller.proofs.Controller as C
-use Rattle.controller.proofs.answer_records as answer-records
-use Rattle.controller.proofs.answer_records.Symbol as answer-records-def
-use Rattle.controller.proofs.answer_records.Met as answer-records-thm
-use Rattle.controller.proofs.answer_inject as answer-inject
-use Rattle.controller.proofs.answer_inject.Symbol as answer-inject-def
-use Rattle.controller.proofs.answer_inject.Met as answer-inject-thm
+use Rattle.adapter_requests.specs.States.{onPlace}
+use Rattle.adapter_requests.proofs.on_place.Symbol as on-place-def
+use Rattle.adapter_requests.proofs.on_place.Met as on-place-thm
+use Rattle.lent_table.proofs.Count.{afters, taken}
+use Rattle.lent_table.proofs.Places.{FitsId, fit-id, typed-id, makes-id}
+use Rattle.lent_table.proofs.Locals.{Content, blank, holds, since, locals, frees-front, swaps, holds-true, holds-false, not-not}
+use Rattle.lent_requests.proofs.Answered.{FitsAnswer, refused, Refuse, refuses}
+use Rattle.lent_requests.proofs.Laws.{canonical-unused}
+use Rattle.lent_table.proofs.Record.{ReadDevice, NoteInjection, reads-device, notes-injection}
+use Rattle.lent_table.proofs.Calls.{LookUp, looks-up}
+use Rattle.lent_table.proofs.look_up.Symbol as look-up-def
+use Rattle.lent_table.proofs.look_up.Met as look-up-thm
+use Rattle.lent_table.proofs.read_device.Symbol as read-device-def
+use Rattle.lent_table.proofs.read_device.Met as read-device-thm
+use Rattle.lent_table.proofs.note_injection.Symbol as note-injection-def
+use Rattle.lent_table.proofs.note_injection.Met as note-injection-thm
+use Rattle.lent_requests.proofs.set_place.Symbol as set-place-def
+use Rattle.lent_requests.proofs.set_place.Met as set-place-thm
+use Rattle.lent_requests.proofs.set_modes.Symbol as set-modes-def
+use Rattle.lent_requests.proofs.set_modes.Met as set-modes-thm
+use Rattle.calls.specs.Cases.{onRecords}
+use Rattle.calls.proofs.Requests.{not-records}
+use Rattle.calls.proofs.on_records.Symbol as group-def
+use Rattle.calls.proofs.on_records.Met as group-thm
+use Rattle.calls.specs.declared.Controller.{Controller}
+use Rattle.calls.specs.Inner.{controller, notedIn, Recorded, Injected}
+use Rattle.calls.proofs.Controller as C
+use Rattle.calls.proofs.answer_records as answer-records
+use Rattle.calls.proofs.answer_records.Symbol as answer-records-def
+use Rattle.calls.proofs.answer_records.Met as answer-records-thm
+use Rattle.calls.proofs.answer_inject as answer-inject
+use Rattle.calls.proofs.answer_inject.Symbol as answer-inject-def
+use Rattle.calls.proofs.answer_inject.Met as answer-inject-thm
 use Rattle.flic.specs.Surface.{Valid, Requested}
 use Rattle.flic.proofs.Promises.{wrong-promises, record-promises, inject-promises, place-promises, modes-promises}
 use Rattle.flic.proofs.Opened.{Has}
@@ -414,13 +414,13 @@ flic-set-spec 𝓤 H 𝓜 𝓖 𝓡 =
     (tables 𝓤 H 𝓜 𝓡 code.env .C) (tables 𝓤 H 𝓜 𝓡 code.env .Λ) #key code.function (code.unfolded 𝓤 H 𝓜 𝓡)
     (meets 𝓤 H (𝓖 .A) (givenOf 𝓤 H 𝓜 𝓖) (𝓜 .mem) (𝓡 .run) (tablesOf 𝓤 H 𝓜 (tables 𝓤 H 𝓜 𝓡 code.env)) (record {
       refuse = cited 𝓤 H (Refuse 𝓤 H (𝓖 .A) (𝓜 .mem) (𝓡 .run)) 𝓜 𝓡 code.env refuse-def.name refuse-def.routine code.calls-answers·refuse (refuse-thm.met 𝓤 H 𝓜 𝓖 𝓡);
-      looks = cited 𝓤 H (Group 𝓤 H (𝓖 .A) (𝓜 .mem) (𝓡 .run)) 𝓜 𝓡 code.env group-def.name group-def.routine code.calls-core·on-records (group-thm.met 𝓤 H 𝓜 𝓖 𝓡);
-      records = cited 𝓤 H (AnswerRecords 𝓤 H (𝓖 .A) (𝓜 .mem) (𝓡 .run)) 𝓜 𝓡 code.env answer-records-def.name answer-records-def.routine code.calls-controller·answer-records (answer-records-thm.met 𝓤 H 𝓜 𝓖 𝓡);
-      look-up = cited 𝓤 H (LookUp 𝓤 H (𝓖 .A) (𝓜 .mem) (𝓡 .run)) 𝓜 𝓡 code.env look-up-def.name look-up-def.routine code.calls-table·look-up (look-up-thm.met 𝓤 H 𝓜 𝓖 𝓡);
-      read-device = cited 𝓤 H (ReadDevice 𝓤 H (𝓖 .A) (𝓜 .mem) (𝓡 .run)) 𝓜 𝓡 code.env read-device-def.name read-device-def.routine code.calls-table·read-device (read-device-thm.met 𝓤 H 𝓜 𝓖 𝓡);
-      inject = cited 𝓤 H (AnswerInject 𝓤 H (𝓖 .A) (𝓜 .mem) (𝓡 .run)) 𝓜 𝓡 code.env answer-inject-def.name answer-inject-def.routine code.calls-controller·answer-inject (answer-inject-thm.met 𝓤 H 𝓜 𝓖 𝓡);
-      note = cited 𝓤 H (NoteInjection 𝓤 H (𝓖 .A) (𝓜 .mem) (𝓡 .run)) 𝓜 𝓡 code.env note-injection-def.name note-injection-def.routine code.calls-table·note-injection (note-injection-thm.met 𝓤 H 𝓜 𝓖 𝓡);
-      on-place = cited 𝓤 H (OnPlace 𝓤 H (𝓖 .A) (𝓜 .mem) (𝓡 .run)) 𝓜 𝓡 code.env on-place-def.name on-place-def.routine code.calls-values·on-place (on-place-thm.met 𝓤 H 𝓜 𝓖 𝓡);
-      set-place = cited 𝓤 H (SetPlace 𝓤 H (𝓖 .A) (𝓜 .mem) (𝓡 .run)) 𝓜 𝓡 code.env set-place-def.name set-place-def.routine code.calls-lent·set-place (set-place-thm.met 𝓤 H 𝓜 𝓖 𝓡);
-      set-modes = cited 𝓤 H (SetModes 𝓤 H (𝓖 .A) (𝓜 .mem) (𝓡 .run)) 𝓜 𝓡 code.env set-modes-def.name set-modes-def.routine code.calls-lent·set-modes (set-modes-thm.met 𝓤 H 𝓜 𝓖 𝓡);
+      looks = cited 𝓤 H (Group 𝓤 H (𝓖 .A) (𝓜 .mem) (𝓡 .run)) 𝓜 𝓡 code.env group-def.name group-def.routine code.calls-calls·on-records (group-thm.met 𝓤 H 𝓜 𝓖 𝓡);
+      records = cited 𝓤 H (AnswerRecords 𝓤 H (𝓖 .A) (𝓜 .mem) (𝓡 .run)) 𝓜 𝓡 code.env answer-records-def.name answer-records-def.routine code.calls-calls·answer-records (answer-records-thm.met 𝓤 H 𝓜 𝓖 𝓡);
+      look-up = cited 𝓤 H (LookUp 𝓤 H (𝓖 .A) (𝓜 .mem) (𝓡 .run)) 𝓜 𝓡 code.env look-up-def.name look-up-def.routine code.calls-lent-table·look-up (look-up-thm.met 𝓤 H 𝓜 𝓖 𝓡);
+      read-device = cited 𝓤 H (ReadDevice 𝓤 H (𝓖 .A) (𝓜 .mem) (𝓡 .run)) 𝓜 𝓡 code.env read-device-def.name read-device-def.routine code.calls-lent-table·read-device (read-device-thm.met 𝓤 H 𝓜 𝓖 𝓡);
+      inject = cited 𝓤 H (AnswerInject 𝓤 H (𝓖 .A) (𝓜 .mem) (𝓡 .run)) 𝓜 𝓡 code.env answer-inject-def.name answer-inject-def.routine code.calls-calls·answer-inject (answer-inject-thm.met 𝓤 H 𝓜 𝓖 𝓡);
+      note = cited 𝓤 H (NoteInjection 𝓤 H (𝓖 .A) (𝓜 .mem) (𝓡 .run)) 𝓜 𝓡 code.env note-injection-def.name note-injection-def.routine code.calls-lent-table·note-injection (note-injection-thm.met 𝓤 H 𝓜 𝓖 𝓡);
+      on-place = cited 𝓤 H (OnPlace 𝓤 H (𝓖 .A) (𝓜 .mem) (𝓡 .run)) 𝓜 𝓡 code.env on-place-def.name on-place-def.routine code.calls-adapter-requests·on-place (on-place-thm.met 𝓤 H 𝓜 𝓖 𝓡);
+      set-place = cited 𝓤 H (SetPlace 𝓤 H (𝓖 .A) (𝓜 .mem) (𝓡 .run)) 𝓜 𝓡 code.env set-place-def.name set-place-def.routine code.calls-lent-requests·set-place (set-place-thm.met 𝓤 H 𝓜 𝓖 𝓡);
+      set-modes = cited 𝓤 H (SetModes 𝓤 H (𝓖 .A) (𝓜 .mem) (𝓡 .run)) 𝓜 𝓡 code.env set-modes-def.name set-modes-def.routine code.calls-lent-requests·set-modes (set-modes-thm.met 𝓤 H 𝓜 𝓖 𝓡);
     }))

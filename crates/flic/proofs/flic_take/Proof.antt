@@ -5,17 +5,17 @@ use Rattle.answers.specs.declared.Answer.{Answer}
 use Rattle.answers.specs.Answers.{saw}
 use Rattle.answers.proofs.Answer as An
 use Rattle.answers.proofs.Answer.Laws as An′
-use Rattle.controller.specs.declared.Controller.{Controller}
+use Rattle.calls.specs.declared.Controller.{Controller}
 use Rattle.flic.specs.Surface.{Ready, Taken}
-use Rattle.controller.specs.Inner.{controller, Handed}
+use Rattle.calls.specs.Inner.{controller, Handed}
 use Rattle.flic.proofs.Promises.{take-promises}
-use Rattle.controller.proofs.Controller as C
-use Rattle.table.proofs.Locals.{Content, blank, holds, since, locals, frees-all, swaps}
+use Rattle.calls.proofs.Controller as C
+use Rattle.lent_table.proofs.Locals.{Content, blank, holds, since, locals, frees-all, swaps}
 use Rattle.flic.proofs.Opened.{Has, OpenAt, opens-ctl, closes-ctl}
 use Rattle.flic.proofs.Four.{mutably, Loan, Toks, Lent, Left, left-by, lent-lfts, lent-shares, lent-args, lent-vals, calls-four}
-use Rattle.controller.proofs.hand_out as hand-out
-use Rattle.controller.proofs.hand_out.Symbol as hand-out-def
-use Rattle.controller.proofs.hand_out.Met as hand-out-thm
+use Rattle.calls.proofs.hand_out as hand-out
+use Rattle.calls.proofs.hand_out.Symbol as hand-out-def
+use Rattle.calls.proofs.hand_out.Met as hand-out-thm
 use Rattle.flic.proofs.flic_take.Key.{name as #key}
 use Rattle.flic.proofs.flic_take as f
 use Rattle.flic.proofs.flic_take.Statement as stated
@@ -154,4 +154,4 @@ flic-take-spec 𝓤 H 𝓜 𝓖 𝓡 =
     entered 𝓤 H (tripleOf 𝓤 H (𝓖 .A) f.signature (f.spec 𝓤 H (𝓖 .A) (𝓜 .mem) (𝓡 .run)))
     (tables 𝓤 H 𝓜 𝓡 code.env .C) (tables 𝓤 H 𝓜 𝓡 code.env .Λ) #key code.function (code.unfolded 𝓤 H 𝓜 𝓡)
     (meets 𝓤 H (𝓖 .A) (givenOf 𝓤 H 𝓜 𝓖) (𝓜 .mem) (𝓡 .run) (tablesOf 𝓤 H 𝓜 (tables 𝓤 H 𝓜 𝓡 code.env))
-    (cited 𝓤 H (HandOut 𝓤 H (𝓖 .A) (𝓜 .mem) (𝓡 .run)) 𝓜 𝓡 code.env hand-out-def.name hand-out-def.routine code.calls-controller·hand-out (hand-out-thm.met 𝓤 H 𝓜 𝓖 𝓡)))
+    (cited 𝓤 H (HandOut 𝓤 H (𝓖 .A) (𝓜 .mem) (𝓡 .run)) 𝓜 𝓡 code.env hand-out-def.name hand-out-def.routine code.calls-calls·hand-out (hand-out-thm.met 𝓤 H 𝓜 𝓖 𝓡)))

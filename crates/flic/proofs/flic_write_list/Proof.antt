@@ -8,8 +8,8 @@ use mathlib.Core.Bool.{not}
 use borrow.Author.Tests.{eqb-true, eqb-false}
 use denote.Struct.Laws as LL
 use denote.Signature.{shrRefTo, shrSliceOf}
-use Rattle.controller.specs.Limits.{limitsOf}
-use Rattle.controller.proofs.Limits.{right-length, wrong-length}
+use Rattle.calls.specs.Limits.{limitsOf}
+use Rattle.calls.proofs.Limits.{right-length, wrong-length}
 use Rattle.rules.specs.Machine.{writeList}
 use Rattle.answers.specs.declared.Answer.{Answer}
 use Rattle.answers.specs.Answers.{saw}
@@ -20,37 +20,37 @@ use Rattle.adapters.specs.declared.Place.{Place}
 use Rattle.adapters.proofs.Device as D
 use Rattle.adapters.proofs.Device.Laws as D′
 use Rattle.adapters.proofs.Place as P
-use Rattle.table.specs.Table.{snapTo}
-use Rattle.table.proofs.Images.{Image, imageTy, low-image, FitsImage, image-makes, image-typed}
-use Rattle.table.proofs.Record.{ReadDevice}
-use Rattle.table.proofs.Calls.{Snapshot, snapshots-shared}
-use Rattle.controller.specs.declared.Controller.{Controller}
+use Rattle.lent_table.specs.Table.{snapTo}
+use Rattle.lent_table.proofs.Images.{Image, imageTy, low-image, FitsImage, image-makes, image-typed}
+use Rattle.lent_table.proofs.Record.{ReadDevice}
+use Rattle.lent_table.proofs.Calls.{Snapshot, snapshots-shared}
+use Rattle.calls.specs.declared.Controller.{Controller}
 use Rattle.flic.specs.Surface.{Valid, Requested}
-use Rattle.controller.specs.Inner.{Wrote}
-use Rattle.controller.proofs.Controller as C
+use Rattle.calls.specs.Inner.{Wrote}
+use Rattle.calls.proofs.Controller as C
 use Rattle.flic.proofs.Promises.{write-promises, wrong-promises}
-use Rattle.table.proofs.Locals.{Content, blank, holds, since, locals, frees-all, swaps, holds-false, not-not}
+use Rattle.lent_table.proofs.Locals.{Content, blank, holds, since, locals, frees-all, swaps, holds-false, not-not}
 use Rattle.flic.proofs.Opened.{Has, Cells, looks-ctl, shuts-ctl}
 use Rattle.flic.proofs.All.{Refs, refs, at-ctl, at-dev, at-tab, table, Tokens}
 use Rattle.flic.proofs.Four.{shared, at-array, Loan, Toks, Lent, lent-lfts, lent-shares, lent-args, lent-vals, calls-four}
 use Rattle.flic.proofs.Calls.{gives-up, reads-passed}
-use Rattle.table.proofs.Count.{taken}
-use Rattle.lent.proofs.Answered.{refused, Refuse, refuses}
+use Rattle.lent_table.proofs.Count.{taken}
+use Rattle.lent_requests.proofs.Answered.{refused, Refuse, refuses}
 use Rattle.answers.proofs.refuse.Symbol as refuse-def
 use Rattle.answers.proofs.refuse.Met as refuse-thm
-use Rattle.table.proofs.read_device.Symbol as read-device-def
-use Rattle.table.proofs.read_device.Met as read-device-thm
-use Rattle.table.proofs.snapshot.Symbol as snapshot-def
-use Rattle.table.proofs.snapshot.Met as snapshot-thm
-use Rattle.controller.proofs.write_from as write-from
-use Rattle.controller.proofs.write_from.Symbol as write-from-def
-use Rattle.controller.proofs.write_from.Met as write-from-thm
+use Rattle.lent_table.proofs.read_device.Symbol as read-device-def
+use Rattle.lent_table.proofs.read_device.Met as read-device-thm
+use Rattle.lent_table.proofs.snapshot.Symbol as snapshot-def
+use Rattle.lent_table.proofs.snapshot.Met as snapshot-thm
+use Rattle.calls.proofs.write_from as write-from
+use Rattle.calls.proofs.write_from.Symbol as write-from-def
+use Rattle.calls.proofs.write_from.Met as write-from-thm
 use Rattle.flic.proofs.flic_write_list.Key.{name as #key}
 use Rattle.flic.proofs.flic_write_list as f
 use Rattle.flic.proofs.flic_write_list.Statement as stated
 use Rattle.flic.proofs.flic_write_list.Code as code
 use Rattle.flic.proofs.flic_write_list.Code.Mir as mir
-use Rattle.image.specs.Image.{imageSize}
+use Rattle.list_image.specs.Image.{imageSize}
 
 abbrev stayed : Stays (f.ended .signature .params) (f.ended .kept)
 stayed = (stay-dropped (shrRefTo (0 ∷ []) tt (plain (λ _. C.the-row))) yes, (stay-dropped (shrRefTo (1 ∷ []) tt (plain (λ _. D.the-row))) yes, (stay-dropped (shrSliceOf (2 ∷ []) tt (plain (λ _. P.the-row))) yes, (gave-slice (3 ∷ []) tt (plain (λ _. u8)), tt))))
@@ -227,7 +227,7 @@ flic-write-list-spec 𝓤 H 𝓜 𝓖 𝓡 =
     (tables 𝓤 H 𝓜 𝓡 code.env .C) (tables 𝓤 H 𝓜 𝓡 code.env .Λ) #key code.function (code.unfolded 𝓤 H 𝓜 𝓡)
     (meets 𝓤 H (𝓖 .A) (givenOf 𝓤 H 𝓜 𝓖) (𝓜 .mem) (𝓡 .run) (tablesOf 𝓤 H 𝓜 (tables 𝓤 H 𝓜 𝓡 code.env)) (record {
       refuse = cited 𝓤 H (Refuse 𝓤 H (𝓖 .A) (𝓜 .mem) (𝓡 .run)) 𝓜 𝓡 code.env refuse-def.name refuse-def.routine code.calls-answers·refuse (refuse-thm.met 𝓤 H 𝓜 𝓖 𝓡);
-      read-device = cited 𝓤 H (ReadDevice 𝓤 H (𝓖 .A) (𝓜 .mem) (𝓡 .run)) 𝓜 𝓡 code.env read-device-def.name read-device-def.routine code.calls-table·read-device (read-device-thm.met 𝓤 H 𝓜 𝓖 𝓡);
-      snapshot = cited 𝓤 H (Snapshot 𝓤 H (𝓖 .A) (𝓜 .mem) (𝓡 .run)) 𝓜 𝓡 code.env snapshot-def.name snapshot-def.routine code.calls-table·snapshot (snapshot-thm.met 𝓤 H 𝓜 𝓖 𝓡);
-      write-from = cited 𝓤 H (WriteFrom 𝓤 H (𝓖 .A) (𝓜 .mem) (𝓡 .run)) 𝓜 𝓡 code.env write-from-def.name write-from-def.routine code.calls-controller·write-from (write-from-thm.met 𝓤 H 𝓜 𝓖 𝓡);
+      read-device = cited 𝓤 H (ReadDevice 𝓤 H (𝓖 .A) (𝓜 .mem) (𝓡 .run)) 𝓜 𝓡 code.env read-device-def.name read-device-def.routine code.calls-lent-table·read-device (read-device-thm.met 𝓤 H 𝓜 𝓖 𝓡);
+      snapshot = cited 𝓤 H (Snapshot 𝓤 H (𝓖 .A) (𝓜 .mem) (𝓡 .run)) 𝓜 𝓡 code.env snapshot-def.name snapshot-def.routine code.calls-lent-table·snapshot (snapshot-thm.met 𝓤 H 𝓜 𝓖 𝓡);
+      write-from = cited 𝓤 H (WriteFrom 𝓤 H (𝓖 .A) (𝓜 .mem) (𝓡 .run)) 𝓜 𝓡 code.env write-from-def.name write-from-def.routine code.calls-calls·write-from (write-from-thm.met 𝓤 H 𝓜 𝓖 𝓡);
     }))

@@ -1,0 +1,20 @@
+-- `values::payload_id` meets its contract. Assumes nothing.
+use mathlib.Core.Path.{sym, _∙_}
+use borrow.Author.Tests.{lt-leb}
+use Rattle.rules.proofs.Checks.{passed}
+use Rattle.adapter_requests.specs.States.{payloadId}
+use Rattle.adapter_requests.proofs.Laws.{id-there}
+use borrow.Author.Needs.{needs}
+use Rattle.adapter_requests.proofs.payload_id.Statement.{statement}
+use Rattle.adapter_requests.proofs.payload_id.Tie as tie
+
+returns : tie.Need-returns
+unfolding payloadId
+returns c = sym (passed _ _ _ (lt-leb 4 _ (c .if1 .taken)))
+
+returns-2 : tie.Need-returns-2
+unfolding payloadId
+returns-2 c = c .read-be .ensures .0 ∙ sym (id-there (c .before .before .before .args .payload .now) (c .before .if1 .left))
+
+pub payload-id-spec : {M : Type 1} → statement M
+payload-id-spec = tie.close (tie.spec returns (λ c κs. search needs) returns-2)

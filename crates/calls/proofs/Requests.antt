@@ -1,0 +1,181 @@
+-- Replies to an injection and its cases; which request a group number is.
+use Prim.Native.Nat.{ℕ, zero, suc, _≤_, _<_}
+use mathlib.Core.Path.{_≡_, refl, ap, sym, _∙_, subst}
+use mathlib.Core.Bool.{Bool, true, false, _&&_, _||_, true≢false}
+use mathlib.Core.List.{List, []}
+use lib.ListN.{getD, set}
+use lib.Seq.{set-getD}
+use lib.Dec.{ltb, eqb}
+use borrow.Author.Tests.{lt-ltb, le-ltb, ne-eqb, eqb-true}
+use Rattle.rules.specs.Bytes.{choose}
+use Rattle.rules.specs.State as rules
+use Rattle.rules.specs.State.{Limits, Pending, State, withPending, addIo, queued}
+use Rattle.rules.specs.Outcome.{Outcome, refuse, accept, need_else_⨾_}
+use Rattle.rules.specs.Requests.{holding, noRequest, airqInject, setRequest, getRequest, injected, injects, adapterInterrupt, request}
+use Rattle.rules.specs.Requests.{underAis as rules-underAis}
+use Rattle.rules.proofs.Checks.{passes, fails, found, missing, chosen, passed}
+use Rattle.answers.specs.declared.Answer.{Answer}
+use Rattle.answers.specs.Answers.{Answers, answered}
+use Rattle.adapters.specs.declared.Device.{Device}
+use Rattle.adapters.specs.declared.Place.{Place}
+use Rattle.adapters.specs.declared.Injection.{Injection}
+use Rattle.adapters.specs.declared.Injection.the-variants.{NoAdapter, Dropped, Full, Appended}
+use Rattle.adapters.specs.Values.{placeOf, deviceOf, adapterOf, underAis, injectedDevice}
+use Rattle.adapters.proofs.Laws.{place-used, place-free}
+use Rattle.adapter_requests.specs.declared.Reply.{Reply}
+use Rattle.adapter_requests.specs.States.{aboutOf, stateWith, Replies}
+use Rattle.adapter_requests.proofs.Laws.{as-it-was as held-values}
+use Rattle.numbers.specs.declared.Subclass.{Subclass}
+use Rattle.calls.specs.Cases.{onRecords}
+
+-- the state with other pending records, as the values stand for it
+with-values : (s : State) (id : ℕ) (device : Device) (place : Place) (p : Pending) → s .device ≡ deviceOf device
+    → getD (s .adapters) id rules.free ≡ placeOf place → withPending p s ≡ stateWith s id (placeOf place) p (deviceOf device)
+with-values s id device place p d e = held-values (withPending p s) id device place d e
+
+-- the same where the pending records are as they were
+pub as-it-was : (s : State) (id : ℕ) (device : Device) (place : Place) (p : Pending) → s .pending ≡ p → s .device ≡ deviceOf device
+    → getD (s .adapters) id rules.free ≡ placeOf place → s ≡ stateWith s id (placeOf place) p (deviceOf device)
+as-it-was s id device place p q d e =
+    (λ i. record { ais = s .ais; adapters = s .adapters; pending = q i; device = s .device }) ∙ with-values s id device place p d e
+
+module _ (places room : ℕ) (ais : Bool) (device : Device) (place : Place) (id : ℕ) (b : List ℕ) (o : Limits → State → Outcome State) (p₀ p₁ : Pending) where
+  -- a reply from its answer and its device record, the place as it was
+  pub replies : {a : Answer} {r : Reply} {device′ : Device} → r ≡ record { answer = a; device = device′; place = place }
+      → ((L : Limits) (s : State) → L .places ≡ places → L .room ≡ room → s .ais ≡ ais → s .pending ≡ p₀ → s .device ≡ deviceOf device
+      → getD (s .adapters) id rules.free ≡ placeOf place → Answers L s b (o L s) a (stateWith s id (placeOf place) p₁ (deviceOf device′)) b)
+      → Replies places room ais device place id b o p₀ p₁ r
+  replies er f = subst (Replies places room ais device place id b o p₀ p₁) (sym er) f
+
+-- ---- the cases of an injection
+module _ (i : Subclass) where
+  abbrev pub which : Bool → Bool → Bool → Injection
+  which used drop full = choose used (choose drop Dropped (choose full Full (Appended i))) NoAdapter
+
+  pub none-there : (u m f : Bool) → which u m f ≡ NoAdapter → u ≡ false
+  unfolding choose
+  none-there true true f e = let z : true ≡ false = cc in z
+  none-there true false true e = let z : true ≡ false = cc in z
+  none-there true false false e = let z : true ≡ false = cc in z
+  none-there false m f e = refl
+
+  pub dropped-there : (u m f : Bool) → which u m f ≡ Dropped → (u ≡ true) × (m ≡ true)
+  unfolding choose
+  dropped-there true true f e = (refl, refl)
+  dropped-there true false true e = (refl, (cc))
+  dropped-there true false false e = (refl, (cc))
+  dropped-there false m f e = ((cc), (cc))
+
+  pub full-there : (u m f : Bool) → which u m f ≡ Full → (u ≡ true) × (m ≡ false) × (f ≡ true)
+  unfolding choose
+  full-there true true f e = (refl, (cc), (cc))
+  full-there true false true e = (refl, refl, refl)
+  full-there true false false e = (refl, refl, (cc))
+  full-there false m f e = ((cc), (cc), (cc))
+
+  pub appended-there : (u m f : Bool) (i′ : Subclass) → which u m f ≡ Appended i′ → (u ≡ true) × (m ≡ false) × (f ≡ false) × (i′ ≡ i)
+  unfolding choose
+  appended-there true true f i′ e = (refl, (cc), (cc), (cc))
+  appended-there true false true i′ e = (refl, refl, (cc), (cc))
+  appended-there true false false i′ e = (refl, refl, refl, (cc))
+  appended-there false m f i′ e = ((cc), (cc), (cc), (cc))
+
+-- what an injection by an adapter comes to, in the rules' terms and by the code's values
+module _ (L : Limits) (s : State) (ais : Bool) (device : Device) (place : Place) (id : ℕ) (b : List ℕ) where
+  pub out-of-range : L .places ≤ id → request L s airqInject id b ≡ refuse 22
+  unfolding request injects
+  out-of-range h = fails _ _ _ (le-ltb id (L .places) h)
+
+  module _ (h : id < L .places) (e6 : getD (s .adapters) id rules.free ≡ placeOf place) where
+    pub nobody-there : place .used ≡ false → request L s airqInject id b ≡ refuse 22
+    unfolding request injects
+    nobody-there u = passes _ _ _ (lt-ltb id (L .places) h) ∙ missing _ _ _ (ap holding (e6 ∙ place-free place u))
+
+    module _ (u : place .used ≡ true) (e3 : s .ais ≡ ais) (e5 : s .device ≡ deviceOf device) where
+      looked-up : request L s airqInject id b
+          ≡ choose (place .masked || rules-underAis s (adapterOf place) (s .device .nimm)) (accept 0 s [])
+          (need ltb (queued (s .pending)) (L .room) else 16 ⨾ accept 1 (injected s (adapterOf place)) [])
+      unfolding request injects
+      looked-up = passes _ _ _ (lt-ltb id (L .places) h) ∙ found _ (adapterOf place) _ _ (ap holding (e6 ∙ place-used place u))
+
+      same-test : (place .masked || rules-underAis s (adapterOf place) (s .device .nimm)) ≡ (place .masked || underAis ais place (device .nimm))
+      same-test = λ i. place .masked || (e3 i && (place .suppressible && rules.hasBit (place .isc) (e5 i .nimm)))
+
+      pub is-dropped : (place .masked || underAis ais place (device .nimm)) ≡ true → request L s airqInject id b ≡ accept 0 s []
+      is-dropped m = looked-up ∙ chosen _ _ _ (same-test ∙ m)
+
+      pub is-full : (place .masked || underAis ais place (device .nimm)) ≡ false → L .room ≤ queued (s .pending) → request L s airqInject id b ≡ refuse 16
+      is-full m f = looked-up ∙ passed _ _ _ (same-test ∙ m) ∙ fails _ _ _ (le-ltb (queued (s .pending)) (L .room) f)
+
+      pub is-appended : (place .masked || underAis ais place (device .nimm)) ≡ false → queued (s .pending) < L .room
+          → request L s airqInject id b ≡ accept 1 (injected s (adapterOf place)) []
+      is-appended m f = looked-up ∙ passed _ _ _ (same-test ∙ m) ∙ passes _ _ _ (lt-ltb (queued (s .pending)) (L .room) f)
+
+      pub injected-is : (p₀ : Pending) → s .pending ≡ p₀
+          → injected s (adapterOf place)
+          ≡ stateWith s id (placeOf place) (addIo (place .isc) (adapterInterrupt (place .isc)) p₀) (deviceOf (injectedDevice ais device place))
+      unfolding injected injectedDevice
+      injected-is p₀ e4 =
+          λ i. record {
+            ais = s .ais;
+            adapters = (sym (set-getD (s .adapters) id rules.free) ∙ ap (set (s .adapters) id) e6) i;
+            pending = addIo (place .isc) (adapterInterrupt (place .isc)) (e4 i);
+            device =
+                record {
+                  simm = e5 i .simm;
+                  nimm =
+                      choose (e3 i && (place .suppressible && rules.hasBit (place .isc) (e5 i .simm))) (rules.withBit (place .isc) (e5 i .nimm)) (e5 i .nimm);
+                  apf = e5 i .apf;
+                };
+          }
+
+-- ---- which request a group number is
+pub no-get : (g : ℕ) → (g ≡ 1 → ⊥) → (g ≡ 11 → ⊥) → getRequest g ≡ noRequest
+no-get zero h1 h11 = refl
+no-get (suc zero) h1 h11 = absurd (h1 refl)
+no-get (suc (suc zero)) h1 h11 = refl
+no-get (suc (suc (suc zero))) h1 h11 = refl
+no-get (suc (suc (suc (suc zero)))) h1 h11 = refl
+no-get (suc (suc (suc (suc (suc zero))))) h1 h11 = refl
+no-get (suc (suc (suc (suc (suc (suc zero)))))) h1 h11 = refl
+no-get (suc (suc (suc (suc (suc (suc (suc zero))))))) h1 h11 = refl
+no-get (suc (suc (suc (suc (suc (suc (suc (suc zero)))))))) h1 h11 = refl
+no-get (suc (suc (suc (suc (suc (suc (suc (suc (suc zero))))))))) h1 h11 = refl
+no-get (suc (suc (suc (suc (suc (suc (suc (suc (suc (suc zero)))))))))) h1 h11 = refl
+no-get (suc (suc (suc (suc (suc (suc (suc (suc (suc (suc (suc zero))))))))))) h1 h11 = absurd (h11 refl)
+no-get (suc (suc (suc (suc (suc (suc (suc (suc (suc (suc (suc (suc n)))))))))))) h1 h11 = refl
+
+-- ---- which set requests are about pending records alone
+pub records-eight : (g : ℕ) → onRecords g ≡ true → (g ≡ 2 → ⊥) → (g ≡ 3 → ⊥) → g ≡ 8
+unfolding onRecords
+records-eight g e h2 h3 = eqb-true g 8 ((λ i. sym (ne-eqb g 2 h2) i || (sym (ne-eqb g 3 h3) i || eqb g 8)) ∙ e)
+
+pub not-records : (g : ℕ) → onRecords g ≡ false → (g ≡ 2 → ⊥) × (g ≡ 3 → ⊥) × (g ≡ 8 → ⊥)
+unfolding onRecords
+not-records g e = (λ z. true≢false (sym (ap onRecords z) ∙ e), λ z. true≢false (sym (ap onRecords z) ∙ e), λ z. true≢false (sym (ap onRecords z) ∙ e))
+
+-- a reply to the set request of one group number is one to that of an equal number; an answer to a get likewise
+pub as-set : {places room : ℕ} {ais : Bool} (device : Device) (place : Place) {b : List ℕ} {p₀ p₁ : Pending} (r : Reply) (attr k : ℕ) {g : ℕ} → g ≡ k
+    → Replies places room ais device place (aboutOf k attr b) b (λ L s. request L s (setRequest k) attr b) p₀ p₁ r
+    → Replies places room ais device place (aboutOf g attr b) b (λ L s. request L s (setRequest g) attr b) p₀ p₁ r
+as-set {places} {room} {ais} device place {b} {p₀} {p₁} r attr k e h =
+    subst (λ (x : ℕ). Replies places room ais device place (aboutOf x attr b) b (λ L s. request L s (setRequest x) attr b) p₀ p₁ r) (sym e) h
+
+pub as-get : (L : Limits) (s : State) (attr : ℕ) (b c : List ℕ) {a : Answer} (k : ℕ) {g : ℕ} → g ≡ k
+    → Answers L s b (request L s (getRequest k) attr b) a s c → Answers L s b (request L s (getRequest g) attr b) a s c
+as-get L s attr b c {a} k e h = subst (λ (x : ℕ). Answers L s b (request L s (getRequest x) attr b) a s c) (sym e) h
+
+-- a refused reply's answer is a refusal
+pub code-of : {a : Answer} {d : Device} {p : Place} {r : Reply} → r ≡ record { answer = a; device = d; place = p } → (r .answer .code ≡ 0 → ⊥) → a .code ≡ 0 → ⊥
+code-of er n e = n (ap (λ (x : Reply). x .answer .code) er ∙ e)
+
+-- the device record of a reply: an injection that was appended, of count 1, is noted in it, and no other
+pub not-noted : (x : Device) {a : Answer} {code : ℕ} {d : Device} {p : Place} {r : Reply} → r ≡ record { answer = a; device = d; place = p }
+    → a ≡ answered code 0 → r .device ≡ choose (eqb (r .answer .count) 1) x d
+unfolding choose
+not-noted x er ea = rw (er, ea)
+
+pub noted : (d x : Device) {a : Answer} {d′ : Device} {p : Place} {r : Reply} → r ≡ record { answer = a; device = d′; place = p }
+    → a ≡ answered 0 1 → d′ ≡ x → r .device ≡ choose (eqb (r .answer .count) 1) x d
+unfolding choose
+noted d x er ea e = rw (er, ea) e

@@ -1,0 +1,28 @@
+-- `controller::start` meets its contract. Assumes nothing.
+use borrow.Author.Needs.{needs}
+use Rattle.list_image.specs.Image.{imageSize}
+use Rattle.calls.proofs.Laws.{started-with}
+use Rattle.calls.proofs.Limits.{limits-sized}
+use Rattle.calls.proofs.start.Statement.{statement}
+use Rattle.calls.proofs.start.Tie as tie
+
+returns : tie.Need-returns
+returns c =
+    let f = c .before .before in
+    let e = f .before .before .before .before in
+    record {
+      started =
+          started-with _ _ (limits-sized _ .places) _ _ _ _
+          (λ i. record {
+            answer = c .before .accept .ensures i;
+            ais = e .before .args .ais;
+            device = c .fresh-device .ensures i;
+            restored = imageSize;
+            image = e .empty .ensures i;
+          });
+      pending = f .fresh .ensures .1 _;
+      held = f .fresh .ensures .0;
+    }
+
+pub start-spec : {M : Type 1} → statement M
+start-spec = tie.close (tie.spec (λ c κs. search needs) (λ c κs. search needs) (λ c κs. search needs) (λ c κs. search needs) returns)

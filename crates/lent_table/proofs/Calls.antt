@@ -1,0 +1,161 @@
+-- The calls of the functions over a table, each as one step of a walk.
+--     looks-up, snapshots                  the caller holds the table's memory, `row`, as it does while its borrow is open: it is lent for a lifetime of the call and comes back
+--     looks-up-shared, snapshots-shared    the caller passes its own `&[Place]` on: it holds the token of the slice's lifetime and what the slice owns (Gives.antt's `Shared`), and keeps both
+--     registers, masks, restores           row ys ∷ Γ  ⟶  row of the new table ∷ Γ
+use Rattle.lent_table.proofs.Walk.{refl, ℕ, _<_, _^_, Bool, [], _∷_, List, length, getD, set, URA, fullShare, w64, Val, vunit, vint, vbool, SProp, ent, sep, snd∗, exE, id⊢, GName, Lft, Share, ftrue, flft, Memory, Routine, Heap, Env, Calls, Loops, Atoms, sem, Fun, Given, Item, Seq, runs, lands, ‵, _⊛_, _$_, _∵_, !, qed, move, join, fjoin, frame, done, Opds, FmC, Is, Boolean, bool-makes, uint-makes, u64, sliceVal, Room, row, owned, nothing, tripleOf, Contract, Triple, ensured, lasts}
+use types.Kit as Kit
+use mir.Syntax.{Place as Where, Body as Code, Opd as Operand, seq, call}
+use denote.Struct.Laws as LL
+use Rattle.numbers.specs.declared.AdapterId.{AdapterId}
+use Rattle.numbers.proofs.AdapterId as I
+use Rattle.numbers.proofs.AdapterId.Laws as I′
+use Rattle.adapters.specs.declared.Place.{Place}
+use Rattle.adapters.specs.Values.{unused, withMasked}
+use Rattle.adapters.proofs.Place as T
+use Rattle.adapters.proofs.Place.Laws as T′
+use Rattle.lent_table.specs.Table.{snapTo, restored}
+use Rattle.lent_table.proofs.Places.{R, low, Fits, FitsId, makes, makes-id}
+use Rattle.lent_table.proofs.Images.{Image, low-image, FitsImage, image-tells, image-makes}
+use Rattle.lent_table.proofs.Gives.{at-list, no-others, Gives, Shared, Lent, gives-row, gives-shared, changes-row}
+use Rattle.lent_table.proofs.look_up as look-up
+use Rattle.lent_table.proofs.look_up.Symbol.{name as #look-up}
+use Rattle.lent_table.proofs.snapshot as snapshot
+use Rattle.lent_table.proofs.snapshot.Symbol.{name as #snapshot}
+use Rattle.lent_table.proofs.register as register
+use Rattle.lent_table.proofs.register.Symbol.{name as #register}
+use Rattle.lent_table.proofs.mask as mask
+use Rattle.lent_table.proofs.mask.Symbol.{name as #mask}
+use Rattle.lent_table.proofs.restore as restore
+use Rattle.lent_table.proofs.restore.Symbol.{name as #restore}
+use Rattle.list_image.specs.Image.{imageSize}
+
+module _ {M : Type 1} (𝓤 : URA M) (H : Heap 𝓤) (A : Atoms 𝓤) (mem′ : Memory → SProp 𝓤) (run : Routine → Fun 𝓤) where
+  abbrev pub LookUp : Contract 𝓤
+  LookUp = tripleOf 𝓤 H A look-up.signature (look-up.spec 𝓤 H A mem′ run)
+
+  abbrev pub Snapshot : Contract 𝓤
+  Snapshot = tripleOf 𝓤 H A snapshot.signature (snapshot.spec 𝓤 H A mem′ run)
+
+  abbrev pub Register : Contract 𝓤
+  Register = tripleOf 𝓤 H A register.signature (register.spec 𝓤 H A mem′ run)
+
+  abbrev pub Mask : Contract 𝓤
+  Mask = tripleOf 𝓤 H A mask.signature (mask.spec 𝓤 H A mem′ run)
+
+  abbrev pub Restore : Contract 𝓤
+  Restore = tripleOf 𝓤 H A restore.signature (restore.spec 𝓤 H A mem′ run)
+
+  module _ (W : Given 𝓤 H A) (b o : ℕ) (ys : List Place) where
+    abbrev s : Val
+    s = sliceVal (b, o) (length ys)
+
+    module _ (κ : Lft) (q : Share) (γ : GName) where
+      abbrev to-look : AdapterId → LookUp .Ghost
+      to-look id = (((κ, tt), (q, tt), tt, (at-list b o γ ys, (id, tt)), (s ∷ [], (I′.lowered id ∷ [], tt))), tt)
+
+      goes-look : (id : AdapterId) → FitsId id → ent 𝓤 (sep 𝓤 (A .lft κ q) (sem 𝓤 H A (Shared R ys b o κ γ))) (LookUp .pre (to-look id))
+      goes-look id g =
+          qed W (‵ (flft κ q) ∷ ‵ (Shared R ys b o κ γ) ∷ []) ∵ nothing ! $ move ! (1 ∷ 0 ∷ []) $ join ! $
+          nothing ! $ owned ! I.the-row (Is I.the-row) (makes-id 𝓤 H A W) id _ g $ fjoin ! $ move ! (2 ∷ 0 ∷ []) $ fjoin ! $ move ! (1 ∷ 0 ∷ []) $ join ! $ frame ! $ done !
+
+      looked : (id : AdapterId) → Gives 𝓤 H A LookUp (to-look id) (‵ (flft κ q) ⊛ ‵ ftrue) R (LL.vals T.the-type T′.the-laws) (getD ys (id .0) unused)
+      looked id =
+          record {
+            tells = LL.tells T.the-type T′.the-laws;
+            Said = ensured 𝓤 H A look-up.ended (look-up.clauses 𝓤 H A mem′ run) (κ, tt) (at-list b o γ ys, (id, tt)) tt;
+            shape = λ w. id⊢ 𝓤 _;
+            told = λ r. exE 𝓤 _ (λ ws. snd∗ 𝓤 (sem 𝓤 H A (lasts look-up.ended (κ, tt) (at-list b o γ ys, (id, tt)) ws)) _);
+          }
+
+      abbrev to-snap : Snapshot .Ghost
+      to-snap = (((κ, tt), (q, tt), tt, (at-list b o γ ys, tt), (s ∷ [], tt)), tt)
+
+      goes-snap : ent 𝓤 (sep 𝓤 (A .lft κ q) (sem 𝓤 H A (Shared R ys b o κ γ))) (Snapshot .pre to-snap)
+      goes-snap = qed W (‵ (flft κ q) ∷ ‵ (Shared R ys b o κ γ) ∷ []) ∵ nothing ! $ move ! (1 ∷ 0 ∷ []) $ join ! $ nothing ! $ move ! (2 ∷ 0 ∷ []) $ fjoin ! $ move ! (1 ∷ 0 ∷ []) $ join ! $ frame ! $ done !
+
+      snapped : Gives 𝓤 H A Snapshot to-snap (‵ (flft κ q) ⊛ ‵ ftrue) Image (λ l. low-image l ∷ []) (snapTo ys imageSize)
+      snapped =
+          record {
+            tells = image-tells;
+            Said = ensured 𝓤 H A snapshot.ended (snapshot.clauses 𝓤 H A mem′ run) (κ, tt) (at-list b o γ ys, tt) tt;
+            shape = λ w. id⊢ 𝓤 _;
+            told = λ r. exE 𝓤 _ (λ ws. snd∗ 𝓤 (sem 𝓤 H A (lasts snapshot.ended (κ, tt) (at-list b o γ ys, tt) ws)) _);
+          }
+
+      abbrev to-register : AdapterId → Place → Register .Ghost
+      to-register id a = (((κ, tt), (q, tt), tt, (at-list b o γ ys, (id, (a, tt))), (s ∷ [], (I′.lowered id ∷ [], (T′.lowered a ∷ [], tt)))), tt)
+
+      goes-register : (id : AdapterId) (a : Place) → FitsId id → Fits a → ent 𝓤 (sep 𝓤 (A .lft κ q) (sem 𝓤 H A (Lent R ys b o κ γ))) (Register .pre (to-register id a))
+      goes-register id a g ga =
+          qed W (‵ (flft κ q) ∷ ‵ (Lent R ys b o κ γ) ∷ []) ∵ nothing ! $ move ! (1 ∷ 0 ∷ []) $ join ! $
+          nothing ! $ owned ! R (Is R) (makes 𝓤 H A W) a _ ga $ fjoin ! $ owned ! I.the-row (Is I.the-row) (makes-id 𝓤 H A W) id _ g $ fjoin ! $ move ! (2 ∷ 0 ∷ []) $ fjoin ! $ move ! (1 ∷ 0 ∷ []) $ join ! $ frame ! $ done !
+
+      abbrev to-mask : AdapterId → Bool → Mask .Ghost
+      to-mask id a = (((κ, tt), (q, tt), tt, (at-list b o γ ys, (id, (a, tt))), (s ∷ [], (I′.lowered id ∷ [], (vbool a ∷ [], tt)))), tt)
+
+      goes-mask : (id : AdapterId) (a : Bool) → FitsId id → ent 𝓤 (sep 𝓤 (A .lft κ q) (sem 𝓤 H A (Lent R ys b o κ γ))) (Mask .pre (to-mask id a))
+      goes-mask id a g =
+          qed W (‵ (flft κ q) ∷ ‵ (Lent R ys b o κ γ) ∷ []) ∵ nothing ! $ move ! (1 ∷ 0 ∷ []) $ join ! $
+          nothing ! $ owned ! Boolean (Is Boolean) (bool-makes 𝓤 H A W) a _ refl $ fjoin ! $ owned ! I.the-row (Is I.the-row) (makes-id 𝓤 H A W) id _ g $ fjoin ! $ move ! (2 ∷ 0 ∷ []) $ fjoin ! $ move ! (1 ∷ 0 ∷ []) $ join ! $ frame ! $ done !
+
+      abbrev to-restore : ℕ → List ℕ → Restore .Ghost
+      to-restore n all = (((κ, tt), (q, tt), tt, (at-list b o γ ys, (n, (all, tt))), (s ∷ [], (vint w64 n ∷ [], (low-image all ∷ [], tt)))), tt)
+
+      goes-restore : (n : ℕ) (all : List ℕ) → n < 2 ^ 64 → FitsImage all → ent 𝓤 (sep 𝓤 (A .lft κ q) (sem 𝓤 H A (Lent R ys b o κ γ))) (Restore .pre (to-restore n all))
+      goes-restore n all g ga =
+          qed W (‵ (flft κ q) ∷ ‵ (Lent R ys b o κ γ) ∷ []) ∵ nothing ! $ move ! (1 ∷ 0 ∷ []) $ join ! $
+          nothing ! $ owned ! Image (Is Image) (image-makes 𝓤 H A W) all _ ga $ fjoin ! $ owned ! u64 (Is u64) (uint-makes 𝓤 H A W w64) n _ (refl, g) $ fjoin ! $ move ! (2 ∷ 0 ∷ []) $ fjoin ! $ move ! (1 ∷ 0 ∷ []) $ join ! $ frame ! $ done !
+
+module _ {M : Type 1} {𝓤 : URA M} {H : Heap 𝓤} {A : Atoms 𝓤} {K : Type 0} {W : Given 𝓤 H A} {Γ : List (Item 𝓤)} {E : Env 𝓤 H} {C : Calls 𝓤 H} {Λ : Loops 𝓤 H} {p : Kit.Post 𝓤 H} {d : Where} {rest : Code} {xs : List Operand} where
+  pub looks-up : K → (mem′ : Memory → SProp 𝓤) (run : Routine → Fun 𝓤) → FmC 𝓤 H (W .laws) C → Triple 𝓤 (C #look-up) (LookUp 𝓤 H A mem′ run)
+      → (ys : List Place) (id : AdapterId) (b o : ℕ) → Room R (length ys) → FitsId id
+      → ((i j : Item 𝓤) → Opds K W (i ∷ j ∷ Γ) E xs (sliceVal (b, o) (length ys) ∷ I′.lowered id ∷ []))
+      → (Fits (getD ys (id .0) unused) → Seq K W (‵ (row R fullShare ys b o) ∷ Γ) (lands C Λ E d (low (getD ys (id .0) unused)) rest p))
+      → Seq K W (‵ (row R fullShare ys b o) ∷ Γ) (runs C Λ E (seq (call #look-up xs d) rest) p)
+  looks-up t mem′ run fm known ys id b o room g os k =
+      gives-row R ys b o t fm (LookUp 𝓤 H A mem′ run) known room (λ ν δ. to-look 𝓤 H A mem′ run W b o ys (ν ∷ []) fullShare δ id) (λ ν δ. goes-look 𝓤 H A mem′ run W b o ys (ν ∷ []) fullShare δ id g)
+      R (LL.vals T.the-type T′.the-laws) (getD ys (id .0) unused) (λ ν δ. looked 𝓤 H A mem′ run W b o ys (ν ∷ []) fullShare δ id) (λ ν δ. os) k
+
+  pub looks-up-shared : K → (mem′ : Memory → SProp 𝓤) (run : Routine → Fun 𝓤) → FmC 𝓤 H (W .laws) C → Triple 𝓤 (C #look-up) (LookUp 𝓤 H A mem′ run)
+      → (ys : List Place) (id : AdapterId) (b o : ℕ) (κ : Lft) (q : Share) (γ : GName) → FitsId id
+      → ((i j : Item 𝓤) → Opds K W (i ∷ j ∷ Γ) E xs (sliceVal (b, o) (length ys) ∷ I′.lowered id ∷ []))
+      → (Fits (getD ys (id .0) unused) → Seq K W (‵ (flft κ q) ∷ ‵ (Shared R ys b o κ γ) ∷ Γ) (lands C Λ E d (low (getD ys (id .0) unused)) rest p))
+      → Seq K W (‵ (flft κ q) ∷ ‵ (Shared R ys b o κ γ) ∷ Γ) (runs C Λ E (seq (call #look-up xs d) rest) p)
+  looks-up-shared t mem′ run fm known ys id b o κ q γ g os k =
+      gives-shared R ys b o t fm (LookUp 𝓤 H A mem′ run) known κ q γ (to-look 𝓤 H A mem′ run W b o ys κ q γ id) (goes-look 𝓤 H A mem′ run W b o ys κ q γ id g)
+      R (LL.vals T.the-type T′.the-laws) (getD ys (id .0) unused) (looked 𝓤 H A mem′ run W b o ys κ q γ id) os k
+
+  pub snapshots-shared : K → (mem′ : Memory → SProp 𝓤) (run : Routine → Fun 𝓤) → FmC 𝓤 H (W .laws) C → Triple 𝓤 (C #snapshot) (Snapshot 𝓤 H A mem′ run)
+      → (ys : List Place) (b o : ℕ) (κ : Lft) (q : Share) (γ : GName)
+      → ((i j : Item 𝓤) → Opds K W (i ∷ j ∷ Γ) E xs (sliceVal (b, o) (length ys) ∷ []))
+      → (FitsImage (snapTo ys imageSize) → Seq K W (‵ (flft κ q) ∷ ‵ (Shared R ys b o κ γ) ∷ Γ) (lands C Λ E d (low-image (snapTo ys imageSize)) rest p))
+      → Seq K W (‵ (flft κ q) ∷ ‵ (Shared R ys b o κ γ) ∷ Γ) (runs C Λ E (seq (call #snapshot xs d) rest) p)
+  snapshots-shared t mem′ run fm known ys b o κ q γ os k =
+      gives-shared R ys b o t fm (Snapshot 𝓤 H A mem′ run) known κ q γ (to-snap 𝓤 H A mem′ run W b o ys κ q γ) (goes-snap 𝓤 H A mem′ run W b o ys κ q γ) Image (λ l. low-image l ∷ []) (snapTo ys imageSize) (snapped 𝓤 H A mem′ run W b o ys κ q γ) os k
+
+  pub registers : K → (mem′ : Memory → SProp 𝓤) (run : Routine → Fun 𝓤) → FmC 𝓤 H (W .laws) C → Triple 𝓤 (C #register) (Register 𝓤 H A mem′ run)
+      → (ys : List Place) (id : AdapterId) (a : Place) (b o : ℕ) → Room R (length ys) → FitsId id → Fits a
+      → ((i j : Item 𝓤) → Opds K W (i ∷ j ∷ Γ) E xs (sliceVal (b, o) (length ys) ∷ I′.lowered id ∷ low a ∷ []))
+      → Seq K W (‵ (row R fullShare (set ys (id .0) a) b o) ∷ Γ) (lands C Λ E d vunit rest p)
+      → Seq K W (‵ (row R fullShare ys b o) ∷ Γ) (runs C Λ E (seq (call #register xs d) rest) p)
+  registers t mem′ run fm known ys id a b o room g ga os k =
+      changes-row R ys b o t fm (Register 𝓤 H A mem′ run) known room (λ ν δ. to-register 𝓤 H A mem′ run W b o ys (ν ∷ []) fullShare δ id a) (λ ν δ. goes-register 𝓤 H A mem′ run W b o ys (ν ∷ []) fullShare δ id a g ga)
+      (set ys (id .0) a) no-others (λ ν δ w. id⊢ 𝓤 _) (λ ν δ. os) k
+
+  pub masks : K → (mem′ : Memory → SProp 𝓤) (run : Routine → Fun 𝓤) → FmC 𝓤 H (W .laws) C → Triple 𝓤 (C #mask) (Mask 𝓤 H A mem′ run)
+      → (ys : List Place) (id : AdapterId) (a : Bool) (b o : ℕ) → Room R (length ys) → FitsId id
+      → ((i j : Item 𝓤) → Opds K W (i ∷ j ∷ Γ) E xs (sliceVal (b, o) (length ys) ∷ I′.lowered id ∷ vbool a ∷ []))
+      → Seq K W (‵ (row R fullShare (set ys (id .0) (withMasked a (getD ys (id .0) unused))) b o) ∷ Γ) (lands C Λ E d vunit rest p)
+      → Seq K W (‵ (row R fullShare ys b o) ∷ Γ) (runs C Λ E (seq (call #mask xs d) rest) p)
+  masks t mem′ run fm known ys id a b o room g os k =
+      changes-row R ys b o t fm (Mask 𝓤 H A mem′ run) known room (λ ν δ. to-mask 𝓤 H A mem′ run W b o ys (ν ∷ []) fullShare δ id a) (λ ν δ. goes-mask 𝓤 H A mem′ run W b o ys (ν ∷ []) fullShare δ id a g)
+      (set ys (id .0) (withMasked a (getD ys (id .0) unused))) no-others (λ ν δ w. id⊢ 𝓤 _) (λ ν δ. os) k
+
+  pub restores : K → (mem′ : Memory → SProp 𝓤) (run : Routine → Fun 𝓤) → FmC 𝓤 H (W .laws) C → Triple 𝓤 (C #restore) (Restore 𝓤 H A mem′ run)
+      → (ys : List Place) (n : ℕ) (all : List ℕ) (b o : ℕ) → Room R (length ys) → n < 2 ^ 64 → FitsImage all
+      → ((i j : Item 𝓤) → Opds K W (i ∷ j ∷ Γ) E xs (sliceVal (b, o) (length ys) ∷ vint w64 n ∷ low-image all ∷ []))
+      → Seq K W (‵ (row R fullShare (restored ys all n) b o) ∷ Γ) (lands C Λ E d vunit rest p)
+      → Seq K W (‵ (row R fullShare ys b o) ∷ Γ) (runs C Λ E (seq (call #restore xs d) rest) p)
+  restores t mem′ run fm known ys n all b o room g ga os k =
+      changes-row R ys b o t fm (Restore 𝓤 H A mem′ run) known room (λ ν δ. to-restore 𝓤 H A mem′ run W b o ys (ν ∷ []) fullShare δ n all) (λ ν δ. goes-restore 𝓤 H A mem′ run W b o ys (ν ∷ []) fullShare δ n all g ga)
+      (restored ys all n) no-others (λ ν δ w. id⊢ 𝓤 _) (λ ν δ. os) k

@@ -1,0 +1,50 @@
+-- A loop that counts i from 0 to n, as a walk needs it, and what follows the first part of a sequence. It says nothing of the crate.
+use Rattle.lent_table.proofs.Walk.{ℕ, _<_, _≤_, _^_}
+use Prim.Native.Nat.{zero, suc, _-_}
+use native.Mathlib.Omega.{arith}
+use mathlib.Core.WellFounded.{WellFounded, InvImage·wf}
+use lib.WfN.{Nat·lt-wfRel}
+use mir.Syntax.{Body as Code, skip, seq, assign, block, loop, cond, switch, exit, return, call}
+
+-- a count up to n at which X holds, ordered by what is left
+abbrev pub Upto : ℕ → (ℕ → Type 0) → Type 0
+Upto n X = (i : ℕ) × ((i ≤ n) × X i)
+
+abbrev pub Nearer : (n : ℕ) (X : ℕ → Type 0) → Upto n X → Upto n X → Type 0
+Nearer n X j i = n - j .0 < n - i .0
+
+pub Nearer-wf : (n : ℕ) (X : ℕ → Type 0) → WellFounded (Nearer n X)
+Nearer-wf n X = InvImage·wf (λ (i : Upto n X). n - i .0) (Nat·lt-wfRel .wf)
+
+pub fits-upto : {i n : ℕ} → i ≤ n → n < 2 ^ 64 → i < 2 ^ 64
+fits-upto h l = omega arith
+
+abbrev pub after : Code → Code
+after skip = skip
+after (seq a b) = b
+after (assign p r) = skip
+after (block b) = skip
+after (loop b) = skip
+after (cond c a b) = skip
+after (switch c a) = skip
+after (exit n) = skip
+after return = skip
+after (call f xs d) = skip
+
+-- what follows n parts
+abbrev pub afters : ℕ → Code → Code
+afters zero b = b
+afters (suc n) b = afters n (after b)
+
+-- the first arm of a test
+abbrev pub taken : Code → Code
+taken skip = skip
+taken (seq a b) = skip
+taken (assign p r) = skip
+taken (block b) = skip
+taken (loop b) = skip
+taken (cond c a b) = a
+taken (switch c a) = skip
+taken (exit n) = skip
+taken return = skip
+taken (call f xs d) = skip

@@ -1,0 +1,96 @@
+-- Reading and writing one byte of an image is reading and writing one of its places.
+use Prim.Native.Nat.{ℕ, zero, suc, _≤_, _<_}
+use mathlib.Core.Path.{_≡_, refl, sym, _∙_}
+use mathlib.Core.List.{List, [], _∷_, map}
+use native.Mathlib.Omega.{arith}
+use lib.ListN.{getD, set, take, replicate, length-take, List·getD-map, List·getD-eq-default}
+use lib.Seq.{set-out, take-set-lt, getD-take}
+use Rattle.rules.specs.Bytes.{choose}
+use Rattle.rules.specs.State as rules
+use Rattle.rules.specs.Invariant.{All}
+use Rattle.rules.proofs.Lists.{all-set, all-get, all-replicate}
+use Rattle.adapters.specs.declared.Place.{Place}
+use Rattle.adapters.specs.Values.{placeOf, unused, Canonical}
+use Rattle.list_image.specs.Image.{packed, unpacked}
+use Rattle.list_image.proofs.Packed.{unpacked-unused, unpacked-packed}
+use Rattle.list_image.specs.Places.{placesOf, AllCanonical}
+
+map-set : {A B : Type 0} (f : A → B) (l : List A) (i : ℕ) (a : A) → map f (set l i a) ≡ set (map f l) i (f a)
+map-set f [] i a = refl
+map-set f (x ∷ l) zero a = refl
+map-set f (x ∷ l) (suc i) a = rw (map-set f l i a)
+
+map-replicate : {A B : Type 0} (f : A → B) (n : ℕ) (a : A) → map f (replicate n a) ≡ replicate n (f a)
+map-replicate f zero a = refl
+map-replicate f (suc n) a = rw (map-replicate f n a)
+
+unpacked-none : unpacked 0 ≡ unused
+unpacked-none = unpacked-unused 0 (omega arith)
+
+place-none : placeOf (unpacked 0) ≡ rules.free
+unfolding placeOf choose
+place-none = rw unpacked-none
+
+canonical-none : Canonical (unpacked 0)
+canonical-none = rw unpacked-none (record { unusedOne = λ e. refl; iscSmall = omega arith; maskedMaskable = λ e. e })
+
+-- an image of zeros
+pub places-none : (n : ℕ) → placesOf (replicate n 0) ≡ replicate n rules.free
+unfolding placesOf
+places-none n = map-replicate (λ b. placeOf (unpacked b)) n 0 ∙ rw place-none
+
+pub canonical-zeros : (n : ℕ) → AllCanonical (replicate n 0)
+unfolding AllCanonical
+canonical-zeros n = rw (map-replicate unpacked n 0) (all-replicate Canonical n (unpacked 0) canonical-none)
+
+-- one place read
+module _ (image : List ℕ) (places id : ℕ) where
+  pub read-in : id < places → placeOf (unpacked (getD image id 0)) ≡ getD (take places (placesOf image)) id rules.free
+  unfolding placesOf
+  read-in h =
+      sym (List·getD-map (λ b. placeOf (unpacked b)) image id 0) ∙ rw (place-none, getD-take places (map (λ b. placeOf (unpacked b)) image) id rules.free h)
+
+  pub read-out : places ≤ id → rules.free ≡ getD (take places (placesOf image)) id rules.free
+  read-out h = sym (List·getD-eq-default (take places (placesOf image)) rules.free (rw length-take (omega arith)))
+
+  pub read-canonical : AllCanonical image → Canonical (unpacked (getD image id 0))
+  unfolding AllCanonical
+  read-canonical h = rw (← List·getD-map unpacked image id 0) (all-get Canonical (map unpacked image) id (unpacked 0) h canonical-none)
+
+  -- one place written
+  module _ (p : Place) (k : Canonical p) where
+    pub write-in : id < places → take places (placesOf (set image id (packed p))) ≡ set (take places (placesOf image)) id (placeOf p)
+    unfolding placesOf
+    write-in h =
+        rw (map-set (λ b. placeOf (unpacked b)) image id (packed p), unpacked-packed p k) (take-set-lt places (placesOf image) id (placeOf p) h)
+
+    pub write-canonical : AllCanonical image → AllCanonical (set image id (packed p))
+    unfolding AllCanonical
+    write-canonical h = rw (map-set unpacked image id (packed p), unpacked-packed p k) (all-set Canonical (map unpacked image) id p h k)
+
+  pub write-out : (p : rules.Place) → places ≤ id → take places (placesOf image) ≡ set (take places (placesOf image)) id p
+  write-out p h = sym (set-out (take places (placesOf image)) id p (rw length-take (omega arith)))
+
+-- the first places of an image
+all-take : {A : Type 0} (P : A → Type 0) (n : ℕ) (l : List A) → All P l → All P (take n l)
+all-take P zero l h = tt
+all-take P (suc n) [] h = tt
+all-take P (suc n) (x ∷ l) h = (h .0, all-take P n l (h .1))
+
+map-take : {A B : Type 0} (f : A → B) (n : ℕ) (l : List A) → map f (take n l) ≡ take n (map f l)
+map-take f zero l = refl
+map-take f (suc n) [] = refl
+map-take f (suc n) (x ∷ l) = rw (map-take f n l)
+
+pub canonical-take : (n : ℕ) (image : List ℕ) → AllCanonical image → AllCanonical (take n image)
+unfolding AllCanonical
+canonical-take n image h = rw (map-take unpacked n image) (all-take Canonical n (map unpacked image) h)
+
+-- the places of an image, and its first ones, as a table of the code's places
+pub places-all : (image : List ℕ) → placesOf image ≡ map placeOf (map unpacked image)
+unfolding placesOf
+places-all [] = refl
+places-all (b ∷ image) = rw (places-all image)
+
+pub places-take : (n : ℕ) (image : List ℕ) → take n (placesOf image) ≡ map placeOf (map unpacked (take n image))
+places-take n image = rw (places-all image, map-take unpacked n image, map-take placeOf n (map unpacked image))

@@ -1,0 +1,18 @@
+-- `image::unpack` meets its contract, by the test.
+use borrow.Author.Needs.{needs}
+use mathlib.Core.Path.{sym, _∙_}
+use Rattle.adapters.proofs.Laws.{place-is-free}
+use Rattle.list_image.proofs.Packed.{unpacked-unused, unpacked-used}
+use Rattle.list_image.proofs.unpack.Statement.{statement}
+use Rattle.list_image.proofs.unpack.Tie as tie
+
+returns : tie.Need-returns
+returns c =
+    let r = c .free-place .ensures in
+    r .1 .unusedOne (place-is-free _ (r .0)) ∙ sym (unpacked-unused _ (c .before .if1 .taken))
+
+returns-2 : tie.Need-returns-2
+returns-2 c = sym (unpacked-used _ (c .if1 .left))
+
+pub unpack-spec : {M : Type 1} → statement M
+unpack-spec = tie.close (tie.spec (λ c κs. search needs) returns returns-2)

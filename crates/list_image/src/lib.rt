@@ -1,0 +1,108 @@
+// Inner crate: an adapter place as one byte, and a table as an array of them.
+ghost use mathlib.Core.Path.{_≡_};
+ghost use Prim.Native.Nat.{_≤_};
+ghost use lib.ListN.{getD, set, take, replicate};
+ghost use Rattle.rules.specs.State.{free};
+ghost use Rattle.adapters.specs.Values.{placeOf, Canonical};
+ghost use Rattle.list_image.specs.Places.{placesOf, AllCanonical};
+ghost use Rattle.list_image.specs.Image.{imageSize, packed, unpacked};
+ghost use Rattle.rules.specs.MoveList.{oneIf};
+use adapters::Place;
+use numbers::AdapterId;
+use numbers::PLACES;
+
+// The place of an id among the first ones; an id without a place reads as free.
+pub fn look_up(image: &[u8; PLACES], places: u64, id: AdapterId) -> Place
+    requires { ⌜ (places ≤ imageSize) × AllCanonical (now image) ⌝ }
+    ensures { λ r. ⌜ (placeOf r ≡ getD (take places (placesOf (now (image .entry)))) (id .0) free) × Canonical r ⌝ }
+{
+    let bytes: &[u8] = image;
+    if id.0 < places {
+        let i = id.0 as usize;
+        return unpack(bytes[i]);
+    }
+    adapters::free_place()
+}
+
+// The place of an id among the first ones is this; an id without a place changes nothing.
+pub fn put(image: &mut [u8; PLACES], places: u64, id: AdapterId, p: Place)
+    requires { ⌜ (places ≤ imageSize) × AllCanonical (now image) × Canonical p ⌝ }
+    ensures { λ _. ⌜ (take places (placesOf (now (image .exit))) ≡ set (take places (placesOf (now (image .entry)))) (id .0) (placeOf p)) × AllCanonical (now (image .exit)) ⌝ }
+{
+    let bytes: &mut [u8] = image;
+    if id.0 < places {
+        let i = id.0 as usize;
+        bytes[i] = pack(p);
+    }
+}
+
+// 1 where it holds, else 0.
+fn flag(on: bool) -> u8
+    ensures { λ r. ⌜ (r ≡ oneIf on) × (r ≤ 1) ⌝ }
+{
+    if on {
+        return 1;
+    }
+    0
+}
+
+// The byte of a place.
+pub fn pack(p: Place) -> u8
+    ensures { λ r. ⌜ r ≡ packed p ⌝ }
+{
+    if !p.used {
+        return 0;
+    }
+    128
+        + p.isc % 8 * 16
+        + flag(p.maskable) * 8
+        + flag(p.swap) * 4
+        + flag(p.suppressible) * 2
+        + flag(p.masked)
+}
+
+// The place that a byte says.
+pub fn unpack(b: u8) -> Place
+    ensures { λ r. ⌜ r ≡ unpacked b ⌝ }
+{
+    if b < 128 {
+        return adapters::free_place();
+    }
+    Place {
+        used: true,
+        isc: b / 16 % 8,
+        maskable: b / 8 % 2 == 1,
+        swap: b / 4 % 2 == 1,
+        suppressible: b / 2 % 2 == 1,
+        masked: b % 2 == 1,
+    }
+}
+
+// An image of unused places.
+pub fn empty() -> [u8; PLACES]
+    ensures { λ r. ⌜ r ≡ replicate imageSize 0 ⌝ }
+{
+    [0u8; PLACES]
+}
+
+// The place at an index of the image is this; an index past the end changes nothing.
+pub fn put_place(image: &mut [u8; PLACES], i: u64, p: Place)
+    ensures { λ _. ⌜ now (image .exit) ≡ set (now (image .entry)) i (packed p) ⌝ }
+{
+    let bytes: &mut [u8] = image;
+    if i < PLACES as u64 {
+        let at = i as usize;
+        bytes[at] = pack(p);
+    }
+}
+
+// The place at an index; past the end it is unused.
+pub fn place_at(image: [u8; PLACES], i: u64) -> Place
+    ensures { λ r. ⌜ r ≡ unpacked (getD image i 0) ⌝ }
+{
+    if i < PLACES as u64 {
+        let at = i as usize;
+        return unpack(image[at]);
+    }
+    unpack(0)
+}

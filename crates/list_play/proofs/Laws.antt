@@ -1,0 +1,163 @@
+-- Laws of playing: one request on the values, and the requests of a table in turn.
+use Prim.Native.Nat.{ℕ, zero, suc, _+_, _-_, _≤_, _<_}
+use mathlib.Core.Path.{_≡_, refl, ap, sym, _∙_, subst}
+use mathlib.Core.Bool.{Bool, false}
+use mathlib.Core.List.{List, [], _∷_}
+use native.Mathlib.Nat.{not-suc-le-zero, le-of-suc-le-suc}
+use native.Mathlib.Numerals.{add-one}
+use native.Mathlib.Omega.{arith}
+use lib.ListN.{getD, set, take, drop, replicate}
+use lib.Dec.{eqb}
+use borrow.Author.Tests.{eq-eqb, ne-eqb}
+use Rattle.rules.specs.Bytes.{choose, part}
+use Rattle.rules.specs.State as rules
+use Rattle.rules.specs.State.{Limits, Pending, State, nothing, fresh}
+use Rattle.rules.specs.Outcome.{Outcome, refuseWith, accept, resetWith, refuse, reset, result, tell}
+use Rattle.rules.specs.Outcome as told
+use Rattle.rules.specs.Requests.{setRequest, request}
+use Rattle.rules.specs.MoveList.{ListRequest, TableEntry, onward, applies, requestsIn, plays}
+use Rattle.rules.specs.Machine.{answerOf}
+use Rattle.rules.proofs.Checks.{chosen, passed, Comes}
+use Rattle.rules.proofs.Outcomes.{Known, known-request, never-zero}
+use Rattle.answers.specs.declared.Answer.{Answer}
+use Rattle.answers.specs.Answers.{Answers, answered}
+use Rattle.adapters.specs.declared.Device.{Device}
+use Rattle.adapters.specs.declared.Place.{Place}
+use Rattle.adapters.specs.Values.{placeOf, deviceOf}
+use Rattle.adapter_requests.specs.declared.Reply.{Reply}
+use Rattle.adapter_requests.specs.States.{Replies}
+use Rattle.list_image.specs.Places.{placesOf}
+use Rattle.list_image.proofs.Laws.{places-none}
+use Rattle.list_form.specs.Form.{slotAt}
+use Rattle.list_form.proofs.Laws.{slotsFrom, next-slot, last-slot}
+use Rattle.list_play.specs.Play.{limitsFrom, stateOf, requestIn, ranTo}
+use Rattle.list_image.specs.Image.{imageSize}
+
+-- a reply about one place of an image, as an answer about the state that the image stands for
+pub as-state : (places room : ℕ) (ais : Bool) (device : Device) (place : Place) (id : ℕ) (image image′ b : List ℕ) (o : Limits → State → Outcome State) (p₀ p₁ : Pending) (r : Reply)
+    (a : Answer) (d : Device) → Replies places room ais device place id b o p₀ p₁ r → a ≡ r .answer → d ≡ r .device
+    → placeOf place ≡ getD (take places (placesOf image)) id rules.free
+    → take places (placesOf image′) ≡ set (take places (placesOf image)) id (placeOf (r .place))
+    → Answers (limitsFrom places room) (stateOf ais places image p₀ device) b (o (limitsFrom places room) (stateOf ais places image p₀ device)) a
+    (stateOf ais places image′ p₁ d) b
+as-state places room ais device place id image image′ b o p₀ p₁ r a d h ea ed f g =
+    h (limitsFrom places room) (stateOf ais places image p₀ device) refl refl refl refl refl (sym f)
+    ∙ (λ i. tell ((sym ea) i .code) ((sym ea) i .count) (record { ais = ais; adapters = (sym g) i; pending = p₁; device = deviceOf ((sym ed) i) }) b)
+
+-- the request of a table entry, by the numbers that were read of it
+pub as-slot : (L : Limits) (s t : State) (b : List ℕ) (e : TableEntry) (a : Answer) (at size group attr : ℕ) → at ≡ e .at → size ≡ e .size → group ≡ e .group
+    → attr ≡ e .attr
+    → Answers L s (take (at + size - at) (drop at b)) (request L s (setRequest group) attr (take (at + size - at) (drop at b))) a t (take (at + size - at) (drop at b))
+    → Answers L s (part (e .at) (e .size) b) (requestIn L s b e) a t (part (e .at) (e .size) b)
+as-slot L s t b e a at size group attr p q g x h =
+    let n : at + size - at ≡ size = omega arith in
+    rw (← p, ← q, ← g, ← x) (rw n at h)
+
+-- what an answer to a request makes of the list that it stands in
+module _ (L : Limits) (s t : State) (b : List ℕ) (ais : Bool) (o : Outcome State) (a : Answer) (k : Known ais ⊥ o) (h : Answers L s b o a t b) (place : ℕ)
+    (rest : State → Outcome State) where
+  onward-accepts : a .code ≡ 0 → onward o place rest ≡ rest t
+  unfolding onward result
+  onward-accepts z = go o k h
+    where
+      go : (o : Outcome State) → Known ais ⊥ o → Answers L s b o a t b → onward o place rest ≡ rest t
+      go (refuseWith code count) k h = absurd (never-zero code (k .0) (ap (λ (x : told.Answer State). x .code) h ∙ z))
+      go (accept count next written) k h = ap (λ (x : told.Answer State). rest (x .next)) h
+      go (resetWith code at further) k h = absurd (k .0)
+
+  onward-refuses : (a .code ≡ 0 → ⊥) → onward o place rest ≡ reset (a .code) place
+  unfolding onward result
+  onward-refuses n = go o k h
+    where
+      go : (o : Outcome State) → Known ais ⊥ o → Answers L s b o a t b → onward o place rest ≡ reset (a .code) place
+      go (refuseWith code count) k h = ap (λ (x : told.Answer State). reset (x .code) place) h
+      go (accept count next written) k h = absurd (n (sym (ap (λ (x : told.Answer State). x .code) h)))
+      go (resetWith code at further) k h = absurd (k .0)
+
+-- a turn of the list: the request at a place, of n
+module _ (L : Limits) (s t : State) (b : List ℕ) (a : Answer) (place n : ℕ) (i : place < n)
+    (h : let e = slotAt place b in Answers L s (part (e .at) (e .size) b) (requestIn L s b e) a t (part (e .at) (e .size) b)) where
+  pub applies-next : a .code ≡ 0
+      → applies L place s (requestsIn b (slotsFrom place n b)) ≡ applies L (place + 1) t (requestsIn b (slotsFrom (place + 1) n b))
+  unfolding applies requestsIn
+  applies-next z = rw (next-slot place n b i, add-one place) (onward-accepts L s t _ _ _ a (known-request L s _ _ _) h place _ z)
+
+  pub applies-stops : (a .code ≡ 0 → ⊥) → applies L place s (requestsIn b (slotsFrom place n b)) ≡ reset (a .code) place
+  unfolding applies requestsIn
+  applies-stops z = rw (next-slot place n b i) (onward-refuses L s t _ _ _ a (known-request L s _ _ _) h place _ z)
+
+pub applies-ends : (L : Limits) (s : State) (b : List ℕ) (place n : ℕ) → n ≤ place → applies L place s (requestsIn b (slotsFrom place n b)) ≡ accept place s []
+unfolding applies requestsIn
+applies-ends L s b place n h = rw (last-slot place n b h)
+
+-- a list whose requests are applied is not refused as a whole
+abbrev Applied : Outcome State → Type 0
+Applied = Comes (λ code count. ⊥) (λ count next written. Unit {0}) (λ code place further. Unit {0})
+
+applied-onward : (o : Outcome State) (place : ℕ) (rest : State → Outcome State) → ((t : State) → Applied (rest t)) → Applied (onward o place rest)
+unfolding onward
+applied-onward (refuseWith code count) place rest h = tt
+applied-onward (accept count next written) place rest h = h next
+applied-onward (resetWith code at further) place rest h = tt
+
+applied : (L : Limits) (place : ℕ) (s : State) (es : List ListRequest) → Applied (applies L place s es)
+unfolding applies
+applied L place s [] = tt
+applied L place s (e ∷ es) = applied-onward _ place (λ t. applies L (suc place) t es) (λ t. applied L (suc place) t es)
+
+pub not-refused : (L : Limits) (place : ℕ) (s : State) (es : List ListRequest) (code count : ℕ) (o : Outcome State) → o ≡ applies L place s es → o ≡ refuseWith code count → ⊥
+not-refused L place s es code count o e f = subst Applied (sym e ∙ f) (applied L place s es)
+
+-- what an answer to the requests of a list says
+pub ran-all : (a : Answer) (next : State) → a .code ≡ 0 → ranTo a next ≡ accept (a .count) next []
+unfolding ranTo
+ran-all a next e = chosen _ _ _ (eq-eqb (a .code) 0 e)
+
+pub ran-part : (a : Answer) (next : State) → (a .code ≡ 0 → ⊥) → ranTo a next ≡ reset (a .code) (a .count)
+unfolding ranTo
+ran-part a next n = passed _ _ _ (ne-eqb (a .code) 0 n)
+
+-- the values of a fresh controller
+take-replicate : {A : Type 0} (m n : ℕ) (x : A) → m ≤ n → take m (replicate n x) ≡ replicate m x
+take-replicate zero n x h = refl
+take-replicate (suc m) zero x h = absurd (not-suc-le-zero h)
+take-replicate (suc m) (suc n) x h = rw (take-replicate m n x (le-of-suc-le-suc h))
+
+pub fresh-is : (places room : ℕ) (ais : Bool) (device : Device) (p : Pending) → places ≤ imageSize → p ≡ nothing → device ≡ record { simm = 0; nimm = 0; apf = false }
+    → fresh (limitsFrom places room) ais ≡ stateOf ais places (replicate imageSize 0) p device
+unfolding fresh
+fresh-is places room ais device p h e d =
+    λ i. record {
+      ais = ais;
+      adapters = (sym (ap (take places) (places-none imageSize) ∙ take-replicate places imageSize rules.free h)) i;
+      pending = sym e i;
+      device = deviceOf (sym d i);
+    }
+
+-- ---- the answer of a played list
+pub not-played : (L : Limits) (s t : State) (b : List ℕ) (code : ℕ) (a : Answer) → plays L s b ≡ refuse code → a ≡ answered code 0
+    → Answers L s b (plays L s b) a (choose (eqb 0 0) s t) b
+unfolding result choose
+not-played L s t b code a p e = ap (answerOf L s b) p ∙ rw e
+
+module _ (places room : ℕ) (ais : Bool) (b : List ℕ) (es : List ListRequest) (start next : State) (a : Answer) (h : 0 < places)
+    (f : fresh (limitsFrom places room) ais ≡ start) (r : applies (limitsFrom places room) 0 start es ≡ ranTo a next) (L : Limits) (s : State)
+    (e1 : L .places ≡ places) (e2 : L .room ≡ room) (e3 : s .ais ≡ ais) (p : plays L s b ≡ applies L 0 (fresh L ais) es) where
+  comes-to : plays L s b ≡ ranTo a next
+  comes-to =
+      p ∙ (λ i. let K : Limits = record { places = e1 i; room = e2 i } in applies K 0 (fresh K ais) es)
+      ∙ ap (λ (x : State). applies (limitsFrom places room) 0 x es) f ∙ r
+
+  restored-is : (t : State) → t ≡ choose (eqb places 0) s t
+  restored-is t = sym (passed _ s t (ne-eqb places 0 (λ z. omega arith)))
+
+  pub played-all : a .code ≡ 0 → Answers L s b (plays L s b) a (choose (eqb places 0) s next) b
+  unfolding result
+  played-all z =
+      ap (answerOf L s b) (comes-to ∙ ran-all a next z) ∙ (λ i. tell (sym z i) (a .count) (restored-is next i) b)
+
+  pub played-part : (t : State) → fresh (limitsFrom places room) ais ≡ t → (a .code ≡ 0 → ⊥) → Answers L s b (plays L s b) a (choose (eqb places 0) s t) b
+  unfolding result
+  played-part t g n =
+      ap (answerOf L s b) (comes-to ∙ ran-part a next n)
+      ∙ (λ i. tell (a .code) (a .count) (((λ j. let K : Limits = record { places = e1 j; room = e2 j } in fresh K (e3 j)) ∙ g ∙ restored-is t) i) b)

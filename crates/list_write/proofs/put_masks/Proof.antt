@@ -1,0 +1,34 @@
+-- `write::put_masks` meets its contract, by its test.
+use Prim.Native.Nat.{_+_, _*_}
+use mathlib.Core.Path.{_∙_}
+use native.Mathlib.Omega.{arith}
+use borrow.Author.Needs.{needs}
+use Rattle.rules.specs.Bytes.{choose, bytes}
+use Rattle.rules.proofs.Codec.{length-bytes}
+use Rattle.list_write.proofs.Entries.{put-none, put-paste}
+use Rattle.list_write.proofs.Laws.{two-bytes}
+use Rattle.list_write.proofs.put_masks.Statement.{statement}
+use Rattle.list_write.proofs.put_masks.Tie as tie
+
+write-be-requires : tie.Need-write-be-requires
+write-be-requires c κs = (omega arith, omega (arith, rw (c .before .before .before .if1 .taken) at (c .before .before .before .before .before .pre)))
+
+returns : tie.Need-returns
+unfolding choose
+returns c =
+    let a = c .before .before .before .before .before .before .before .before .args in
+    let e = c .before .before .before .before .wide .ensures in
+    let f = c .before .before .before .wide2 .ensures in
+    rw (c .before .before .before .before .before .before .if1 .taken)
+    (c .before .before .write-be .ensures ∙ put-paste (a .out .now) (a .at) (bytes 2 (c .before .before .before .before .wide .result * 256 + c .before .before .before .wide2 .result)) 2 (length-bytes 2 _)
+    ∙ rw (e .0, f .0, two-bytes (a .simm) (a .nimm) (rw (← e .0) (e .1)) (rw (← f .0) (f .1))))
+
+returns-2 : tie.Need-returns-2
+unfolding choose
+returns-2 c = rw (c .if1 .left) (put-none _ _)
+
+pub put-masks-spec : {M : Type 1} → statement M
+put-masks-spec =
+    tie.close
+    (tie.spec (λ c κs. search needs) (λ c. search needs) (λ c κs. search needs) (λ c. search needs) write-be-requires (λ c. search needs)
+    returns returns-2)

@@ -1,0 +1,76 @@
+-- The invariant: what is left, put behind what is there now, comes to what all comes to.
+use Prim.Native.Nat.{_+_, _-_, _*_, _≤_}
+use mathlib.Core.Path.{_≡_, refl, sym, _∙_}
+use native.Mathlib.Omega.{arith}
+use lib.ListN.{length, getD}
+use borrow.Author.Needs.{needs}
+use Rattle.rules.specs.MoveList.{oneIf, writtenTable}
+use Rattle.list_image.specs.Image.{imageSize, unpacked}
+use Rattle.list_write.specs.Parts.{put, each, isWritten}
+use Rattle.list_write.proofs.Entries.{put-none, eachFrom, each-last, room-turn, slots-turn}
+use Rattle.list_write.proofs.put_slots.Statement.{statement}
+use Rattle.list_write.proofs.put_slots.Tie as tie
+
+abbrev Inv-loop : tie.InvT-loop
+Inv-loop out₀ at pay modify image group size a₀ p₀ i₀ out a p i =
+    (i ≤ imageSize) × (length out ≡ length out₀) × (p ≤ pay + 16 * i) × (a + 24 * length (eachFrom modify i image) ≤ length out)
+    × (put out₀ at (writtenTable pay (each modify image)) ≡ put out a (writtenTable p (eachFrom modify i image)))
+
+abbrev μ-loop : tie.MeasureT-loop
+μ-loop out₀ at pay modify image group size a₀ p₀ i₀ out a p i = imageSize - i
+
+-- whether the place has an entry, and the room that is left
+on-is : (c : tie.After-is-written Inv-loop μ-loop) → let a = c .before .before .before .before .before .before .before .args in
+    c .is-written .result ≡ isWritten (a .modify) (unpacked (getD (a .t4) (c .before .before .before .loop .i) 0))
+on-is c = rw (c .before .unpack .ensures) at (c .is-written .ensures)
+
+room : (c : tie.After-is-written Inv-loop μ-loop) → let l = c .before .before .before .loop in
+    l .a + 24 * oneIf (c .is-written .result) + 24 * length (eachFrom (c .before .before .before .before .before .before .before .args .modify) (l .i + 1) (c .before .before .before .before .before .before .before .args .t4)) ≤ length (l .out)
+room c =
+    let l = c .before .before .before .loop in
+    room-turn (c .before .before .before .before .before .before .before .args .modify) (l .i) (c .before .before .before .before .before .before .before .args .t4) (search needs) (c .is-written .result) (on-is c) (l .out) (l .out) (l .a) 24 _ (l .inv .3)
+
+loop-holds : tie.Need-loop-holds Inv-loop μ-loop
+loop-holds c = let s = c .before .before .before in (omega arith, refl, omega arith, s .pre .1, refl)
+
+put-slot-requires : tie.Need-put-slot-requires Inv-loop μ-loop
+put-slot-requires c κs = omega (arith, room (c .before))
+
+add-a : tie.Need-add-a Inv-loop μ-loop
+add-a c = omega (arith, room (c .before .before .before .before .before), c .flag-of .ensures .0)
+
+add-p : tie.Need-add-p Inv-loop μ-loop
+add-p c = omega (arith, c .size-if .ensures .1, c .before .before .before .before .before .before .before .before .before .loop .inv .2, c .before .before .before .before .before .before .before .before .before .before .before .before .before .pre .0, c .before .before .before .before .before .before .before .before .loop-test .taken)
+
+loop-again : tie.Need-loop-again Inv-loop μ-loop
+loop-again c =
+    let a = c .before .before .before .before .before .before .before .before .before .before .before .before .before .args in
+    let l = c .before .before .before .before .before .before .before .before .before .loop in
+    let on = c .before .before .before .before .before .before .is-written .result in
+    let k : length (c .before .before .before .before .put-slot .last .0) ≡ length (l .out) = search needs in (
+      omega (arith, c .before .before .before .before .before .before .before .before .loop-test .taken),
+      k ∙ l .inv .1,
+      omega (arith, c .size-if .ensures .1, l .inv .2),
+      rw (c .before .flag-of .ensures .0, k) (room (c .before .before .before .before .before .before)),
+      l .inv .4 ∙ rw (c .before .flag-of .ensures .0, c .size-if .ensures .0)
+          (slots-turn (a .modify) (l .i) (a .t4) (search needs) on (on-is (c .before .before .before .before .before .before)) (l .out) _ (l .a) (l .p) (l .inv .3)
+          (rw (c .before .before .before .before .before .before .before .before .before .before .before .group-of .ensures, c .before .before .before .before .before .before .before .before .before .before .size-of .ensures .0) at (c .before .before .before .before .put-slot .ensures))),
+    )
+
+same-length : tie.Need-same-length Inv-loop μ-loop
+same-length c = c .before .loop .inv .1
+
+returns : tie.Need-returns Inv-loop μ-loop
+unfolding writtenTable
+returns c =
+    let a = c .before .before .before .before .before .args in
+    let l = c .before .loop in
+    let k : length (a .t4) ≡ imageSize = search needs in
+    sym (l .inv .4 ∙ rw (each-last (a .modify) (l .i) (a .t4) (omega arith)) (sym (put-none (l .out) (l .a))))
+
+pub put-slots-spec : {M : Type 1} → statement M
+put-slots-spec =
+    tie.close
+    (tie.spec Inv-loop μ-loop (λ c κs. search needs) (λ c κs. search needs) loop-holds (λ c. search needs) (λ c κs. search needs)
+    (λ c κs. search needs) put-slot-requires (λ c κs. search needs) (λ c. search needs) add-a (λ c κs. search needs) add-p
+    (λ c. search needs) (λ c. search needs) loop-again same-length returns)

@@ -1,0 +1,58 @@
+-- 01, 'Move list', written: the entries of a list, by what the code counts of them.
+use Prim.Native.Nat.{ℕ, _+_, _*_, _≤_}
+use mathlib.Core.Path.{_≡_}
+use mathlib.Core.Bool.{Bool, true, false}
+use mathlib.Core.List.{List, [], _∷_, _++_, flatten}
+use lib.ListN.{length}
+use lib.Dec.{ltb}
+use Rattle.rules.specs.Bytes.{choose}
+use Rattle.rules.specs.State.{Record, recordBytes}
+use Rattle.rules.specs.MoveList.{ListRequest, oneIf, enqueueRequest, apfRequest}
+use Rattle.list_write.specs.Parts.{each}
+use Rattle.list_write.specs.declared.Parts.{Parts}
+use Rattle.list_image.specs.Image.{imageSize}
+use Rattle.store_queues.specs.Slots.{mostPending}
+
+-- AISM_ALL, where it is written
+abbrev pub maskEntry : Bool → ℕ → ℕ → List ListRequest
+maskEntry masks simm nimm = choose masks (record { group = 11; attr = 0; payload = simm ∷ nimm ∷ [] } ∷ []) []
+
+-- REGISTER and MODIFY of an image's adapters; ENQUEUE of the records, AISM_ALL, APF_ENABLE; and all of them
+unfoldable pub adapterEntries : List ℕ → List ListRequest
+adapterEntries image = each false image ++ each true image
+
+unfoldable pub otherEntries : List Record → Bool → ℕ → ℕ → Bool → List ListRequest
+otherEntries rs masks simm nimm apf = enqueueRequest rs ++ (maskEntry masks simm nimm ++ apfRequest apf)
+
+abbrev pub entriesFrom : List ℕ → List Record → Bool → ℕ → ℕ → Bool → List ListRequest
+entriesFrom image rs masks simm nimm apf = adapterEntries image ++ otherEntries rs masks simm nimm apf
+
+-- how many entries they are, and the bytes of their payloads
+abbrev pub otherCount : Parts → ℕ
+otherCount p = oneIf (ltb 0 (p .records)) + oneIf (p .masks) + oneIf (p .apf)
+
+abbrev pub countOf : Parts → ℕ
+countOf p = p .registers + p .modifies + otherCount p
+
+abbrev pub bytesOf : Parts → ℕ
+bytesOf p = 8 * p .registers + 16 * p .modifies + recordBytes * p .records + 2 * oneIf (p .masks)
+
+-- the most of both: every place registered and masked, a full listing, AISM_ALL and APF_ENABLE
+abbrev pub mostEntries : ℕ
+mostEntries = 2 * imageSize + 3
+
+abbrev pub mostPayload : ℕ
+mostPayload = (8 + 16) * imageSize + recordBytes * mostPending + 2
+
+-- what is counted
+pub record Counted (image : List ℕ) (p : Parts) : Type 0 where
+  pub registers : p .registers ≡ length (each false image)
+  pub modifies : p .modifies ≡ length (each true image)
+  pub fewRegisters : p .registers ≤ imageSize
+  pub fewModifies : p .modifies ≤ imageSize
+  pub fewRecords : p .records ≤ mostPending
+
+-- so many whole records
+pub record Whole (rs : List Record) (n : ℕ) : Type 0 where
+  pub count : length rs ≡ n
+  pub size : length (flatten rs) ≡ recordBytes * n

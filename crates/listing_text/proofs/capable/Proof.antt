@@ -1,0 +1,14 @@
+-- The flag is read where there is one.
+use native.Mathlib.Omega.{arith}
+use borrow.Author.Needs.{needs}
+use Rattle.listing_text.proofs.capable.Statement.{statement}
+use Rattle.listing_text.proofs.capable.Tie as tie
+
+returns : tie.Need-returns
+returns c = (λ h. absurd (omega arith))
+
+returns-2 : tie.Need-returns-2
+returns-2 c = (λ h. rw (c .read-be .ensures .0))
+
+pub capable-spec : {M : Type 1} → statement M
+capable-spec = tie.close (tie.spec returns (λ c κs. search needs) returns-2)

@@ -1,0 +1,52 @@
+-- The n - i lowest digits of v stand in out from index at + i.
+use mathlib.Core.Path.{_≡_, refl}
+use Prim.Native.Nat.{_+_, _-_, _/_, _^_, _≤_}
+use native.Mathlib.Nat.{div-one, pow-zero, mod-lt, lt-of-lt-of-le}
+use native.Mathlib.Omega.{arith}
+use lib.ListN.{length, length-set}
+use lib.Seq.{paste}
+use borrow.Author.Needs.{needs}
+use Rattle.rules.specs.Listing.{digits}
+use Rattle.numbers.proofs.Laws.{paste-none}
+use Rattle.listing_text.proofs.Text.{spell-turn, length-digits}
+use Rattle.listing_text.proofs.spell.Statement.{statement}
+use Rattle.listing_text.proofs.spell.Tie as tie
+
+abbrev Inv-loop : tie.InvT-loop
+Inv-loop out₀ at base n v w₀ i₀ out w i =
+    (i ≤ n) × (length out ≡ length out₀) × (w ≡ v / base ^ (n - i)) × (out ≡ paste out₀ (at + i) (digits base (n - i) v) (n - i))
+
+abbrev μ-loop : tie.MeasureT-loop
+μ-loop out₀ at base n v w₀ i₀ out w i = i
+
+loop-holds : tie.Need-loop-holds Inv-loop μ-loop
+loop-holds c =
+    let a = c .before .args in
+    let e : a .n - a .n ≡ 0 = omega arith in
+    (omega arith, refl, rw (e, pow-zero, div-one), paste-none (a .out .now) (a .at + a .n) (digits (a .base) (a .n - a .n) (a .v)) (a .n - a .n) e)
+
+letter-requires : tie.Need-letter-requires Inv-loop μ-loop
+letter-requires c κs = lt-of-lt-of-le (mod-lt _ (omega arith)) (omega arith)
+
+loop-again : tie.Need-loop-again Inv-loop μ-loop
+loop-again c =
+    let d = c .before .before .before .before in
+    let a = d .args in
+    let l = c .before .before .loop in
+    let t = spell-turn (l .out) (a .out .now) (a .at) (a .base) (a .n) (l .i) (a .v) (l .w) (omega arith) (omega arith) (omega arith) (l .inv .2) (l .inv .3) in
+    (omega arith, simp length-set (l .inv .1), t .0, rw (c .letter .ensures) (t .1))
+
+returns : tie.Need-returns Inv-loop μ-loop
+returns c =
+    let a = c .before .before .before .args in
+    let l = c .before .loop in
+    let p : a .at + l .i ≡ a .at = omega arith in
+    let q : a .n - l .i ≡ a .n = omega arith in
+    let n = length-digits (a .base) (a .n) (a .v) in
+    (record { ends = omega (arith, n); fits = omega arith; now = rw n (rw (p, q) at (l .inv .3)) }, refl)
+
+pub spell-spec : {M : Type 1} → statement M
+spell-spec =
+    tie.close
+    (tie.spec Inv-loop μ-loop loop-holds (λ c. search needs) (λ c. search needs) letter-requires (λ c. search needs) (λ c. search needs)
+    (λ c. search needs) (λ c. search needs) loop-again (λ c. search needs) (λ c. search needs) returns)

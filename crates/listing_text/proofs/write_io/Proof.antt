@@ -1,0 +1,42 @@
+-- Kind, subclass, type and word, one after the other.
+use mathlib.Core.Path.{_≡_}
+use native.Mathlib.Omega.{arith}
+use borrow.Author.Needs.{needs}
+use Rattle.rules.specs.Listing.{ascii, digitCount}
+use Rattle.listing_text.proofs.Text.{wrote-then, io-text, size-one}
+use Rattle.listing_text.proofs.write_io.Statement.{statement}
+use Rattle.listing_text.proofs.write_io.Tie as tie
+
+-- a subclass is one digit
+one : (c : tie.After-wide) → digitCount (c .wide .result) (c .wide .result) ≡ 1
+one c = size-one (c .wide .result) (c .wide .result) (omega arith)
+
+write-decimal-requires : tie.Need-write-decimal-requires
+write-decimal-requires c κs = omega (arith, one (c .before))
+
+write-hex8-requires : tie.Need-write-hex8-requires
+write-hex8-requires c κs =
+    omega (arith, one (c .before .before .before .before .before .before))
+
+write-hex8-requires-2 : tie.Need-write-hex8-requires-2
+write-hex8-requires-2 c κs =
+    let d = c .before .before .before .before in
+    let e = d .before .before .before .before .before in
+    let f = e .before .before .before .before .before .before in
+    omega (arith, f .append .ensures .ends, e .write-decimal .ensures .1, one (e .before .before), d .write-hex8 .ensures .1)
+
+returns : tie.Need-returns
+unfolding ascii
+returns c =
+    let d = c .before .before .before .before .before .before .before in
+    let e = d .before .before .before .before .before in
+    let f = e .before .before in
+    let g = f .before .before .before .before in
+    let w = wrote-then (wrote-then (wrote-then (g .append .ensures) (e .write-decimal .ensures .0)) (d .write-hex8 .ensures .0)) (c .before .before .write-hex82 .ensures .0) in
+    (rw (← io-text) (rw (f .wide .ensures .0) at w), omega (arith, g .append .ensures .ends, e .write-decimal .ensures .1, one f))
+
+pub write-io-spec : {M : Type 1} → statement M
+write-io-spec =
+    tie.close
+    (tie.spec (λ c. search needs) (λ c κs. search needs) (λ c κs. search needs) (λ c. search needs) write-decimal-requires
+    (λ c. search needs) write-hex8-requires (λ c. search needs) write-hex8-requires-2 (λ c. search needs) returns)

@@ -1,0 +1,53 @@
+-- The lines of the first i records stand in out.
+use mathlib.Core.Path.{_≡_, refl, _∙_}
+use mathlib.Core.List.{[]}
+use Prim.Native.Nat.{_+_, _*_, _-_, _≤_}
+use native.Mathlib.Omega.{arith}
+use lib.ListN.{length}
+use lib.Seq.{paste-zero}
+use borrow.Author.Needs.{needs}
+use Rattle.rules.specs.Requests.{recordsIn}
+use Rattle.rules.specs.Listing.{linesFrom}
+use Rattle.listing_text.specs.Wrote.{Wrote}
+use Rattle.listing_text.proofs.Text.{wrote-then, wrote-long, lines-next, size-most}
+use Rattle.listing_text.proofs.write_records.Statement.{statement}
+use Rattle.listing_text.proofs.write_records.Tie as tie
+
+abbrev Inv-loop : tie.InvT-loop
+Inv-loop out₀ at b n end₀ i₀ out end i =
+    (i ≤ n) × (end ≤ at + i * 27) × (length out ≡ length out₀) × Wrote out₀ out at (linesFrom 0 (recordsIn i b)) end
+
+abbrev μ-loop : tie.MeasureT-loop
+μ-loop out₀ at b n end₀ i₀ out end i = n - i
+
+loop-holds : tie.Need-loop-holds Inv-loop μ-loop
+unfolding linesFrom recordsIn
+loop-holds c =
+    let a = c .before .before .args in
+    (omega arith, omega arith, refl, record { ends = omega arith; fits = omega arith; now = paste-zero (a .out .now) (a .at) [] })
+
+write-record-requires : tie.Need-write-record-requires Inv-loop μ-loop
+write-record-requires c κs = (size-most 2 _ _ (omega arith), omega arith, omega arith)
+
+loop-again : tie.Need-loop-again Inv-loop μ-loop
+loop-again c =
+    let d = c .before .before .before .before .before in
+    let e = d .before .before .before in
+    let a = e .args in
+    let l = d .loop in
+    let x = c .before .before .write-record .ensures in
+    let w = wrote-then (l .inv .3) (x .0) in
+    (omega arith, omega arith, wrote-long (x .0) ∙ l .inv .2, rw (← lines-next (l .i) (a .b .now)) w)
+
+returns : tie.Need-returns Inv-loop μ-loop
+returns c =
+    let d = c .before .before .before .before in
+    let l = c .before .loop in
+    let e : l .i ≡ d .args .n = omega arith in
+    rw e at (l .inv .3)
+
+pub write-records-spec : {M : Type 1} → statement M
+write-records-spec =
+    tie.close
+    (tie.spec Inv-loop μ-loop loop-holds (λ c. search needs) write-record-requires (λ c. search needs) (λ c. search needs) loop-again
+    (λ c. search needs) returns)

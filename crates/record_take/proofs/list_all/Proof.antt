@@ -1,0 +1,91 @@
+-- `outgoing::list_all` meets its contract. Assumes nothing.
+use borrow.Author.Needs.{needs}
+use Prim.Native.Nat.{_+_, _*_, _≤_}
+use mathlib.Core.Path.{_≡_, _∙_}
+use mathlib.Core.List.{_++_, flatten}
+use mathlib.Core.Option.{some}
+use mathlib.Core.Logic.{⊎-elim}
+use native.Mathlib.Omega.{arith}
+use lib.ListN.{length}
+use Rattle.rules.specs.State.{Record, single}
+use Rattle.store_queues.specs.Queues.{queues, total}
+use Rattle.store_singles.specs.Singles.{serviceOf, mchkOf}
+use Rattle.record_take.proofs.Laws.{listing-is, length-listing, service-there, service-absent, mchk-there, mchk-absent, Wrote, none-more, one-more, room-more, front, wrote-all, wrote-queues}
+use Rattle.record_take.proofs.list_all.Statement.{statement}
+use Rattle.record_take.proofs.list_all.Tie as tie
+
+fits : (c : tie.After-list-arg) → let a = c .before .before .args in total (a .counts .now) * 72 ≤ length (a .out .now)
+fits c =
+    let s = c .before .before in
+    let a = s .args in
+    omega (arith, s .pre .1, length-listing (a .order .now) (a .counts .now) (a .slots .now) (a .singles .now) (s .pre .0))
+
+wrote : (c : tie.After-queued) → let a = c .before .before .before .before .before .before .args in Wrote (a .out .now) (c .before .before .before .list .last .1 .1 .1 .0) (flatten (queues (a .order .now) (a .counts .now) (a .slots .now))) (c .queued .result * 72)
+wrote c =
+    let s = c .before .before .before .before .before .before in
+    let a = s .args in
+    wrote-queues (a .order .now) (a .counts .now) (a .slots .now) (a .out .now) _ _ (c .queued .ensures) (s .pre .0) (fits (c .before .before .before .before)) (search needs) (c .before .before .before .list .ensures)
+
+room : (c : tie.After-queued) → let a = c .before .before .before .before .before .before .args in 72 * length ((flatten (queues (a .order .now) (a .counts .now) (a .slots .now)) ++ single (serviceOf (a .singles .now))) ++ single (mchkOf (a .singles .now))) ≤ length (a .out .now)
+room c =
+    let s = c .before .before .before .before .before .before in
+    let a = s .args in
+    rw (listing-is (a .order .now) (a .counts .now) (a .slots .now) (a .singles .now) (s .pre .0)) at (s .pre .1)
+
+service-room : (c : tie.After-queued) (r : Record) → serviceOf (c .before .before .before .before .before .before .args .singles .now) ≡ some r → c .queued .result * 72 + 72 ≤ length (c .before .before .before .before .before .before .args .out .now)
+service-room c r e =
+    let a = c .before .before .before .before .before .before .args in
+    room-more _ _ _ _ (wrote c) _ r e _ (front (flatten (queues (a .order .now) (a .counts .now) (a .slots .now)) ++ single (serviceOf (a .singles .now))) _ _ (room c))
+
+service : (c : tie.Joined1) → let a = c .before .before .before .before .before .before .before .before .args in Wrote (a .out .now) (c .if1 .out) (flatten (queues (a .order .now) (a .counts .now) (a .slots .now)) ++ single (serviceOf (a .singles .now))) (c .if1 .at)
+service c =
+    let q = c .before .before in
+    let h = c .before .has-service .ensures in
+    ⊎-elim
+    (λ w.
+    let e = service-there _ _ _ h (w .0 .taken) (w .2 .ensures) in
+    rw (w .6, w .7, w .3 .ensures) (one-more _ _ _ _ (wrote q) _ _ e (search needs) (service-room q _ e)))
+    (λ w. rw (w .1, w .2) (none-more _ _ _ _ (wrote q) _ (service-absent _ _ h (w .0 .left))))
+    (c .if1 .came)
+
+mchk-room : (c : tie.Joined1) (r : Record) → mchkOf (c .before .before .before .before .before .before .before .before .args .singles .now) ≡ some r → c .if1 .at + 72 ≤ length (c .before .before .before .before .before .before .before .before .args .out .now)
+mchk-room c r e = room-more _ _ _ _ (service c) _ r e _ (room (c .before .before))
+
+list-requires : tie.Need-list-requires
+list-requires c κs = (c .before .before .pre .0, fits c)
+
+save-requires : tie.Need-save-requires
+save-requires c κs =
+    let d = c .before .before .before in
+    omega (arith, service-room (d .before) _ (service-there _ _ _ (d .has-service .ensures) (c .before .before .if1 .taken) (c .read-service .ensures)), wrote (d .before) .long)
+
+save-requires-2 : tie.Need-save-requires-2
+save-requires-2 c κs =
+    let d = c .before .before .before in
+    omega (arith, mchk-room (d .before) _ (mchk-there _ _ _ (d .has-mchk .ensures) (c .before .before .if2 .taken) (c .read-mchk .ensures)), service (d .before) .long)
+
+same-length : tie.Need-same-length
+same-length c = let h = service (c .before .before .before .before .before .before .before) .long in search needs
+
+returns : tie.Need-returns
+returns c =
+    let d = c .before .before .before in
+    let f = d .before .before .before in
+    let t = f .before .before .before .before .before .before .before .before .before in
+    let j = f .before in
+    let e = (mchk-there _ _ _ (f .has-mchk .ensures) (d .before .before .if2 .taken) (d .read-mchk .ensures)) in
+    c .before .before .save2 .ensures ∙ wrote-all _ _ _ _ _ _ _ (t .pre .0) (one-more _ _ _ _ (service j) _ _ e (search needs) (mchk-room j _ e))
+
+same-length-2 : tie.Need-same-length-2
+same-length-2 c = service (c .before .before) .long
+
+returns-2 : tie.Need-returns-2
+returns-2 c =
+    let d = c .before .before .before .before .before .before .before .before .before .before in
+    wrote-all _ _ _ _ _ _ _ (d .pre .0) (none-more _ _ _ _ (service (c .before .before)) _ (mchk-absent _ _ (c .before .has-mchk .ensures) (c .if2 .left)))
+
+pub list-all-spec : {M : Type 1} → statement M
+list-all-spec =
+    tie.close
+    (tie.spec list-requires (λ c κs. search needs) (λ c. search needs) (λ c κs. search needs) (λ c κs. search needs) save-requires
+    (λ c. search needs) (λ c κs. search needs) (λ c κs. search needs) save-requires-2 same-length returns same-length-2 returns-2)

@@ -1,0 +1,182 @@
+-- Laws of the counts: their sum, the mask of the queues that have records, and one count that changes. Assumes nothing.
+use mathlib.Core.Path.{_≡_, refl, sym, ap, _∙_}
+use mathlib.Core.Bool.{true, false, not}
+use mathlib.Core.List.{List, [], _∷_}
+use Prim.Native.Nat.{ℕ, zero, suc, _+_, _-_, _*_, _/_, _%_, _^_, _≤_, _<_}
+use native.Mathlib.Nat.{not-suc-le-zero, le-of-suc-le-suc, div-div-eq-div-mul, pow-suc, mul-comm}
+use native.Mathlib.Numerals.{add-one}
+use native.Mathlib.Omega.{arith}
+use lib.Dec.{eqb}
+use lib.ListN.{length, take, drop, getD, set, replicate, length-set}
+use lib.Seq.{take-set-lt, take-set-le, length-take-le, getD-take, getD-drop, getD-set-same, getD-set-other, drop-drop}
+use borrow.Author.Tests.{eq-eqb, ne-eqb}
+use Rattle.rules.specs.State.{hasBit, bit}
+use Rattle.store_queues.specs.Slots.{slotCount}
+use Rattle.store_queues.specs.Queues.{each, total, waiting, sum, some, bits, Counted}
+
+-- ---- sums
+pub sum-at : (ns : List ℕ) (i : ℕ) → getD ns i 0 ≤ sum ns
+unfolding sum
+sum-at [] i = omega arith
+sum-at (n ∷ ns) zero = omega arith
+sum-at (n ∷ ns) (suc i) = omega (arith, sum-at ns i)
+
+-- the sum of the first i + 1
+sum-more : (ns : List ℕ) (i : ℕ) → i < length ns → sum (take (suc i) ns) ≡ sum (take i ns) + getD ns i 0
+unfolding sum
+sum-more [] i h = absurd (not-suc-le-zero h)
+sum-more (n ∷ ns) zero h = omega arith
+sum-more (n ∷ ns) (suc i) h = omega (arith, sum-more ns i (le-of-suc-le-suc h))
+
+sum-part : (ns : List ℕ) (i : ℕ) → sum (take i ns) ≤ sum ns
+unfolding sum
+sum-part ns zero = omega arith
+sum-part [] (suc i) = omega arith
+sum-part (n ∷ ns) (suc i) = omega (arith, sum-part ns i)
+
+pub sum-next : (ns : List ℕ) (i : ℕ) → i < length ns → (sum (take (i + 1) ns) ≡ sum (take i ns) + getD ns i 0) × (sum (take i ns) + getD ns i 0 ≤ sum ns)
+sum-next ns i h = (rw add-one (sum-more ns i h), omega (arith, sum-more ns i h, sum-part ns (suc i)))
+
+sum-set : (ns : List ℕ) (i n : ℕ) → i < length ns → sum (set ns i n) + getD ns i 0 ≡ sum ns + n
+unfolding sum
+sum-set [] i n h = absurd (not-suc-le-zero h)
+sum-set (m ∷ ns) zero n h = omega arith
+sum-set (m ∷ ns) (suc i) n h = omega (arith, sum-set ns i n (le-of-suc-le-suc h))
+
+pub all-zero : (ns : List ℕ) → sum ns ≡ 0 → ns ≡ replicate (length ns) 0
+unfolding sum
+all-zero [] e = refl
+all-zero (n ∷ ns) e = λ i. (let z : n ≡ 0 = omega arith in z) i ∷ all-zero ns (omega arith) i
+
+-- ---- bits
+some-small : (n : ℕ) → some n ≤ 1
+unfolding some
+some-small zero = omega arith
+some-small (suc n) = omega arith
+
+pub some-zero : (n : ℕ) → n ≡ 0 → some n ≡ 0
+unfolding some
+some-zero zero e = refl
+some-zero (suc n) e = absurd (omega arith)
+
+pub some-one : (n : ℕ) → (n ≡ 0 → ⊥) → some n ≡ 1
+unfolding some
+some-one zero f = absurd (f refl)
+some-one (suc n) f = refl
+
+times : (x w : ℕ) → x ≤ 1 → x * w ≤ w
+times zero w h = omega arith
+times (suc zero) w h = omega arith
+times (suc (suc x)) w h = absurd (omega arith)
+
+bits-small : (w : ℕ) (ns : List ℕ) → bits w ns ≤ 2 * w - 1
+unfolding bits
+bits-small w [] = omega arith
+bits-small w (n ∷ ns) = omega (arith, bits-small (w / 2) ns, times (some n) w (some-small n))
+
+pub halves : (w i : ℕ) → w / 2 / 2 ^ i ≡ w / 2 ^ suc i
+halves w i = div-div-eq-div-mul w 2 (2 ^ i) ∙ ap (λ (x : ℕ). w / x) (mul-comm 2 (2 ^ i) ∙ sym (pow-suc 2 i))
+
+bits-set : (w : ℕ) (ns : List ℕ) (i n : ℕ) → i < length ns
+    → bits w (set ns i n) + some (getD ns i 0) * (w / 2 ^ i) ≡ bits w ns + some n * (w / 2 ^ i)
+unfolding bits
+bits-set w [] i n h = absurd (not-suc-le-zero h)
+bits-set w (m ∷ ns) zero n h = let e : w / 2 ^ 0 ≡ w = omega arith in rw e (omega arith)
+bits-set w (m ∷ ns) (suc i) n h = omega (arith, rw halves at (bits-set (w / 2) ns i n (le-of-suc-le-suc h)))
+
+-- the bits, one by one
+bits-first : (w : ℕ) (ns : List ℕ) → bits w ns ≡ some (getD ns 0 0) * w + bits (w / 2) (drop 1 ns)
+unfolding bits some
+bits-first w [] = omega arith
+bits-first w (n ∷ ns) = refl
+
+bits-none : (ns : List ℕ) → bits 0 ns ≡ 0
+bits-none ns = omega (arith, bits-small 0 ns)
+
+-- the mask of eight queues and more that have records, as their eight bits
+module _ (ns : List ℕ) where
+  bits-from : (w k : ℕ) → bits w (drop k ns) ≡ some (getD ns k 0) * w + bits (w / 2) (drop (k + 1) ns)
+  bits-from w k = bits-first w (drop k ns) ∙ rw (getD-drop, drop-drop, let z : k + 0 ≡ k = omega arith in z)
+
+  eight : bits 128 ns ≡ some (getD ns 0 0) * 128 + (some (getD ns 1 0) * 64 + (some (getD ns 2 0) * 32 + (some (getD ns 3 0) * 16 + (some (getD ns 4 0) * 8 + (some (getD ns 5 0) * 4 + (some (getD ns 6 0) * 2 + (some (getD ns 7 0) * 1)))))))
+  eight = omega (arith, bits-from 128 0, bits-from 64 1, bits-from 32 2, bits-from 16 3, bits-from 8 4, bits-from 4 5, bits-from 2 6, bits-from 1 7, bits-none (drop 8 ns))
+
+  small : (i : ℕ) → some (getD ns i 0) ≤ 1
+  small i = some-small (getD ns i 0)
+
+  digit : (i : ℕ) → i ≤ 7 → bits 128 ns / bit i % 2 ≡ some (getD ns i 0)
+  digit zero h = omega (arith, eight, small 0, small 1, small 2, small 3, small 4, small 5, small 6, small 7)
+  digit (suc zero) h = omega (arith, eight, small 0, small 1, small 2, small 3, small 4, small 5, small 6, small 7)
+  digit (suc (suc zero)) h = omega (arith, eight, small 0, small 1, small 2, small 3, small 4, small 5, small 6, small 7)
+  digit (suc (suc (suc zero))) h = omega (arith, eight, small 0, small 1, small 2, small 3, small 4, small 5, small 6, small 7)
+  digit (suc (suc (suc (suc zero)))) h = omega (arith, eight, small 0, small 1, small 2, small 3, small 4, small 5, small 6, small 7)
+  digit (suc (suc (suc (suc (suc zero))))) h = omega (arith, eight, small 0, small 1, small 2, small 3, small 4, small 5, small 6, small 7)
+  digit (suc (suc (suc (suc (suc (suc zero)))))) h = omega (arith, eight, small 0, small 1, small 2, small 3, small 4, small 5, small 6, small 7)
+  digit (suc (suc (suc (suc (suc (suc (suc zero))))))) h = omega (arith, eight, small 0, small 1, small 2, small 3, small 4, small 5, small 6, small 7)
+  digit (suc (suc (suc (suc (suc (suc (suc (suc i)))))))) h = absurd (omega arith)
+
+-- the bit of a queue that has records is in the mask
+pub bit-there : (c : List ℕ) → Counted c → (i : ℕ) → i < 9 → (getD c i 0 ≡ 0 → ⊥) → 128 / 2 ^ i ≤ waiting c
+bit-there c h i k f =
+    let l : length (each c) ≡ 9 = length-take-le 9 c (omega (arith, h .long)) in
+    let e : getD (each c) i 0 ≡ getD c i 0 = getD-take 9 c i 0 k in
+    omega (arith, rw (e, some-one (getD c i 0) f, some-zero 0 refl) at (bits-set 128 (each c) i 0 (omega arith)), h .marked)
+
+-- a queue's bit of the mask says whether it has records
+module _ (c : List ℕ) (h : Counted c) where
+  pub length-each : length (each c) ≡ 9
+  length-each = length-take-le 9 c (omega (arith, h .long))
+
+  pub count-small : (i : ℕ) → i < 9 → getD c i 0 ≤ total c
+  count-small i k = omega (arith, rw (getD-take 9 c i 0 k) at (sum-at (each c) i), h .all)
+
+  pub waiting-small : waiting c < 256
+  waiting-small = omega (arith, h .marked, bits-small 128 (each c))
+
+  pub waiting-bit : (i : ℕ) → i ≤ 7 → (getD c i 0 ≡ 0 → ⊥) → hasBit i (waiting c) ≡ true
+  unfolding hasBit
+  waiting-bit i k f =
+      let e : waiting c / bit i % 2 ≡ some (getD c i 0) = rw (h .marked, ← getD-take 9 c i 0 (omega arith)) (digit (each c) i k) in
+      eq-eqb _ 1 (e ∙ some-one (getD c i 0) f)
+
+-- ---- one count changes, and with it the total and the mask
+pub record Changed (c : List ℕ) (i m t w : ℕ) (c′ : List ℕ) : Type 0 where
+  pub long : length c′ ≡ 11
+  pub each-is : each c′ ≡ set (each c) i m
+  pub total-is : total c′ ≡ t
+  pub waiting-is : waiting c′ ≡ w
+
+module _ (c : List ℕ) (l : length c ≡ 11) (i m t : ℕ) (h : i < 9) where
+  pub mask-stays : Changed c i m t (waiting c) (set (set c i m) 9 t)
+  mask-stays =
+      let n : length (set c i m) ≡ 11 = length-set c i m ∙ l in
+      record {
+        long = length-set (set c i m) 9 t ∙ n;
+        each-is = take-set-le 9 (set c i m) 9 t (omega arith) ∙ take-set-lt 9 c i m h;
+        total-is = getD-set-same (set c i m) 9 t 0 (omega arith);
+        waiting-is = getD-set-other (set c i m) 9 10 t 0 (λ e. omega (arith, e)) ∙ getD-set-other c i 10 m 0 (λ e. omega (arith, e));
+      }
+
+  pub mask-set : (w : ℕ) → Changed c i m t w (set (set (set c i m) 9 t) 10 w)
+  mask-set w =
+      let d : List ℕ = set (set c i m) 9 t in
+      let k = mask-stays in
+      record {
+        long = length-set d 10 w ∙ k .long;
+        each-is = take-set-le 9 d 10 w (omega arith) ∙ k .each-is;
+        total-is = getD-set-other d 10 9 w 0 (λ e. omega (arith, e)) ∙ k .total-is;
+        waiting-is = getD-set-same d 10 w 0 (omega (arith, k .long));
+      }
+
+-- the counts are kept right by one record more, and by one less
+module _ (c : List ℕ) (h : Counted c) (i m t w : ℕ) (k : i < 9) (c′ : List ℕ) (d : Changed c i m t w c′) where
+  pub counted-again : t + getD c i 0 ≡ total c + m → t ≤ slotCount → w + some (getD c i 0) * (128 / 2 ^ i) ≡ waiting c + some m * (128 / 2 ^ i) → Counted c′
+  counted-again et ft ew =
+      let e : getD (each c) i 0 ≡ getD c i 0 = getD-take 9 c i 0 k in
+      let l : i < length (each c) = omega (arith, length-each c h) in
+      record {
+        long = d .long;
+        all = rw (d .each-is, d .total-is) (omega (arith, rw e at (sum-set (each c) i m l), h .all));
+        few = omega (arith, d .total-is);
+        marked = rw (d .each-is, d .waiting-is) (omega (arith, rw e at (bits-set 128 (each c) i m l), h .marked));
+      }

@@ -1,0 +1,4 @@
+pub mod Counts
+pub mod Laws
+pub mod Rows
+pub mod Slots

@@ -1,0 +1,121 @@
+-- Laws of slots and of lists of slot numbers. Assumes nothing.
+use mathlib.Core.Path.{_≡_, refl, sym, ap, _∙_}
+use mathlib.Core.Bool.{Bool, true, false}
+use mathlib.Core.List.{List, [], _∷_, _++_, map, map-append, flatten}
+use Prim.Native.Nat.{ℕ, zero, suc, _+_, _-_, _*_, _≤_, _<_}
+use native.Mathlib.Nat.{zero-add, suc-add, not-suc-le-zero, le-of-suc-le-suc, suc-mul, mul-le-mul-right}
+use native.Mathlib.Numerals.{add-one}
+use native.Mathlib.Decide.{decLt}
+use native.Mathlib.Omega.{arith}
+use lib.Dec.{eqb}
+use lib.ListN.{length, take, drop, getD, set, length-drop, length-append}
+use lib.Seq.{split-at, getD-drop, length-take-le, paste}
+use borrow.Author.Tests.{eqb-false, eq-eqb}
+use Rattle.rules.specs.Bytes.{choose}
+use Rattle.numbers.proofs.Laws.{paste-more, drop-past, part-same, part-before}
+use Rattle.store_queues.specs.Slots.{removeAt, slot, occurs}
+
+-- ---- a turn of move_down
+module _ {ℓ} {A : Type ℓ} where
+  -- what lies past a copy is as it was
+  getD-past : (d : List A) (at : ℕ) (s : List A) (n k : ℕ) (z : A) → at + n ≤ k → at ≤ length d → n ≤ length s → getD (paste d at s n) k z ≡ getD d k z
+  getD-past d at s n k z h f g =
+      let e : k + 0 ≡ k = omega arith in
+      rw (← e) (sym (getD-drop k (paste d at s n) 0 z) ∙ ap (λ (l : List A). getD l 0 z) (drop-past d at s n k h f g) ∙ getD-drop k d 0 z)
+
+  pub down-turn : (b d : List A) (lo end i : ℕ) (z : A) → lo ≤ i → i < end → end + 1 ≤ length d
+      → b ≡ paste d lo (drop (lo + 1) d) (i - lo) → set b i (getD b (i + 1) z) ≡ paste d lo (drop (lo + 1) d) (i + 1 - lo)
+  down-turn b d lo end i z h k f e =
+      let s : List A = drop (lo + 1) d in
+      let ls : length s ≡ length d - (lo + 1) = length-drop (lo + 1) d in
+      let next : i + 1 - lo ≡ i - lo + 1 = omega arith in
+      let at : i + 1 ≡ lo + 1 + (i - lo) = omega arith in
+      let v : getD b (i + 1) z ≡ getD s (i - lo) z =
+      ap (λ (l : List A). getD l (i + 1) z) e ∙ getD-past d lo s (i - lo) (i + 1) z (omega arith) (omega arith) (omega arith)
+      ∙ ap (λ (j : ℕ). getD d j z) at ∙ sym (getD-drop (lo + 1) d (i - lo) z) in
+      rw (v, next) (paste-more b d lo s (i - lo) i z (omega arith) (omega arith) (omega arith) e)
+
+-- ---- one less
+module _ {A B : Type 0} (f : A → B) where
+  map-take : (k : ℕ) (l : List A) → map f (take k l) ≡ take k (map f l)
+  map-take zero l = refl
+  map-take (suc k) [] = refl
+  map-take (suc k) (x ∷ l) = ap (λ (t : List B). f x ∷ t) (map-take k l)
+
+  map-drop : (k : ℕ) (l : List A) → map f (drop k l) ≡ drop k (map f l)
+  map-drop zero l = refl
+  map-drop (suc k) [] = refl
+  map-drop (suc k) (x ∷ l) = map-drop k l
+
+  pub map-removeAt : (k : ℕ) (l : List A) → map f (removeAt k l) ≡ removeAt k (map f l)
+  unfolding removeAt
+  map-removeAt k l = map-append f (take k l) (drop (k + 1) l) ∙ (λ i. map-take k l i ++ map-drop (k + 1) l i)
+
+-- ---- how often an entry stands
+choose-add : (t : Bool) (m n : ℕ) → choose t (suc (m + n)) (m + n) ≡ choose t (suc m) m + n
+unfolding choose
+choose-add true m n = sym (suc-add m n)
+choose-add false m n = refl
+
+pub occurs-append : (s : ℕ) (p q : List ℕ) → occurs s (p ++ q) ≡ occurs s p + occurs s q
+unfolding occurs
+occurs-append s [] q = sym (zero-add (occurs s q))
+occurs-append s (x ∷ p) q = rw (occurs-append s p q) (choose-add (eqb x s) (occurs s p) (occurs s q))
+
+pub occurs-out : (s k : ℕ) (l : List ℕ) → k < length l → occurs s l ≡ occurs s (getD l k 0 ∷ []) + occurs s (removeAt k l)
+unfolding removeAt
+occurs-out s k l h =
+    let e : l ≡ take k l ++ (getD l k 0 ∷ drop (k + 1) l) = rw (add-one k) (split-at l k 0 h) in
+    omega (arith, ap (occurs s) e, occurs-append s (take k l) (getD l k 0 ∷ drop (k + 1) l), occurs-append s (getD l k 0 ∷ []) (drop (k + 1) l), occurs-append s (take k l) (drop (k + 1) l))
+
+pub occurs-self : (x : ℕ) → occurs x (x ∷ []) ≡ 1
+unfolding occurs choose
+occurs-self x = rw (eq-eqb x x refl)
+
+-- one of several lists is another
+pub occurs-set : (s : ℕ) (ls : List (List ℕ)) (i : ℕ) (x : List ℕ) → i < length ls
+    → occurs s (flatten (set ls i x)) + occurs s (getD ls i []) ≡ occurs s (flatten ls) + occurs s x
+unfolding flatten
+occurs-set s [] i x h = absurd (not-suc-le-zero h)
+occurs-set s (l ∷ ls) zero x h = omega (arith, occurs-append s x (flatten ls), occurs-append s l (flatten ls))
+occurs-set s (l ∷ ls) (suc i) x h = omega (arith, occurs-append s l (flatten (set ls i x)), occurs-append s l (flatten ls), occurs-set s ls i x (le-of-suc-le-suc h))
+
+-- two functions that agree but at x agree on lists that lack x
+lacks : (t : Bool) (n : ℕ) → choose t (suc n) n ≡ 0 → (t ≡ false) × (n ≡ 0)
+unfolding choose
+lacks true n h = absurd (omega arith)
+lacks false n h = (refl, h)
+
+module _ {A : Type 0} (f g : ℕ → A) (x : ℕ) (e : (s : ℕ) → (s ≡ x → ⊥) → f s ≡ g s) where
+  map-lacks : (l : List ℕ) → occurs x l ≡ 0 → map f l ≡ map g l
+  unfolding occurs
+  map-lacks [] h = refl
+  map-lacks (y ∷ l) h =
+      let both : (eqb y x ≡ false) × (occurs x l ≡ 0) = lacks (eqb y x) (occurs x l) h in
+      λ k. e y (eqb-false y x (both .0)) k ∷ map-lacks l (both .1) k
+
+  pub maps-lack : (ls : List (List ℕ)) → occurs x (flatten ls) ≡ 0 → map (map f) ls ≡ map (map g) ls
+  unfolding flatten
+  maps-lack [] h = refl
+  maps-lack (l ∷ ls) h =
+      let both = occurs-append x l (flatten ls) in
+      λ k. map-lacks l (omega arith) k ∷ maps-lack ls (omega arith) k
+
+-- ---- a slot that is written, and the others
+pub slot-same : (w : ℕ) (b r : List ℕ) (x : ℕ) → x * w ≤ length b → length r ≡ w → slot w (paste b (x * w) r w) x ≡ r
+unfolding slot
+slot-same w b r x h l = part-same b (x * w) r w h l
+
+pub slot-other : (w : ℕ) (b r : List ℕ) (x s : ℕ) → x * w ≤ length b → length r ≡ w → (s ≡ x → ⊥) → slot w (paste b (x * w) r w) s ≡ slot w b s
+unfolding slot
+slot-other w b r x s h l ne =
+    let up : (i j : ℕ) → i < j → i * w + w ≤ j * w = λ i j lt. rw suc-mul at (mul-le-mul-right w lt) in
+    elim (decLt s x) [
+      | yes lt ↦ part-before b (x * w) r w (s * w) w (up s x lt) h
+      | no ge ↦ ap (λ (d : List ℕ). take w d) (drop-past b (x * w) r w (s * w) (up x s (omega arith)) h (omega arith))
+    ]
+
+-- a slot among m slots of w bytes has w bytes
+pub length-slot : (w m : ℕ) (b : List ℕ) (s : ℕ) → s < m → m * w ≤ length b → length (slot w b s) ≡ w
+unfolding slot
+length-slot w m b s h l = length-take-le w (drop (s * w) b) (simp length-drop (omega (arith, rw suc-mul at (mul-le-mul-right w h))))

@@ -1,0 +1,59 @@
+-- The first k records stand from index at on.
+use mathlib.Core.Path.{_≡_, refl, sym, ap, _∙_}
+use mathlib.Core.List.{[], flatten}
+use Prim.Native.Nat.{_+_, _-_, _*_, _≤_}
+use native.Mathlib.Omega.{arith}
+use borrow.Author.Needs.{needs}
+use lib.ListN.{length, take, getD, length-map}
+use lib.Seq.{paste, paste-zero, take-all}
+use Rattle.store_queues.specs.Slots.{slotCount, slot}
+use Rattle.store_queues.specs.Queues.{row, listed}
+use Rattle.store_queues.proofs.Rows.{length-row, row-at, getD-map}
+use Rattle.store_queues.proofs.Laws.{list-turn}
+use Rattle.store_queues.proofs.list_queue.Statement.{statement}
+use Rattle.store_queues.proofs.list_queue.Tie as tie
+
+abbrev Inv-loop : tie.InvT-loop
+Inv-loop b o q n out₀ at k₀ out k =
+    let l = listed b (row o (q .0) n) in
+    (k ≤ n) × (length out ≡ length out₀) × (length (flatten (take k l)) ≡ k * 72) × (out ≡ paste out₀ at (flatten (take k l)) (k * 72))
+
+abbrev μ-loop : tie.MeasureT-loop
+μ-loop b o q n out₀ at k₀ out k = n - k
+
+loop-holds : tie.Need-loop-holds Inv-loop μ-loop
+unfolding flatten
+loop-holds c = (omega arith, refl, refl, paste-zero (c .before .args .out .now) (c .before .args .at) [])
+
+loop-again : tie.Need-loop-again Inv-loop μ-loop
+loop-again c =
+    let r = c .before .before .before in
+    let l = r .before .before .before .before .loop in
+    let f = r .before .before .before .before .before .before in
+    let a = f .args in
+    let w = length-row (a .o .now) (a .q .0) (omega arith) (a .n) (f .pre .1) in
+    let L = listed (a .b .now) (row (a .o .now) (a .q .0) (a .n)) in
+    let lL : length L ≡ a .n = length-map (row (a .o .now) (a .q .0) (a .n)) (slot 72 (a .b .now)) ∙ w in
+    let at : r .read-slot .result ≡ getD L (l .k) [] =
+    rw (r .before .slot-of .ensures) at (r .read-slot .ensures)
+    ∙ sym (getD-map (slot 72 (a .b .now)) (row (a .o .now) (a .q .0) (a .n)) (l .k) 0 [] (omega arith) ∙ ap (slot 72 (a .b .now)) (row-at (a .o .now) (a .q .0) (omega arith) (a .n) (l .k) (omega arith))) in
+    let lr : length (r .read-slot .result) ≡ 72 = search needs in
+    let t = list-turn L (a .out .now) (l .out) (a .at) (l .k) (omega arith) (rw at at lr) (l .inv .2) (omega arith) (l .inv .3) in
+    (omega arith, search needs, t .0, rw (at, t .1) at (c .before .before .save .ensures))
+
+returns : tie.Need-returns Inv-loop μ-loop
+returns c =
+    let l = c .before .loop in
+    let f = c .before .before .before in
+    let a = f .args in
+    let L = listed (a .b .now) (row (a .o .now) (a .q .0) (a .n)) in
+    let lL : length L ≡ a .n = length-map (row (a .o .now) (a .q .0) (a .n)) (slot 72 (a .b .now)) ∙ length-row (a .o .now) (a .q .0) (omega arith) (a .n) (f .pre .1) in
+    let e : l .k ≡ a .n = omega arith in
+    let z : take (a .n) L ≡ L = take-all (a .n) L (omega arith) in
+    (rw (e, z) at (l .inv .3), rw (e, z) at (l .inv .2))
+
+pub list-queue-spec : {M : Type 1} → statement M
+list-queue-spec =
+    tie.close
+    (tie.spec Inv-loop μ-loop loop-holds (λ c. search needs) (λ c. search needs) (λ c κs. search needs) (λ c κs. search needs) (λ c κs. search needs) (λ c. search needs)
+    (λ c. search needs) loop-again (λ c. search needs) returns)

@@ -11,12 +11,9 @@ ghost use Rattle.rules.specs.Listing.{ascii, digit, digits, digitCount, decimal
 ghost use Rattle.store_queues.specs.Queues.{Held};
 ghost use Rattle.store.specs.Memory.{pendingOf};
 ghost use Rattle.listing_text.specs.Wrote.{Wrote};
-ghost use lib.Dec.{eqb};
-ghost use Rattle.rules.specs.MoveList.{aisFlagIn, headerBytes};
 use answers::E2BIG;
 use numbers::COUNTS;
 use numbers::ORDER_BYTES;
-use numbers::PLACES;
 use numbers::ROOM;
 use numbers::SINGLES_BYTES;
 use numbers::SLOT_BYTES;
@@ -188,16 +185,6 @@ pub fn write_refusal(out: &mut [u8; TEXT_BYTES], code: u32) -> usize
 // The longest input that is played.
 pub const MOST_BYTES: usize = 65536;
 
-// Whether the flag of a list is 1; a list too short for a header is refused in any case.
-fn capable(list: &[u8]) -> bool
-    ensures { λ r. ⌜ (headerBytes ≤ length (now (list .entry)) → r ≡ eqb (aisFlagIn (now (list .entry))) 1) ⌝ }
-{
-    if list.len() < 20 {
-        return false;
-    }
-    numbers::read_be(list, 16, 4) == 1
-}
-
 // Plays the list in input on a fresh controller of its flag and writes the listing, or its refusal, from the start of out.
 // Answers the length of the text.
 pub fn print_list(input: &[u8], out: &mut [u8; TEXT_BYTES]) -> usize
@@ -211,18 +198,14 @@ pub fn print_list(input: &[u8], out: &mut [u8; TEXT_BYTES]) -> usize
     let mut order = [0u8; ORDER_BYTES];
     let mut counts = [0usize; COUNTS];
     let mut singles = [0u8; SINGLES_BYTES];
-    store::fresh(&mut order, &mut counts, &mut singles);
-    let played = list_play::play_list(
+    let played = list_fresh::play_fresh(
         &mut slots,
         &mut order,
         &mut counts,
         &mut singles,
-        PLACES as u64,
-        ROOM,
-        capable(input),
         input,
     );
-    let code = played.answer.code;
+    let code = played.code;
     if code != 0 {
         return write_refusal(out, code);
     }

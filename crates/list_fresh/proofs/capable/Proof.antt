@@ -1,8 +1,8 @@
 -- The flag is read where there is one.
 use native.Mathlib.Omega.{arith}
 use borrow.Author.Needs.{needs}
-use Rattle.listing_text.proofs.capable.Statement.{statement}
-use Rattle.listing_text.proofs.capable.Tie as tie
+use Rattle.list_fresh.proofs.capable.Statement.{statement}
+use Rattle.list_fresh.proofs.capable.Tie as tie
 
 returns : tie.Need-returns
 returns c = (λ h. absurd (omega arith))

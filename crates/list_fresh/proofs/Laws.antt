@@ -1,0 +1,53 @@
+-- The capability of a fresh controller is the list's flag; of a list without one it decides nothing. Assumes nothing.
+use mathlib.Core.Path.{_≡_, refl, sym, ap, _∙_}
+use mathlib.Core.Bool.{Bool, true, false}
+use mathlib.Core.List.{List}
+use Prim.Native.Nat.{ℕ, _≤_, _<_}
+use borrow.Author.Tests.{leb-true, leb-false, lt-leb, eqb-true}
+use lib.ListN.{length}
+use lib.Dec.{leb, eqb}
+use Rattle.rules.specs.Bytes.{choose}
+use Rattle.rules.specs.State.{Limits, State, Pending, paperLimits, nothing, fresh}
+use Rattle.rules.specs.Outcome as outcome
+use Rattle.rules.specs.Outcome.{result, refuse}
+use Rattle.rules.specs.MoveList.{headerBytes, aisFlagIn, plays}
+use Rattle.rules.specs.Machine.{answerOf}
+use Rattle.rules.proofs.Checks.{fails}
+use Rattle.answers.specs.Answers.{Answers}
+use Rattle.answers.specs.declared.Answer.{Answer}
+use Rattle.list_fresh.specs.Fresh.{playedFresh, PlayedFresh}
+
+-- what is told of an answer on a fresh controller of a capability
+on : Bool → List ℕ → outcome.Answer State
+on ais b = answerOf paperLimits (fresh paperLimits ais) b (plays paperLimits (fresh paperLimits ais) b)
+
+-- a list too short for a header is refused, whatever the capability
+too-short : (ais : Bool) (b : List ℕ) → length b < headerBytes → plays paperLimits (fresh paperLimits ais) b ≡ refuse 14
+unfolding plays
+too-short ais b h = fails (leb headerBytes (length b)) 14 _ (lt-leb headerBytes (length b) h)
+
+-- the pending records of either state
+either : (t : Bool) (x y : State) (p : Pending) → (t ≡ true → x .pending ≡ p) → y .pending ≡ p → choose t x y .pending ≡ p
+unfolding choose
+either true x y p h k = h refl
+either false x y p h k = k
+
+alike : (b : List ℕ) (ais t : Bool) → leb headerBytes (length b) ≡ t → (headerBytes ≤ length b → ais ≡ eqb (aisFlagIn b) 1)
+    → (playedFresh b .code ≡ on ais b .code) × (playedFresh b .count ≡ on ais b .count) × (playedFresh b .next .pending ≡ on ais b .next .pending)
+unfolding on fresh
+alike b ais true e h = rw (h (leb-true headerBytes (length b) e)) (refl, refl, refl)
+alike b ais false e h =
+    let k = leb-false headerBytes (length b) e in
+    rw (too-short (eqb (aisFlagIn b) 1) b k, too-short ais b k) (unfold result in (refl, refl, refl))
+
+pub played-is : (b : List ℕ) (ais : Bool) (a : Answer) (restored : ℕ) (next : State) (p : Pending) → (headerBytes ≤ length b → ais ≡ eqb (aisFlagIn b) 1)
+    → Answers paperLimits (fresh paperLimits ais) b (plays paperLimits (fresh paperLimits ais) b) a (choose (eqb restored 0) (fresh paperLimits ais) next) b
+    → next .pending ≡ p → (restored ≡ 0 → fresh paperLimits ais .pending ≡ p) → PlayedFresh b p a
+unfolding on
+played-is b ais a restored next p f e k z =
+    let s = alike b ais (leb headerBytes (length b)) refl f in
+    record {
+      code = s .0 ∙ ap (λ (x : outcome.Answer State). x .code) e;
+      count = s .1 ∙ ap (λ (x : outcome.Answer State). x .count) e;
+      pending = s .2 ∙ ap (λ (x : outcome.Answer State). x .next .pending) e ∙ either (eqb restored 0) (fresh paperLimits ais) next p (λ t. z (eqb-true restored 0 t)) k;
+    }

@@ -1,0 +1,53 @@
+// Inner crate: a move list that is played on a fresh controller of its own flag.
+ghost use mathlib.Core.Path.{_≡_};
+ghost use Prim.Native.Nat.{_≤_};
+ghost use lib.ListN.{length};
+ghost use lib.Dec.{eqb};
+ghost use Rattle.rules.specs.MoveList.{headerBytes, aisFlagIn};
+ghost use Rattle.store_queues.specs.Queues.{Held};
+ghost use Rattle.store.specs.Memory.{pendingOf};
+ghost use Rattle.list_fresh.specs.Fresh.{PlayedFresh};
+use answers::Answer;
+use numbers::COUNTS;
+use numbers::ORDER_BYTES;
+use numbers::PLACES;
+use numbers::ROOM;
+use numbers::SINGLES_BYTES;
+use numbers::SLOT_BYTES;
+
+// Whether the flag of a list is 1; a list too short for a header is refused in any case.
+fn capable(list: &[u8]) -> bool
+    ensures { λ r. ⌜ (headerBytes ≤ length (now (list .entry)) → r ≡ eqb (aisFlagIn (now (list .entry))) 1) ⌝ }
+{
+    if list.len() < 20 {
+        return false;
+    }
+    numbers::read_be(list, 16, 4) == 1
+}
+
+// The lent arrays are made those of a fresh controller of the list's flag, whatever they held, and the list is played on
+// them.
+pub fn play_fresh(
+    slots: &mut [u8; SLOT_BYTES],
+    order: &mut [u8; ORDER_BYTES],
+    counts: &mut [usize; COUNTS],
+    singles: &mut [u8; SINGLES_BYTES],
+    list: &[u8],
+) -> Answer
+    ensures held { λ _. ⌜ Held (now (order .exit)) (now (counts .exit)) ⌝ }
+    ensures answer { λ r. ⌜ PlayedFresh (now (list .entry)) (pendingOf (now (order .exit)) (now (counts .exit)) (now (slots .exit)) (now (singles .exit))) r ⌝ }
+{
+    store::fresh(order, counts, singles);
+    let ais = capable(list);
+    let played = list_play::play_list(
+        slots,
+        order,
+        counts,
+        singles,
+        PLACES as u64,
+        ROOM,
+        ais,
+        list,
+    );
+    played.answer
+}

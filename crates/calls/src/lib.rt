@@ -16,6 +16,7 @@ ghost use Rattle.adapters.specs.Values.{deviceOf, Canonical, injectionOf, injec
 ghost use Rattle.calls.specs.Cases.{answerFor, onRecords};
 ghost use Rattle.adapter_requests.specs.States.{aboutOf, Replies, changeOf, Within};
 ghost use Rattle.calls.specs.Inner.{controller, Began, Replayed, Wrote, Recorded, Injected, Got, Handed};
+ghost use Rattle.store.specs.Lent.{before, after, HeldAfter, Stays};
 use adapter_requests::Reply;
 use adapters::Device;
 use adapters::Injection;
@@ -51,8 +52,8 @@ pub fn inject(
 ) -> Reply
     requires { ⌜ (room ≤ slotCount) × Held (now order) (now counts) × Canonical place ⌝ }
     ensures answer { λ r. ⌜ ((singles b : List ℕ) → Replies places room ais device place (id .0) b (λ L s. request L s airqInject (id .0) b) (pendingOf (now (order .entry)) (now (counts .entry)) (now (slots .entry)) singles) (pendingOf (now (order .exit)) (now (counts .exit)) (now (slots .exit)) singles) r) ⌝ }
-    ensures held { λ r. ⌜ Held (now (order .exit)) (now (counts .exit)) × (r .place ≡ place) ⌝ }
-    ensures kept { λ r. ⌜ ((r .answer .code ≡ 0 → ⊥) → (r .device ≡ device) × (now (slots .exit) ≡ now (slots .entry)) × (now (order .exit) ≡ now (order .entry)) × (now (counts .exit) ≡ now (counts .entry))) ⌝ }
+    ensures held { λ r. ⌜ HeldAfter order counts × (r .place ≡ place) ⌝ }
+    ensures kept { λ r. ⌜ ((r .answer .code ≡ 0 → ⊥) → (r .device ≡ device) × Stays slots × Stays order × Stays counts) ⌝ }
     ensures noted { λ r. ⌜ r .device ≡ choose (eqb (r .answer .count) 1) (injectedDevice ais device place) device ⌝ }
     ensures told { λ r. ⌜ (id .0 < places → r .answer ≡ answerFor (injectionOf ais device place (leb room (total (now (counts .entry)))))) ⌝ }
 {
@@ -99,9 +100,9 @@ pub fn set_records(
     payload: &[u8],
 ) -> Answer
     requires { ⌜ (room ≤ slotCount) × Held (now order) (now counts) × (onRecords group ≡ true) ⌝ }
-    ensures answer { λ r. ⌜ ((L : Limits) (s : State) → L .room ≡ room → s .pending ≡ pendingOf (now (order .entry)) (now (counts .entry)) (now (slots .entry)) (now (singles .entry)) → Answers L s (now (payload .entry)) (request L s (setRequest group) attr (now (payload .entry))) r (withPending (pendingOf (now (order .exit)) (now (counts .exit)) (now (slots .exit)) (now (singles .exit))) s) (now (payload .entry))) ⌝ }
-    ensures held { λ _. ⌜ Held (now (order .exit)) (now (counts .exit)) ⌝ }
-    ensures kept { λ r. ⌜ ((r .code ≡ 0 → ⊥) → (now (slots .exit) ≡ now (slots .entry)) × (now (order .exit) ≡ now (order .entry)) × (now (counts .exit) ≡ now (counts .entry)) × (now (singles .exit) ≡ now (singles .entry))) ⌝ }
+    ensures answer { λ r. ⌜ ((L : Limits) (s : State) → L .room ≡ room → s .pending ≡ before order counts slots singles → Answers L s (now (payload .entry)) (request L s (setRequest group) attr (now (payload .entry))) r (withPending (after order counts slots singles) s) (now (payload .entry))) ⌝ }
+    ensures held { λ _. ⌜ HeldAfter order counts ⌝ }
+    ensures kept { λ r. ⌜ ((r .code ≡ 0 → ⊥) → Stays slots × Stays order × Stays counts × Stays singles) ⌝ }
 {
     if group == ENQUEUE {
         let a = record_add::enqueue_irqs(slots, order, counts, singles, room, attr, payload);
@@ -129,8 +130,8 @@ pub fn set_others(
 ) -> Reply
     requires { ⌜ (room ≤ slotCount) × Held (now order) (now counts) × Canonical place × (group ≡ 2 → ⊥) × (group ≡ 3 → ⊥) × (group ≡ 8 → ⊥) ⌝ }
     ensures answer { λ r. ⌜ ((singles : List ℕ) → Replies places room ais device place (aboutOf group attr (now (payload .entry))) (now (payload .entry)) (λ L s. request L s (setRequest group) attr (now (payload .entry))) (pendingOf (now (order .entry)) (now (counts .entry)) (now (slots .entry)) singles) (pendingOf (now (order .exit)) (now (counts .exit)) (now (slots .exit)) singles) r) ⌝ }
-    ensures held { λ r. ⌜ Held (now (order .exit)) (now (counts .exit)) × Canonical (r .place) ⌝ }
-    ensures kept { λ r. ⌜ ((r .answer .code ≡ 0 → ⊥) → (r .device ≡ device) × (r .place ≡ place) × (now (slots .exit) ≡ now (slots .entry)) × (now (order .exit) ≡ now (order .entry)) × (now (counts .exit) ≡ now (counts .entry))) ⌝ }
+    ensures held { λ r. ⌜ HeldAfter order counts × Canonical (r .place) ⌝ }
+    ensures kept { λ r. ⌜ ((r .answer .code ≡ 0 → ⊥) → (r .device ≡ device) × (r .place ≡ place) × Stays slots × Stays order × Stays counts) ⌝ }
     ensures change { λ r. ⌜ Within (changeOf group) place (r .place) ⌝ }
 {
     if group == AIRQ_INJECT {
@@ -170,8 +171,8 @@ pub fn get_request(
     out: &mut [u8],
 ) -> Answer
     requires { ⌜ Held (now order) (now counts) ⌝ }
-    ensures answer { λ r. ⌜ ((L : Limits) (s : State) → s .ais ≡ ais → s .pending ≡ pendingOf (now (order .entry)) (now (counts .entry)) (now (slots .entry)) (now (singles .entry)) → s .device ≡ deviceOf device → Answers L s (now (out .entry)) (request L s (getRequest group) attr (now (out .entry))) r s (now (out .exit))) ⌝ }
-    ensures kept { λ r. ⌜ ((r .code ≡ 0 → ⊥) → now (out .exit) ≡ now (out .entry)) ⌝ }
+    ensures answer { λ r. ⌜ ((L : Limits) (s : State) → s .ais ≡ ais → s .pending ≡ before order counts slots singles → s .device ≡ deviceOf device → Answers L s (now (out .entry)) (request L s (getRequest group) attr (now (out .entry))) r s (now (out .exit))) ⌝ }
+    ensures kept { λ r. ⌜ ((r .code ≡ 0 → ⊥) → Stays out) ⌝ }
 {
     if group == GET_ALL_IRQS {
         return record_take::get_all(slots, order, counts, singles, attr, out);

@@ -4,9 +4,8 @@ ghost use Prim.Native.Nat.{_≤_};
 ghost use lib.ListN.{length};
 ghost use lib.Dec.{eqb};
 ghost use Rattle.rules.specs.MoveList.{headerBytes, aisFlagIn};
-ghost use Rattle.store_queues.specs.Queues.{Held};
-ghost use Rattle.store.specs.Memory.{pendingOf};
 ghost use Rattle.list_fresh.specs.Fresh.{PlayedFresh};
+ghost use Rattle.store.specs.Lent.{after, HeldAfter};
 use answers::Answer;
 use numbers::COUNTS;
 use numbers::ORDER_BYTES;
@@ -34,8 +33,8 @@ pub fn play_fresh(
     singles: &mut [u8; SINGLES_BYTES],
     list: &[u8],
 ) -> Answer
-    ensures held { λ _. ⌜ Held (now (order .exit)) (now (counts .exit)) ⌝ }
-    ensures answer { λ r. ⌜ PlayedFresh (now (list .entry)) (pendingOf (now (order .exit)) (now (counts .exit)) (now (slots .exit)) (now (singles .exit))) r ⌝ }
+    ensures held { λ _. ⌜ HeldAfter order counts ⌝ }
+    ensures answer { λ r. ⌜ PlayedFresh (now (list .entry)) (after order counts slots singles) r ⌝ }
 {
     store::fresh(order, counts, singles);
     let ais = capable(list);

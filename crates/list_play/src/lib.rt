@@ -11,12 +11,12 @@ ghost use Rattle.rules.specs.Requests.{setRequest, request};
 ghost use Rattle.rules.specs.MoveList.{countIn, movable, requestsIn, applies, plays};
 ghost use Rattle.answers.specs.Answers.{Answers, answered};
 ghost use Rattle.store_queues.specs.Queues.{Held};
-ghost use Rattle.store.specs.Memory.{pendingOf};
 ghost use Rattle.list_image.specs.Places.{AllCanonical};
 ghost use Rattle.list_form.specs.Form.{slotAt, slotsOf, Formed};
 ghost use Rattle.list_play.specs.Play.{limitsFrom, stateOf, requestIn, ranTo};
 ghost use Rattle.list_image.specs.Image.{imageSize};
 ghost use Rattle.store_queues.specs.Slots.{slotCount};
+ghost use Rattle.store.specs.Lent.{before, after, HeldAfter, Stays};
 use adapters::Device;
 use answers::Answer;
 use numbers::COUNTS;
@@ -48,8 +48,8 @@ fn apply(
     payload: &[u8],
 ) -> Ran
     requires { ⌜ (room ≤ slotCount) × (places ≤ imageSize) × Held (now order) (now counts) × AllCanonical (now image) × (movable group ≡ true) ⌝ }
-    ensures answer { λ r. ⌜ Answers (limitsFrom places room) (stateOf ais places (now (image .entry)) (pendingOf (now (order .entry)) (now (counts .entry)) (now (slots .entry)) (now (singles .entry))) device) (now (payload .entry)) (request (limitsFrom places room) (stateOf ais places (now (image .entry)) (pendingOf (now (order .entry)) (now (counts .entry)) (now (slots .entry)) (now (singles .entry))) device) (setRequest group) attr (now (payload .entry))) (r .answer) (stateOf ais places (now (image .exit)) (pendingOf (now (order .exit)) (now (counts .exit)) (now (slots .exit)) (now (singles .exit))) (r .device)) (now (payload .entry)) ⌝ }
-    ensures held { λ _. ⌜ Held (now (order .exit)) (now (counts .exit)) × AllCanonical (now (image .exit)) ⌝ }
+    ensures answer { λ r. ⌜ Answers (limitsFrom places room) (stateOf ais places (now (image .entry)) (before order counts slots singles) device) (now (payload .entry)) (request (limitsFrom places room) (stateOf ais places (now (image .entry)) (before order counts slots singles) device) (setRequest group) attr (now (payload .entry))) (r .answer) (stateOf ais places (now (image .exit)) (after order counts slots singles) (r .device)) (now (payload .entry)) ⌝ }
+    ensures held { λ _. ⌜ HeldAfter order counts × AllCanonical (now (image .exit)) ⌝ }
 {
     if group == ENQUEUE {
         let a = record_add::enqueue_irqs(slots, order, counts, singles, room, attr, payload);
@@ -85,8 +85,8 @@ fn apply_at(
     place: usize,
 ) -> Ran
     requires { ⌜ (room ≤ slotCount) × (places ≤ imageSize) × Held (now order) (now counts) × AllCanonical (now image) × Formed (now list) × (place < countIn (now list)) ⌝ }
-    ensures answer { λ r. ⌜ Answers (limitsFrom places room) (stateOf ais places (now (image .entry)) (pendingOf (now (order .entry)) (now (counts .entry)) (now (slots .entry)) (now (singles .entry))) device) (part (slotAt place (now (list .entry)) .at) (slotAt place (now (list .entry)) .size) (now (list .entry))) (requestIn (limitsFrom places room) (stateOf ais places (now (image .entry)) (pendingOf (now (order .entry)) (now (counts .entry)) (now (slots .entry)) (now (singles .entry))) device) (now (list .entry)) (slotAt place (now (list .entry)))) (r .answer) (stateOf ais places (now (image .exit)) (pendingOf (now (order .exit)) (now (counts .exit)) (now (slots .exit)) (now (singles .exit))) (r .device)) (part (slotAt place (now (list .entry)) .at) (slotAt place (now (list .entry)) .size) (now (list .entry))) ⌝ }
-    ensures held { λ _. ⌜ Held (now (order .exit)) (now (counts .exit)) × AllCanonical (now (image .exit)) ⌝ }
+    ensures answer { λ r. ⌜ Answers (limitsFrom places room) (stateOf ais places (now (image .entry)) (before order counts slots singles) device) (part (slotAt place (now (list .entry)) .at) (slotAt place (now (list .entry)) .size) (now (list .entry))) (requestIn (limitsFrom places room) (stateOf ais places (now (image .entry)) (before order counts slots singles) device) (now (list .entry)) (slotAt place (now (list .entry)))) (r .answer) (stateOf ais places (now (image .exit)) (after order counts slots singles) (r .device)) (part (slotAt place (now (list .entry)) .at) (slotAt place (now (list .entry)) .size) (now (list .entry))) ⌝ }
+    ensures held { λ _. ⌜ HeldAfter order counts × AllCanonical (now (image .exit)) ⌝ }
 {
     let e = 20 + 24 * place;
     let at = numbers::read_be(list, e, 4) as usize;
@@ -124,8 +124,8 @@ fn apply_all(
     count: usize,
 ) -> Ran
     requires { ⌜ (room ≤ slotCount) × (places ≤ imageSize) × Held (now order) (now counts) × AllCanonical (now image) × Formed (now list) × (count ≡ countIn (now list)) ⌝ }
-    ensures answer { λ r. ⌜ applies (limitsFrom places room) 0 (stateOf ais places (now (image .entry)) (pendingOf (now (order .entry)) (now (counts .entry)) (now (slots .entry)) (now (singles .entry))) device) (requestsIn (now (list .entry)) (slotsOf (now (list .entry)))) ≡ ranTo (r .answer) (stateOf ais places (now (image .exit)) (pendingOf (now (order .exit)) (now (counts .exit)) (now (slots .exit)) (now (singles .exit))) (r .device)) ⌝ }
-    ensures held { λ _. ⌜ Held (now (order .exit)) (now (counts .exit)) × AllCanonical (now (image .exit)) ⌝ }
+    ensures answer { λ r. ⌜ applies (limitsFrom places room) 0 (stateOf ais places (now (image .entry)) (before order counts slots singles) device) (requestsIn (now (list .entry)) (slotsOf (now (list .entry)))) ≡ ranTo (r .answer) (stateOf ais places (now (image .exit)) (after order counts slots singles) (r .device)) ⌝ }
+    ensures held { λ _. ⌜ HeldAfter order counts × AllCanonical (now (image .exit)) ⌝ }
 {
     let mut d = device;
     let mut i = 0;
@@ -193,11 +193,11 @@ pub fn play_list(
     list: &[u8],
 ) -> Played
     requires { ⌜ (room ≤ slotCount) × (0 < places) × (places ≤ imageSize) × Held (now order) (now counts) ⌝ }
-    ensures answer { λ r. ⌜ ((L : Limits) (s : State) → L .places ≡ places → L .room ≡ room → s .ais ≡ ais → Answers L s (now (list .entry)) (plays L s (now (list .entry))) (r .answer) (choose (eqb (r .restored) 0) s (stateOf ais places (r .image) (pendingOf (now (order .exit)) (now (counts .exit)) (now (slots .exit)) (now (singles .exit))) (r .device))) (now (list .entry))) ⌝ }
-    ensures held { λ r. ⌜ Held (now (order .exit)) (now (counts .exit)) × AllCanonical (take places (r .image)) ⌝ }
+    ensures answer { λ r. ⌜ ((L : Limits) (s : State) → L .places ≡ places → L .room ≡ room → s .ais ≡ ais → Answers L s (now (list .entry)) (plays L s (now (list .entry))) (r .answer) (choose (eqb (r .restored) 0) s (stateOf ais places (r .image) (after order counts slots singles) (r .device))) (now (list .entry))) ⌝ }
+    ensures held { λ r. ⌜ HeldAfter order counts × AllCanonical (take places (r .image)) ⌝ }
     ensures restored { λ r. ⌜ ((r .restored ≡ 0 → ⊥) → r .restored ≡ places) ⌝ }
     ensures form { λ r. ⌜ ((L : Limits) (s : State) → s .ais ≡ ais → (code count : ℕ) → plays L s (now (list .entry)) ≡ refuseWith code count → r .restored ≡ 0) ⌝ }
-    ensures kept { λ r. ⌜ (r .restored ≡ 0 → (now (slots .exit) ≡ now (slots .entry)) × (now (order .exit) ≡ now (order .entry)) × (now (counts .exit) ≡ now (counts .entry)) × (now (singles .exit) ≡ now (singles .entry))) ⌝ }
+    ensures kept { λ r. ⌜ (r .restored ≡ 0 → Stays slots × Stays order × Stays counts × Stays singles) ⌝ }
 {
     let code = list_form::form(list, ais);
     if code != 0 {

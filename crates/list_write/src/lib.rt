@@ -17,6 +17,7 @@ ghost use Rattle.adapters.specs.Values.{deviceOf};
 ghost use Rattle.list_image.specs.Places.{placesOf};
 ghost use Rattle.list_write.specs.Write.{adapterEntries, otherEntries, entriesFrom, otherCount, countOf, bytesOf, mostEntries, mostPayload, Counted, Whole};
 ghost use Rattle.store_queues.specs.Slots.{slotCount, mostPending};
+ghost use Rattle.store.specs.Lent.{before, Stays};
 use adapters::Device;
 use adapters::Place;
 use answers::Answer;
@@ -178,7 +179,7 @@ fn records_pending(
     singles: &[u8; SINGLES_BYTES],
 ) -> usize
     requires { ⌜ Held (now order) (now counts) × (length (now slots) ≡ slotCount * 72) ⌝ }
-    ensures { λ r. ⌜ Whole (listing (pendingOf (now (order .entry)) (now (counts .entry)) (now (slots .entry)) (now (singles .entry)))) r × (r ≤ mostPending) ⌝ }
+    ensures { λ r. ⌜ Whole (listing (before order counts slots singles)) r × (r ≤ mostPending) ⌝ }
 {
     // as a slice: what makes one of an array says its length
     let _g: &[u8] = singles;
@@ -250,7 +251,7 @@ fn put_listing(
     n: usize,
 )
     requires { ⌜ Held (now order) (now counts) × Whole (listing (pendingOf (now order) (now counts) (now slots) (now singles))) n × (at + recordBytes * n ≤ length (now out)) ⌝ }
-    ensures { λ _. ⌜ now (out .exit) ≡ put (now (out .entry)) at (flatten (listing (pendingOf (now (order .entry)) (now (counts .entry)) (now (slots .entry)) (now (singles .entry))))) ⌝ }
+    ensures { λ _. ⌜ now (out .exit) ≡ put (now (out .entry)) at (flatten (listing (before order counts slots singles))) ⌝ }
 {
     record_take::list_all(slots, order, counts, singles, &mut out[at..]);
 }
@@ -278,7 +279,7 @@ fn put_payloads(
     p: Parts,
 )
     requires { ⌜ Held (now order) (now counts) × Counted image p × Whole (listing (pendingOf (now order) (now counts) (now slots) (now singles))) (p .records) × (start ≤ payloadOffset mostEntries) × (start + bytesOf p ≤ length (now out)) ⌝ }
-    ensures { λ _. ⌜ now (out .exit) ≡ put (now (out .entry)) start (payloads (entriesFrom image (listing (pendingOf (now (order .entry)) (now (counts .entry)) (now (slots .entry)) (now (singles .entry)))) (p .masks) (device .simm) (device .nimm) (p .apf))) ⌝ }
+    ensures { λ _. ⌜ now (out .exit) ≡ put (now (out .entry)) start (payloads (entriesFrom image (listing (before order counts slots singles)) (p .masks) (device .simm) (device .nimm) (p .apf))) ⌝ }
 {
     put_adapter_payloads(out, start, image, false);
     let mut at = start + 8 * p.registers;
@@ -301,8 +302,8 @@ pub fn write_list(
     out: &mut [u8],
 ) -> Answer
     requires { ⌜ Held (now order) (now counts) ⌝ }
-    ensures answer { λ r. ⌜ ((L : Limits) (s : State) → s .ais ≡ ais → s .adapters ≡ placesOf image → s .pending ≡ pendingOf (now (order .entry)) (now (counts .entry)) (now (slots .entry)) (now (singles .entry)) → s .device ≡ deviceOf device → Answers L s (now (out .entry)) (writes s (now (out .entry))) r s (now (out .exit))) ⌝ }
-    ensures kept { λ r. ⌜ ((r .code ≡ 0 → ⊥) → now (out .exit) ≡ now (out .entry)) ⌝ }
+    ensures answer { λ r. ⌜ ((L : Limits) (s : State) → s .ais ≡ ais → s .adapters ≡ placesOf image → s .pending ≡ before order counts slots singles → s .device ≡ deviceOf device → Answers L s (now (out .entry)) (writes s (now (out .entry))) r s (now (out .exit))) ⌝ }
+    ensures kept { λ r. ⌜ ((r .code ≡ 0 → ⊥) → Stays out) ⌝ }
 {
     let p = Parts {
         registers: count(image, false),

@@ -9,8 +9,8 @@ ghost use Rattle.rules.specs.Requests.{recordsIn};
 ghost use Rattle.store_queues.specs.Slots.{mostPending};
 ghost use Rattle.rules.specs.Listing.{ascii, digit, digits, digitCount, decimal, hex8, line, recordLine, linesFrom, shown, refusal, printed};
 ghost use Rattle.store_queues.specs.Queues.{Held};
-ghost use Rattle.store.specs.Memory.{pendingOf};
 ghost use Rattle.listing_text.specs.Wrote.{Wrote};
+ghost use Rattle.store.specs.Lent.{before};
 use answers::E2BIG;
 use numbers::COUNTS;
 use numbers::ORDER_BYTES;
@@ -166,7 +166,7 @@ pub fn write_pending(
     out: &mut [u8; TEXT_BYTES],
 ) -> usize
     requires { ⌜ Held (now order) (now counts) ⌝ }
-    ensures { λ r. ⌜ Wrote (now (out .entry)) (now (out .exit)) 0 (shown (listing (pendingOf (now (order .entry)) (now (counts .entry)) (now (slots .entry)) (now (singles .entry))))) r ⌝ }
+    ensures { λ r. ⌜ Wrote (now (out .entry)) (now (out .exit)) 0 (shown (listing (before order counts slots singles))) r ⌝ }
 {
     let mut records = [0u8; LISTING_BYTES];
     let n = record_take::pending(counts, singles);

@@ -11,6 +11,7 @@ ghost use Rattle.store_queues.specs.Queues.{total, Held};
 ghost use Rattle.answers.specs.Answers.{Answers};
 ghost use Rattle.store.specs.Memory.{pendingOf};
 ghost use Rattle.record_add.specs.Cases.{kindOf, checkFrom, answerTo};
+ghost use Rattle.store.specs.Lent.{before, after, HeldAfter, Stays};
 use answers::Answer;
 use answers::EBUSY;
 use answers::EFAULT;
@@ -113,8 +114,8 @@ fn add_one(
     queued: usize,
 ) -> usize
     requires { ⌜ (at + 72 ≤ length (now b)) × (queued ≡ total (now counts)) × Held (now order) (now counts) × (total (now counts) + wants (kind (part at 72 (now b))) ≤ slotCount) ⌝ }
-    ensures pending { λ _. ⌜ pendingOf (now (order .exit)) (now (counts .exit)) (now (slots .exit)) (now (singles .exit)) ≡ add (part at 72 (now (b .entry))) (pendingOf (now (order .entry)) (now (counts .entry)) (now (slots .entry)) (now (singles .entry))) ⌝ }
-    ensures held { λ r. ⌜ Held (now (order .exit)) (now (counts .exit)) × (r ≡ total (now (counts .exit))) × (r ≡ queued + wants (kind (part at 72 (now (b .entry))))) ⌝ }
+    ensures pending { λ _. ⌜ after order counts slots singles ≡ add (part at 72 (now (b .entry))) (before order counts slots singles) ⌝ }
+    ensures held { λ r. ⌜ HeldAfter order counts × (r ≡ total (now (counts .exit))) × (r ≡ queued + wants (kind (part at 72 (now (b .entry))))) ⌝ }
 {
     // Loaded in each case: loaded before the match, the merge of a machine check would split the copy for every kind.
     match kind_at(b, at) {
@@ -163,9 +164,9 @@ fn add_all(
     queued: usize,
 )
     requires { ⌜ (n * 72 ≤ enqueueBytes) × (n * 72 ≤ length (now b)) × (queued ≡ total (now counts)) × Held (now order) (now counts) × (total (now counts) + allWant (recordsIn n (now b)) ≤ slotCount) ⌝ }
-    ensures pending { λ _. ⌜ pendingOf (now (order .exit)) (now (counts .exit)) (now (slots .exit)) (now (singles .exit)) ≡ addAll (recordsIn n (now (b .entry))) (pendingOf (now (order .entry)) (now (counts .entry)) (now (slots .entry)) (now (singles .entry))) ⌝ }
-    ensures held { λ _. ⌜ Held (now (order .exit)) (now (counts .exit)) ⌝ }
-    ensures kept { λ _. ⌜ (n ≡ 0 → (now (slots .exit) ≡ now (slots .entry)) × (now (order .exit) ≡ now (order .entry)) × (now (counts .exit) ≡ now (counts .entry)) × (now (singles .exit) ≡ now (singles .entry))) ⌝ }
+    ensures pending { λ _. ⌜ after order counts slots singles ≡ addAll (recordsIn n (now (b .entry))) (before order counts slots singles) ⌝ }
+    ensures held { λ _. ⌜ HeldAfter order counts ⌝ }
+    ensures kept { λ _. ⌜ (n ≡ 0 → Stays slots × Stays order × Stays counts × Stays singles) ⌝ }
 {
     let mut held = queued;
     let mut i = 0;
@@ -186,9 +187,9 @@ pub fn enqueue_irqs(
     payload: &[u8],
 ) -> Answer
     requires { ⌜ (room ≤ slotCount) × Held (now order) (now counts) ⌝ }
-    ensures answer { λ r. ⌜ ((L : Limits) (s : State) → L .room ≡ room → s .pending ≡ pendingOf (now (order .entry)) (now (counts .entry)) (now (slots .entry)) (now (singles .entry)) → Answers L s (now (payload .entry)) (request L s enqueue attr (now (payload .entry))) r (withPending (pendingOf (now (order .exit)) (now (counts .exit)) (now (slots .exit)) (now (singles .exit))) s) (now (payload .entry))) ⌝ }
-    ensures held { λ _. ⌜ Held (now (order .exit)) (now (counts .exit)) ⌝ }
-    ensures kept { λ r. ⌜ ((r .code ≡ 0 → ⊥) → (now (slots .exit) ≡ now (slots .entry)) × (now (order .exit) ≡ now (order .entry)) × (now (counts .exit) ≡ now (counts .entry)) × (now (singles .exit) ≡ now (singles .entry))) ⌝ }
+    ensures answer { λ r. ⌜ ((L : Limits) (s : State) → L .room ≡ room → s .pending ≡ before order counts slots singles → Answers L s (now (payload .entry)) (request L s enqueue attr (now (payload .entry))) r (withPending (after order counts slots singles) s) (now (payload .entry))) ⌝ }
+    ensures held { λ _. ⌜ HeldAfter order counts ⌝ }
+    ensures kept { λ r. ⌜ ((r .code ≡ 0 → ⊥) → Stays slots × Stays order × Stays counts × Stays singles) ⌝ }
 {
     if attr == 0 {
         return answers::refuse(EINVAL);
@@ -232,7 +233,7 @@ pub fn append_interrupt(
 )
     requires { ⌜ (isc .0 ≤ 7) × (n ≡ total (now counts)) × (total (now counts) < slotCount) × Held (now order) (now counts) ⌝ }
     ensures pending { λ _. ⌜ ((singles : List ℕ) → pendingOf (now (order .exit)) (now (counts .exit)) (now (slots .exit)) singles ≡ addIo (isc .0) (adapterInterrupt (isc .0)) (pendingOf (now (order .entry)) (now (counts .entry)) (now (slots .entry)) singles)) ⌝ }
-    ensures held { λ _. ⌜ Held (now (order .exit)) (now (counts .exit)) ⌝ }
+    ensures held { λ _. ⌜ HeldAfter order counts ⌝ }
 {
     store_queues::append(slots, order, counts, store_queues::of(isc), n, interrupt(isc));
 }

@@ -12,6 +12,7 @@ ghost use Rattle.store_queues.specs.Queues.{queues, Counted, Held};
 ghost use Rattle.answers.specs.Answers.{Answers, answered};
 ghost use Rattle.store.specs.Memory.{pendingOf};
 ghost use Rattle.record_take.specs.Next.{NextIn, handsQueued, handedNext};
+ghost use Rattle.store.specs.Lent.{before, HeldAfter, Stays};
 use answers::Answer;
 use answers::EFAULT;
 use answers::EINVAL;
@@ -49,8 +50,8 @@ pub fn clear_irqs(
 ) -> Answer
     requires { ⌜ Held (now order) (now counts) ⌝ }
     ensures answer { λ r. ⌜ ((L : Limits) (s : State) (slots b : List ℕ) → s .pending ≡ pendingOf (now (order .entry)) (now (counts .entry)) slots (now (singles .entry)) → Answers L s b (request L s clearIrqs attr b) r (withPending (pendingOf (now (order .exit)) (now (counts .exit)) slots (now (singles .exit))) s) b) ⌝ }
-    ensures held { λ _. ⌜ Held (now (order .exit)) (now (counts .exit)) ⌝ }
-    ensures kept { λ r. ⌜ ((r .code ≡ 0 → ⊥) → (now (order .exit) ≡ now (order .entry)) × (now (counts .exit) ≡ now (counts .entry)) × (now (singles .exit) ≡ now (singles .entry))) ⌝ }
+    ensures held { λ _. ⌜ HeldAfter order counts ⌝ }
+    ensures kept { λ r. ⌜ ((r .code ≡ 0 → ⊥) → Stays order × Stays counts × Stays singles) ⌝ }
 {
     if attr != 0 {
         return answers::refuse(EINVAL);
@@ -71,7 +72,7 @@ pub fn list_all(
     out: &mut [u8],
 )
     requires { ⌜ Held (now order) (now counts) × (72 * length (listing (pendingOf (now order) (now counts) (now slots) (now singles))) ≤ length (now out)) ⌝ }
-    ensures { λ _. ⌜ now (out .exit) ≡ flatten (listing (pendingOf (now (order .entry)) (now (counts .entry)) (now (slots .entry)) (now (singles .entry)))) ++ drop (72 * length (listing (pendingOf (now (order .entry)) (now (counts .entry)) (now (slots .entry)) (now (singles .entry))))) (now (out .entry)) ⌝ }
+    ensures { λ _. ⌜ now (out .exit) ≡ flatten (listing (before order counts slots singles)) ++ drop (72 * length (listing (before order counts slots singles))) (now (out .entry)) ⌝ }
 {
     store_queues::list(slots, order, counts, out);
     let mut at = store_queues::queued(counts) * 72;
@@ -94,8 +95,8 @@ pub fn get_all(
     out: &mut [u8],
 ) -> Answer
     requires { ⌜ Held (now order) (now counts) ⌝ }
-    ensures answer { λ r. ⌜ ((L : Limits) (s : State) → s .pending ≡ pendingOf (now (order .entry)) (now (counts .entry)) (now (slots .entry)) (now (singles .entry)) → Answers L s (now (out .entry)) (request L s getAllIrqs attr (now (out .entry))) r s (now (out .exit))) ⌝ }
-    ensures kept { λ r. ⌜ ((r .code ≡ 0 → ⊥) → now (out .exit) ≡ now (out .entry)) ⌝ }
+    ensures answer { λ r. ⌜ ((L : Limits) (s : State) → s .pending ≡ before order counts slots singles → Answers L s (now (out .entry)) (request L s getAllIrqs attr (now (out .entry))) r s (now (out .exit))) ⌝ }
+    ensures kept { λ r. ⌜ ((r .code ≡ 0 → ⊥) → Stays out) ⌝ }
 {
     if attr == 0 {
         return answers::refuse(EINVAL);
@@ -122,8 +123,8 @@ pub fn clear_io(
 ) -> Answer
     requires { ⌜ Held (now order) (now counts) ⌝ }
     ensures answer { λ r. ⌜ ((L : Limits) (s : State) (singles : List ℕ) → s .pending ≡ pendingOf (now (order .entry)) (now (counts .entry)) (now (slots .entry)) singles → Answers L s (now (payload .entry)) (request L s clearIoIrq attr (now (payload .entry))) r (withPending (pendingOf (now (order .exit)) (now (counts .exit)) (now (slots .entry)) singles) s) (now (payload .entry))) ⌝ }
-    ensures held { λ _. ⌜ Held (now (order .exit)) (now (counts .exit)) ⌝ }
-    ensures kept { λ r. ⌜ ((r .code ≡ 0 → ⊥) → (now (order .exit) ≡ now (order .entry)) × (now (counts .exit) ≡ now (counts .entry))) ⌝ }
+    ensures held { λ _. ⌜ HeldAfter order counts ⌝ }
+    ensures kept { λ r. ⌜ ((r .code ≡ 0 → ⊥) → Stays order × Stays counts) ⌝ }
 {
     if attr < 4 {
         return answers::refuse(EINVAL);
@@ -191,9 +192,9 @@ pub fn take(
     out: &mut [u8],
 ) -> Answer
     requires { ⌜ Held (now order) (now counts) ⌝ }
-    ensures answer { λ r. ⌜ ((L : Limits) (s : State) → s .pending ≡ pendingOf (now (order .entry)) (now (counts .entry)) (now (slots .entry)) (now (singles .entry)) → Answers L s (now (out .entry)) (takes s mask external mcheck (now (out .entry))) r (withPending (pendingOf (now (order .exit)) (now (counts .exit)) (now (slots .entry)) (now (singles .exit))) s) (now (out .exit))) ⌝ }
-    ensures held { λ _. ⌜ Held (now (order .exit)) (now (counts .exit)) ⌝ }
-    ensures kept { λ r. ⌜ ((r .code ≡ 0 → ⊥) → (now (order .exit) ≡ now (order .entry)) × (now (counts .exit) ≡ now (counts .entry)) × (now (singles .exit) ≡ now (singles .entry)) × (now (out .exit) ≡ now (out .entry))) ⌝ }
+    ensures answer { λ r. ⌜ ((L : Limits) (s : State) → s .pending ≡ before order counts slots singles → Answers L s (now (out .entry)) (takes s mask external mcheck (now (out .entry))) r (withPending (pendingOf (now (order .exit)) (now (counts .exit)) (now (slots .entry)) (now (singles .exit))) s) (now (out .exit))) ⌝ }
+    ensures held { λ _. ⌜ HeldAfter order counts ⌝ }
+    ensures kept { λ r. ⌜ ((r .code ≡ 0 → ⊥) → Stays order × Stays counts × Stays singles × Stays out) ⌝ }
 {
     if out.len() < 72 {
         return answers::refuse(EFAULT);

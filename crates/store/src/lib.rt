@@ -3,8 +3,8 @@ ghost use mathlib.Core.Path.{_≡_};
 ghost use mathlib.Core.List.{List};
 ghost use Prim.Native.Nat.{ℕ};
 ghost use Rattle.rules.specs.State.{nothing};
-ghost use Rattle.store_queues.specs.Queues.{Held};
 ghost use Rattle.store.specs.Memory.{pendingOf};
+ghost use Rattle.store.specs.Lent.{HeldAfter};
 use numbers::COUNTS;
 use numbers::ORDER_BYTES;
 use numbers::SINGLES_BYTES;
@@ -15,7 +15,7 @@ pub fn fresh(
     counts: &mut [usize; COUNTS],
     singles: &mut [u8; SINGLES_BYTES],
 )
-    ensures held { λ _. ⌜ Held (now (order .exit)) (now (counts .exit)) ⌝ }
+    ensures held { λ _. ⌜ HeldAfter order counts ⌝ }
     ensures pending { λ _. ⌜ ((slots : List ℕ) → pendingOf (now (order .exit)) (now (counts .exit)) slots (now (singles .exit)) ≡ nothing) ⌝ }
 {
     store_queues::reset(order, counts);

@@ -20,7 +20,7 @@ deviceFrom d = record { simm = d .simm; nimm = d .nimm; apf = d .apf }
 
 abbrev pub adapterOf : Place → rules.Adapter
 adapterOf p =
-    record { isc = p .isc; maskable = p .maskable; swap = p .swap; suppressible = p .suppressible; masked = p .masked }
+    record { isc = p .isc .0; maskable = p .maskable; swap = p .swap; suppressible = p .suppressible; masked = p .masked }
 
 unfoldable pub placeOf : Place → rules.Place
 placeOf p = choose (p .used) (rules.holds (adapterOf p)) rules.free
@@ -39,11 +39,11 @@ withMasked on p =
 
 -- What every place made here satisfies: unused, it is the one unused place; its subclass is below 8; only a maskable adapter is masked.
 abbrev pub unused : Place
-unused = record { used = false; isc = 0; maskable = false; swap = false; suppressible = false; masked = false }
+unused = record { used = false; isc = record { 0 = 0 }; maskable = false; swap = false; suppressible = false; masked = false }
 
 pub record Canonical (p : Place) : Type 0 where
   pub unusedOne : p .used ≡ false → p ≡ unused
-  pub iscSmall : p .isc ≤ 7
+  pub iscSmall : p .isc .0 ≤ 7
   pub maskedMaskable : p .masked ≡ true → p .maskable ≡ true
 
 -- 01, group 9: the device record with a subclass's mode set
@@ -59,18 +59,18 @@ maskedAs (rules.holds x) on =
 
 -- 01, group 10: whether suppression applies to the place and its subclass's bit of a mask is set
 abbrev pub underAis : Bool → Place → ℕ → Bool
-underAis ais p mask = ais && (p .suppressible && hasBit (p .isc) mask)
+underAis ais p mask = ais && (p .suppressible && hasBit (p .isc .0) mask)
 
 -- 01, group 10: masked or suppressed, then room
 unfoldable pub injectionOf : Bool → Device → Place → Bool → Injection
 injectionOf ais d p full =
-    choose (p .used) (choose (p .masked || underAis ais p (d .nimm)) Dropped (choose full Full (Appended (record { 0 = p .isc })))) NoAdapter
+    choose (p .used) (choose (p .masked || underAis ais p (d .nimm)) Dropped (choose full Full (Appended (p .isc)))) NoAdapter
 
 -- 01, group 10: an injection that is appended sets nimm in SINGLE mode
 unfoldable pub injectedDevice : Bool → Device → Place → Device
 injectedDevice ais d p =
     record {
       simm = d .simm;
-      nimm = choose (underAis ais p (d .simm)) (withBit (p .isc) (d .nimm)) (d .nimm);
+      nimm = choose (underAis ais p (d .simm)) (withBit (p .isc .0) (d .nimm)) (d .nimm);
       apf = d .apf;
     }

@@ -18,7 +18,7 @@ pub struct Device {
 #[repr(C)]
 pub struct Place {
     pub used: bool,
-    pub isc: u8,
+    pub isc: Subclass,
     pub maskable: bool,
     pub swap: bool,
     pub suppressible: bool,
@@ -52,7 +52,7 @@ pub fn free_place() -> Place
 {
     Place {
         used: false,
-        isc: 0,
+        isc: Subclass(0),
         maskable: false,
         swap: false,
         suppressible: false,
@@ -143,7 +143,7 @@ pub fn registered(isc: Subclass, maskable: bool, swap: bool, suppressible: bool)
     let masked = false;
     Place {
         used: true,
-        isc: isc.0,
+        isc,
         maskable,
         swap,
         suppressible,
@@ -158,9 +158,10 @@ pub fn mask_set(p: Place, on: bool) -> Place
     ensures others { λ r. ⌜ r ≡ withMasked (r .masked) p ⌝ }
 {
     if p.used {
+        let isc = p.isc;
         return Place {
             used: true,
-            isc: p.isc,
+            isc,
             maskable: p.maskable,
             swap: p.swap,
             suppressible: p.suppressible,
@@ -184,19 +185,20 @@ pub enum Injection {
 
 // Whether suppression applies to the place and its subclass's bit of the mask is set.
 fn under_ais(ais: bool, p: Place, mask: u8) -> bool
-    requires { ⌜ p .isc ≤ 7 ⌝ }
+    requires { ⌜ p .isc .0 ≤ 7 ⌝ }
     ensures { λ r. ⌜ r ≡ underAis ais p mask ⌝ }
 {
     if ais {
         if p.suppressible {
-            return has_bit(Subclass(p.isc), mask);
+            let isc = p.isc;
+            return has_bit(isc, mask);
         }
     }
     false
 }
 
 pub fn inject(ais: bool, d: Device, p: Place, full: bool) -> Injection
-    requires { ⌜ p .isc ≤ 7 ⌝ }
+    requires { ⌜ p .isc .0 ≤ 7 ⌝ }
     ensures { λ r. ⌜ r ≡ injectionOf ais d p full ⌝ }
 {
     if !p.used {
@@ -211,18 +213,20 @@ pub fn inject(ais: bool, d: Device, p: Place, full: bool) -> Injection
     if full {
         return Injection::Full;
     }
-    Injection::Appended(Subclass(p.isc))
+    let isc = p.isc;
+    Injection::Appended(isc)
 }
 
 // The device record after an injection that is appended: in SINGLE mode the subclass's bit of nimm is set.
 pub fn after_injection(ais: bool, d: Device, p: Place) -> Device
-    requires { ⌜ p .isc ≤ 7 ⌝ }
+    requires { ⌜ p .isc .0 ≤ 7 ⌝ }
     ensures { λ r. ⌜ r ≡ injectedDevice ais d p ⌝ }
 {
     if under_ais(ais, p, d.simm) {
+        let isc = p.isc;
         return Device {
             simm: d.simm,
-            nimm: with_bit(Subclass(p.isc), d.nimm),
+            nimm: with_bit(isc, d.nimm),
             apf: d.apf,
         };
     }

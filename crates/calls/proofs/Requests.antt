@@ -99,7 +99,7 @@ module _ (L : Limits) (s : State) (ais : Bool) (device : Device) (place : Place)
       looked-up = passes _ _ _ (lt-ltb id (L .places) h) ∙ found _ (adapterOf place) _ _ (ap holding (e6 ∙ place-used place u))
 
       same-test : (place .masked || rules-underAis s (adapterOf place) (s .device .nimm)) ≡ (place .masked || underAis ais place (device .nimm))
-      same-test = λ i. place .masked || (e3 i && (place .suppressible && rules.hasBit (place .isc) (e5 i .nimm)))
+      same-test = λ i. place .masked || (e3 i && (place .suppressible && rules.hasBit (place .isc .0) (e5 i .nimm)))
 
       pub is-dropped : (place .masked || underAis ais place (device .nimm)) ≡ true → request L s airqInject id b ≡ accept 0 s []
       is-dropped m = looked-up ∙ chosen _ _ _ (same-test ∙ m)
@@ -113,18 +113,18 @@ module _ (L : Limits) (s : State) (ais : Bool) (device : Device) (place : Place)
 
       pub injected-is : (p₀ : Pending) → s .pending ≡ p₀
           → injected s (adapterOf place)
-          ≡ stateWith s id (placeOf place) (addIo (place .isc) (adapterInterrupt (place .isc)) p₀) (deviceOf (injectedDevice ais device place))
+          ≡ stateWith s id (placeOf place) (addIo (place .isc .0) (adapterInterrupt (place .isc .0)) p₀) (deviceOf (injectedDevice ais device place))
       unfolding injected injectedDevice
       injected-is p₀ e4 =
           λ i. record {
             ais = s .ais;
             adapters = (sym (set-getD (s .adapters) id rules.free) ∙ ap (set (s .adapters) id) e6) i;
-            pending = addIo (place .isc) (adapterInterrupt (place .isc)) (e4 i);
+            pending = addIo (place .isc .0) (adapterInterrupt (place .isc .0)) (e4 i);
             device =
                 record {
                   simm = e5 i .simm;
                   nimm =
-                      choose (e3 i && (place .suppressible && rules.hasBit (place .isc) (e5 i .simm))) (rules.withBit (place .isc) (e5 i .nimm)) (e5 i .nimm);
+                      choose (e3 i && (place .suppressible && rules.hasBit (place .isc .0) (e5 i .simm))) (rules.withBit (place .isc .0) (e5 i .nimm)) (e5 i .nimm);
                   apf = e5 i .apf;
                 };
           }

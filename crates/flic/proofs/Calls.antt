@@ -1,5 +1,5 @@
--- Calls as steps of a walk: of `core::on_records` and `values::on_place`; of `table::set_place` and `table::set_modes`, which are lent the payload beside the table or the device record; and
--- of `table::read_device`, where the walk passes a shared reference of its own on. And a `&mut [u8]` that is not used any more, given up at its value.
+-- Calls as steps of a walk: of `calls::on_records` and `adapter_requests::on_place`; of `lent_requests::set_place` and `lent_requests::set_modes`, which are lent the payload beside the table or the device record; and
+-- of `lent_table::read_device`, where the walk passes a shared reference of its own on. And a `&mut [u8]` that is not used any more, given up at its value.
 use Rattle.flic.proofs.Walk.{_≡_, refl, sym, ap, subst, ℕ, _<_, _^_, Bool, true, false, [], _∷_, List, length, URA, fullShare, named, w64, Val, vint, vptr, SProp, id⊢, GName, Lft, Share, Fml, ftrue, fsep, flft, fres, Memory, Routine, Heap, Env, Calls, Loops, Atoms, Fun, Given, Item, Goal, Step, step, Seq, runs, lands, ‵, _⊛_, _$_, move, drop, use1, split, join, fsplit, fjoin, Opds, FmC, Is, cellAt, bool-makes, uint-makes, u8, u64, RefT, ShrRef, finally, sliceVal, MutSlice, Room, heres, codedHoleys, row, only, owned, nothing, tripleOf, Contract, Triple, says, w32, u32, bool, vbool, bool-vals, bool-tells, ent, emp, _∵_, !, qed, frame, done, sem, exE, snd∗, ensured, lasts}
 use types.Kit as Kit
 use mir.Syntax.{Place as Where, Body as Code, Opd as Operand, seq, call}

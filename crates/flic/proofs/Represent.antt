@@ -31,7 +31,7 @@ use Rattle.flic.specs.Chain.{Host}
 placeFor : rules.Place → Place
 placeFor free = unused
 placeFor (holds x) =
-    record { used = true; isc = x .isc; maskable = x .maskable; swap = x .swap; suppressible = x .suppressible; masked = x .masked }
+    record { used = true; isc = record { 0 = x .isc }; maskable = x .maskable; swap = x .swap; suppressible = x .suppressible; masked = x .masked }
 
 place-back : (p : rules.Place) → placeOf (placeFor p) ≡ p
 unfolding placeOf choose placeFor

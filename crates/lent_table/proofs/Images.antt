@@ -1,4 +1,4 @@
--- An image as a walk needs it, and the calls of `image` as single steps of a walk. The first two take and return plain values, so the caller's context stays.
+-- An image as a walk needs it, and the calls of `list_image` as single steps of a walk. The first two take and return plain values, so the caller's context stays.
 --     takes-empty     `empty()`             ⟶  the result is imageSize zeros
 --     takes-place     `place_at(l, i)`      ⟶  the result is the place of byte i
 --     puts-place      `put_place(&mut local, i, p)`, where the caller has a local that holds the image l:  cell l ∷ Γ  ⟶  cell of l with the byte of p at i ∷ Γ

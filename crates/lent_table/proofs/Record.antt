@@ -98,7 +98,7 @@ module _ {M : Type 1} (𝓤 : URA M) (H : Heap 𝓤) (A : Atoms 𝓤) (mem′ : 
     abbrev to-note : Bool → Adapter → NoteInjection .Ghost
     to-note ais p = (((ν ∷ [], tt), (fullShare, tt), tt, (at-rec b o δ h, (ais, (p, tt))), (vptr b o ∷ [], (vbool ais ∷ [], (P′.lowered p ∷ [], tt)))), tt)
 
-    goes-note : (ais : Bool) (p : Adapter) → Is P.the-row p (P′.lowered p ∷ []) → p .isc ≤ 7 → ent 𝓤 (sep 𝓤 (A .lft (ν ∷ []) fullShare) (sem 𝓤 H A (LentCell R h b o (ν ∷ []) δ))) (NoteInjection .pre (to-note ais p))
+    goes-note : (ais : Bool) (p : Adapter) → Is P.the-row p (P′.lowered p ∷ []) → p .isc .0 ≤ 7 → ent 𝓤 (sep 𝓤 (A .lft (ν ∷ []) fullShare) (sem 𝓤 H A (LentCell R h b o (ν ∷ []) δ))) (NoteInjection .pre (to-note ais p))
     goes-note ais p g few = qed W (‵ (flft (ν ∷ []) fullShare) ∷ ‵ (LentCell R h b o (ν ∷ []) δ) ∷ []) ∵ nothing ! $ move ! (1 ∷ 0 ∷ []) $ join ! $
         nothing ! $ owned ! P.the-row (Is P.the-row) (LL.makes P.the-type P′.the-plain 𝓤 H A) p _ g $ fjoin ! $ owned ! Boolean (Is Boolean) (bool-makes 𝓤 H A W) ais _ refl $ fjoin ! $ move ! (2 ∷ 0 ∷ []) $ fjoin ! $ move ! (1 ∷ 0 ∷ []) $ join ! $ says ! few $ done !
 
@@ -154,7 +154,7 @@ module _ {M : Type 1} {𝓤 : URA M} {H : Heap 𝓤} {A : Atoms 𝓤} {K : Type 
   sets-flag t mem′ run fm known h on b o gh os k = changes t fm (SetFlag 𝓤 H A mem′ run) known h b o gh
       (λ ν δ. to-flag 𝓤 H A mem′ run W b o h ν δ on) (λ ν δ. goes-flag 𝓤 H A mem′ run W b o h ν δ on) (record { simm = h .simm; nimm = h .nimm; apf = on }) no-other (λ ν δ w. id⊢ 𝓤 _) (λ ν δ. os) k
 
-  pub notes-injection : K → (mem′ : Memory → SProp 𝓤) (run : Routine → Fun 𝓤) → FmC 𝓤 H (W .laws) C → Triple 𝓤 (C #note-injection) (NoteInjection 𝓤 H A mem′ run) → (h : Device) (ais : Bool) (q : Adapter) (b o : ℕ) → Is R h (D′.lowered h ∷ []) → Is P.the-row q (P′.lowered q ∷ []) → q .isc ≤ 7
+  pub notes-injection : K → (mem′ : Memory → SProp 𝓤) (run : Routine → Fun 𝓤) → FmC 𝓤 H (W .laws) C → Triple 𝓤 (C #note-injection) (NoteInjection 𝓤 H A mem′ run) → (h : Device) (ais : Bool) (q : Adapter) (b o : ℕ) → Is R h (D′.lowered h ∷ []) → Is P.the-row q (P′.lowered q ∷ []) → q .isc .0 ≤ 7
       → ((i j : Item 𝓤) → Opds K W (i ∷ j ∷ Γ) E xs (vptr b o ∷ vbool ais ∷ P′.lowered q ∷ []))
       → (Is R (injectedDevice ais h q) (D′.lowered (injectedDevice ais h q) ∷ []) → Seq K W (‵ (cellAt fullShare (R .mir) (D′.lowered (injectedDevice ais h q) ∷ []) b o) ∷ Γ) (lands C Λ E d vunit rest p))
       → Seq K W (‵ (cellAt fullShare (R .mir) (D′.lowered h ∷ []) b o) ∷ Γ) (runs C Λ E (seq (call #note-injection xs d) rest) p)

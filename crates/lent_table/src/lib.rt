@@ -83,7 +83,7 @@ pub fn set_flag(d: &mut Device, on: bool)
 
 // INJECT, once the record is appended: in SINGLE mode the bit of nimm is set.
 pub fn note_injection(d: &mut Device, ais: bool, p: Place)
-    requires { ⌜ p .isc ≤ 7 ⌝ }
+    requires { ⌜ p .isc .0 ≤ 7 ⌝ }
     ensures { λ _. ⌜ now (d .exit) ≡ injectedDevice ais (now (d .entry)) p ⌝ }
 {
     *d = adapters::after_injection(ais, *d, p);

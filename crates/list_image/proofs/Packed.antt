@@ -15,7 +15,7 @@ use Rattle.adapters.specs.Values.{unused, Canonical}
 use Rattle.list_image.specs.Image.{packed, unpacked}
 
 -- the byte of a used place
-pub used-byte : (p : Place) → p .used ≡ true → packed p ≡ 128 + p .isc % 8 * 16 + oneIf (p .maskable) * 8 + oneIf (p .swap) * 4 + oneIf (p .suppressible) * 2 + oneIf (p .masked)
+pub used-byte : (p : Place) → p .used ≡ true → packed p ≡ 128 + p .isc .0 % 8 * 16 + oneIf (p .maskable) * 8 + oneIf (p .swap) * 4 + oneIf (p .suppressible) * 2 + oneIf (p .masked)
 unfolding packed choose
 used-byte p e = rw e
 
@@ -32,15 +32,15 @@ pub unpacked-zero : unpacked 0 ≡ unused
 unpacked-zero = unpacked-unused 0 (omega arith)
 
 pub unpacked-used : (b : ℕ) → 128 ≤ b
-    → unpacked b ≡ record { used = true; isc = b / 16 % 8; maskable = eqb (b / 8 % 2) 1; swap = eqb (b / 4 % 2) 1; suppressible = eqb (b / 2 % 2) 1; masked = eqb (b % 2) 1 }
+    → unpacked b ≡ record { used = true; isc = record { 0 = b / 16 % 8 }; maskable = eqb (b / 8 % 2) 1; swap = eqb (b / 4 % 2) 1; suppressible = eqb (b / 2 % 2) 1; masked = eqb (b % 2) 1 }
 unfolding unpacked choose
 unpacked-used b h = rw (le-ltb b 128 h)
 
-pub unpacked-isc : (b : ℕ) → unpacked b .isc ≤ 7
+pub unpacked-isc : (b : ℕ) → unpacked b .isc .0 ≤ 7
 unfolding unpacked choose
 unpacked-isc b = go (ltb b 128) refl
   where
-    go : (u : Bool) → ltb b 128 ≡ u → unpacked b .isc ≤ 7
+    go : (u : Bool) → ltb b 128 ≡ u → unpacked b .isc .0 ≤ 7
     go true e = rw e (omega arith)
     go false e = rw e (omega arith)
 
@@ -48,7 +48,7 @@ flag-back : (n : ℕ) (a : Bool) → n ≡ oneIf a → eqb n 1 ≡ a
 flag-back n true e = eq-eqb n 1 e
 flag-back n false e = ne-eqb n 1 (λ h. omega arith)
 
-used-back : (p : Place) → p .isc ≤ 7 → p .used ≡ true → unpacked (packed p) ≡ p
+used-back : (p : Place) → p .isc .0 ≤ 7 → p .used ≡ true → unpacked (packed p) ≡ p
 used-back p small e =
     let b = packed p in
     let is = used-byte p e in
@@ -56,7 +56,7 @@ used-back p small e =
     let f = flag-le (p .swap) in
     let g = flag-le (p .suppressible) in
     let h = flag-le (p .masked) in
-    let isc : b / 16 % 8 ≡ p .isc = omega arith in
+    let isc : b / 16 % 8 ≡ p .isc .0 = omega arith in
     let maskable = flag-back (b / 8 % 2) (p .maskable) (omega arith) in
     let swap = flag-back (b / 4 % 2) (p .swap) (omega arith) in
     let suppressible = flag-back (b / 2 % 2) (p .suppressible) (omega arith) in

@@ -14,7 +14,7 @@ imageSize = 64
 unfoldable pub packed : Place → ℕ
 packed p =
     choose (p .used)
-    (128 + p .isc % 8 * 16 + oneIf (p .maskable) * 8 + oneIf (p .swap) * 4 + oneIf (p .suppressible) * 2 + oneIf (p .masked))
+    (128 + p .isc .0 % 8 * 16 + oneIf (p .maskable) * 8 + oneIf (p .swap) * 4 + oneIf (p .suppressible) * 2 + oneIf (p .masked))
     0
 
 unfoldable pub unpacked : ℕ → Place
@@ -22,7 +22,7 @@ unpacked b =
     choose (ltb b 128) unused
     (record {
       used = true;
-      isc = b / 16 % 8;
+      isc = record { 0 = b / 16 % 8 };
       maskable = eqb (b / 8 % 2) 1;
       swap = eqb (b / 4 % 2) 1;
       suppressible = eqb (b / 2 % 2) 1;

@@ -10,6 +10,7 @@ ghost use Rattle.rules.specs.MoveList.{oneIf};
 use adapters::Place;
 use numbers::AdapterId;
 use numbers::PLACES;
+use numbers::Subclass;
 
 // The place of an id among the first ones; an id without a place reads as free.
 pub fn look_up(image: &[u8; PLACES], places: u64, id: AdapterId) -> Place
@@ -53,8 +54,9 @@ pub fn pack(p: Place) -> u8
     if !p.used {
         return 0;
     }
+    let isc = p.isc;
     128
-        + p.isc % 8 * 16
+        + isc.0 % 8 * 16
         + flag(p.maskable) * 8
         + flag(p.swap) * 4
         + flag(p.suppressible) * 2
@@ -70,7 +72,7 @@ pub fn unpack(b: u8) -> Place
     }
     Place {
         used: true,
-        isc: b / 16 % 8,
+        isc: Subclass(b / 16 % 8),
         maskable: b / 8 % 2 == 1,
         swap: b / 4 % 2 == 1,
         suppressible: b / 2 % 2 == 1,

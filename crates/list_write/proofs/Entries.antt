@@ -203,12 +203,12 @@ module _ (o₀ o₁ o₂ : List ℕ) (at id : ℕ) (p : Place) (h : at + 8 ≤ l
       let f₂ = put-number o₀ o₁ o₂ at 4 4 16842752 (bytes 4 id) (length-bytes 4 id) (omega arith) f₁ g in
       put-number o₀ o₂ o₃ at 8 8 0 (bytes 4 id ++ bytes 4 16842752) (simp (length-append, length-bytes)) h f₂ k
 
-  pub register-put : o₂ ≡ paste o₁ (at + 4) (bytes 4 (p .isc * 16777216 + (oneIf (p .maskable) * 65536 + oneIf (p .swap) * 256 + oneIf (p .suppressible)))) 4
-      → p .isc ≤ 7 → o₂ ≡ put o₀ at (payloadOf false id p)
+  pub register-put : o₂ ≡ paste o₁ (at + 4) (bytes 4 (p .isc .0 * 16777216 + (oneIf (p .maskable) * 65536 + oneIf (p .swap) * 256 + oneIf (p .suppressible)))) 4
+      → p .isc .0 ≤ 7 → o₂ ≡ put o₀ at (payloadOf false id p)
   unfolding payloadOf
   register-put g k =
       put-number o₀ o₁ o₂ at 4 4 _ (bytes 4 id) (length-bytes 4 id) (omega arith) (f ∙ put-paste o₀ at (bytes 4 id) 4 (length-bytes 4 id)) g
-      ∙ rw (four-bytes (p .isc) (oneIf (p .maskable)) (oneIf (p .swap)) (oneIf (p .suppressible)) (omega arith) (flag-le (p .maskable)) (flag-le (p .swap)) (flag-le (p .suppressible)))
+      ∙ rw (four-bytes (p .isc .0) (oneIf (p .maskable)) (oneIf (p .swap)) (oneIf (p .suppressible)) (omega arith) (flag-le (p .maskable)) (flag-le (p .swap)) (flag-le (p .suppressible)))
 
 -- the payloads of all adapters' entries have one length each
 pub each-size : (modify : Bool) (id : ℕ) (image : List ℕ)

@@ -40,4 +40,4 @@ sizeOf false = 8
 -- the payload: MODIFY type 1 with mask 1 and unread bytes 0, or REGISTER with bytes 0 or 1
 unfoldable pub payloadOf : Bool → ℕ → Place → List ℕ
 payloadOf true id p = bytes 4 id ++ (1 ∷ 1 ∷ replicate 10 0)
-payloadOf false id p = bytes 4 id ++ (p .isc ∷ oneIf (p .maskable) ∷ oneIf (p .swap) ∷ oneIf (p .suppressible) ∷ [])
+payloadOf false id p = bytes 4 id ++ (p .isc .0 ∷ oneIf (p .maskable) ∷ oneIf (p .swap) ∷ oneIf (p .suppressible) ∷ [])

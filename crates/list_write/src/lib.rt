@@ -21,6 +21,7 @@ ghost use Rattle.store.specs.Lent.{before, Stays};
 use adapters::Device;
 use adapters::Place;
 use answers::Answer;
+use numbers::AdapterId;
 use numbers::COUNTS;
 use numbers::ORDER_BYTES;
 use numbers::PLACES;
@@ -81,14 +82,14 @@ fn size_if(on: bool, modify: bool) -> usize
 }
 
 // The payload of a place's entry, if it has one.
-fn put_payload(out: &mut [u8], on: bool, at: usize, id: u64, p: Place, modify: bool)
-    requires { ⌜ (p .isc ≤ 7) × (at + sizeOf modify * oneIf on ≤ length (now out)) ⌝ }
-    ensures { λ _. ⌜ now (out .exit) ≡ put (now (out .entry)) at (choose on (payloadOf modify id p) []) ⌝ }
+fn put_payload(out: &mut [u8], on: bool, at: usize, id: AdapterId, p: Place, modify: bool)
+    requires { ⌜ (p .isc .0 ≤ 7) × (at + sizeOf modify * oneIf on ≤ length (now out)) ⌝ }
+    ensures { λ _. ⌜ now (out .exit) ≡ put (now (out .entry)) at (choose on (payloadOf modify (id .0) p) []) ⌝ }
 {
     if !on {
         return;
     }
-    numbers::write_be(out, at, 4, id);
+    numbers::write_be(out, at, 4, id.0);
     if modify {
         numbers::write_be(out, at + 4, 4, 16842752); // type 1, mask 1, two unread bytes
         numbers::write_be(out, at + 8, 8, 0);
@@ -97,7 +98,8 @@ fn put_payload(out: &mut [u8], on: bool, at: usize, id: u64, p: Place, modify: b
     let flags = list_form::flag_of(p.maskable) * 65536
         + list_form::flag_of(p.swap) * 256
         + list_form::flag_of(p.suppressible);
-    numbers::write_be(out, at + 4, 4, numbers::wide(p.isc) * 16777216 + flags);
+    let isc = p.isc;
+    numbers::write_be(out, at + 4, 4, numbers::wide(isc.0) * 16777216 + flags);
 }
 
 // How many adapters have an entry.
@@ -143,7 +145,7 @@ pub fn put_adapter_payloads(out: &mut [u8], at: usize, image: [u8; PLACES], modi
     while i < PLACES {
         let p = list_image::unpack(image[i]);
         let on = is_written(p, modify);
-        put_payload(out, on, a, i as u64, p, modify);
+        put_payload(out, on, a, AdapterId(i as u64), p, modify);
         a += size_if(on, modify);
         i += 1;
     }

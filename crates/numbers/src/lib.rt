@@ -59,6 +59,7 @@ pub const SINGLES_BYTES: usize = 2 * 72 + 2;
 pub struct AdapterId(pub u64);
 
 // An interruption subclass, 0 to 7: it alone names an I/O queue or a bit of a mask.
+#[repr(C)]
 pub struct Subclass(pub u8);
 
 // One of the nine queues: 0 to 7 are those of the subclasses, 8 has the finished page faults.

@@ -1,4 +1,4 @@
--- `values::about` meets its contract. Assumes nothing.
+-- `adapter_requests::about` meets its contract. Assumes nothing.
 use mathlib.Core.Path.{sym, _∙_}
 use borrow.Author.Tests.{eq-eqb, ne-eqb}
 use borrow.Author.Needs.{needs}

@@ -1,4 +1,4 @@
--- `values::get_masks` meets its contract. Assumes nothing.
+-- `adapter_requests::get_masks` meets its contract. Assumes nothing.
 use mathlib.Core.Path.{refl, ap, _∙_}
 use lib.ListN.{length}
 use borrow.Author.Tests.{eq-eqb, ne-eqb, le-leb, lt-leb, not-true, not-false}

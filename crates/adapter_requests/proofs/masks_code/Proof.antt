@@ -1,4 +1,4 @@
--- `values::masks_code` meets its contract. Assumes nothing.
+-- `adapter_requests::masks_code` meets its contract. Assumes nothing.
 use mathlib.Core.Path.{_∙_}
 use native.Mathlib.Omega.{arith}
 use lib.ListN.{length}

@@ -1,4 +1,4 @@
--- `values::mode_code` meets its contract. Assumes nothing.
+-- `adapter_requests::mode_code` meets its contract. Assumes nothing.
 use Prim.Native.Nat.{_≤_}
 use mathlib.Core.Path.{_≡_, ap, _∙_}
 use mathlib.Core.List.{[]}

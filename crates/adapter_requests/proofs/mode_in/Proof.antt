@@ -1,4 +1,4 @@
--- `values::mode_in` meets its contract. Assumes nothing.
+-- `adapter_requests::mode_in` meets its contract. Assumes nothing.
 use Prim.Native.Nat.{ℕ}
 use mathlib.Core.Path.{refl, ap}
 use lib.Dec.{eqb}

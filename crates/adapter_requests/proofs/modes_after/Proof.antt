@@ -1,4 +1,4 @@
--- `values::modes_after` meets its contract. Assumes nothing.
+-- `adapter_requests::modes_after` meets its contract. Assumes nothing.
 use mathlib.Core.Path.{ap, sym, _∙_}
 use native.Mathlib.Omega.{arith}
 use borrow.Author.Needs.{needs}

@@ -1,4 +1,4 @@
--- `values::modes_code` meets its contract: each group's own code, and 22 for a number that is no group.
+-- `adapter_requests::modes_code` meets its contract: each group's own code, and 22 for a number that is no group.
 use native.Mathlib.Omega.{arith}
 use borrow.Author.Needs.{needs}
 use Rattle.rules.specs.Bytes.{choose}

@@ -1,4 +1,4 @@
--- `values::modify_code` meets its contract. Assumes nothing.
+-- `adapter_requests::modify_code` meets its contract. Assumes nothing.
 use mathlib.Core.Path.{_≡_, ap, _∙_}
 use mathlib.Core.Bool.{true, not, _&&_, _||_}
 use mathlib.Core.List.{[]}

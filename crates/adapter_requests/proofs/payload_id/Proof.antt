@@ -1,4 +1,4 @@
--- `values::payload_id` meets its contract. Assumes nothing.
+-- `adapter_requests::payload_id` meets its contract. Assumes nothing.
 use mathlib.Core.Path.{sym, _∙_}
 use borrow.Author.Tests.{lt-leb}
 use Rattle.rules.proofs.Checks.{passed}

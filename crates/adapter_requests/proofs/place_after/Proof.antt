@@ -1,4 +1,4 @@
--- `values::place_after` meets its contract: what REGISTER enters, what MODIFY of type 1 leaves, or the place as it was.
+-- `adapter_requests::place_after` meets its contract: what REGISTER enters, what MODIFY of type 1 leaves, or the place as it was.
 use mathlib.Core.Path.{sym, _∙_}
 use native.Mathlib.Omega.{arith}
 use borrow.Author.Needs.{needs}

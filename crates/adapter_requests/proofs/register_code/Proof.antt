@@ -1,4 +1,4 @@
--- `values::register_code` meets its contract. Assumes nothing.
+-- `adapter_requests::register_code` meets its contract. Assumes nothing.
 use Prim.Native.Nat.{ℕ}
 use mathlib.Core.Path.{_≡_, refl, ap, sym, _∙_}
 use mathlib.Core.List.{[]}

@@ -1,4 +1,4 @@
--- `values::set_values` meets its contract: the code decides, and an accepted request changes the place or the device record.
+-- `adapter_requests::set_values` meets its contract: the code decides, and an accepted request changes the place or the device record.
 use Prim.Native.Nat.{ℕ}
 use mathlib.Core.Path.{_≡_, refl, ap, sym, _∙_, subst}
 use mathlib.Core.List.{[]}

@@ -8,7 +8,7 @@ use Rattle.adapters.proofs.after_injection.Tie as tie
 
 returns : tie.Need-returns
 unfolding injectedDevice choose
-returns c = rw (sym (c .before .before .under-ais .ensures) ∙ c .before .if1 .taken, c .with-bit .ensures)
+returns c = rw (sym (c .before .before .before .under-ais .ensures) ∙ c .before .before .if1 .taken, c .with-bit .ensures)
 
 returns-2 : tie.Need-returns-2
 unfolding injectedDevice choose

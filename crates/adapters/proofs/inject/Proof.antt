@@ -37,8 +37,8 @@ returns-4 c =
 returns-5 : tie.Need-returns-5
 unfolding injectionOf choose
 returns-5 c =
-    let p = passed (c .before) in
-    rw (p .0, p .1, p .2, c .if4 .left)
+    let p = passed (c .before .before) in
+    rw (p .0, p .1, p .2, c .before .if4 .left)
 
 pub inject-spec : {M : Type 1} → statement M
 inject-spec = tie.close (tie.spec returns returns-2 (λ c κs. search needs) returns-3 returns-4 returns-5)

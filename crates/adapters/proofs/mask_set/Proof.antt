@@ -8,7 +8,7 @@ use Rattle.adapters.proofs.mask_set.Tie as tie
 
 returns : tie.Need-returns
 unfolding placeOf maskedAs choose
-returns c = (rw (c .if1 .taken), (λ k m. record { unusedOne = λ e. absurd (true≢false e); iscSmall = k .iscSmall; maskedMaskable = m }, ap (λ (u : Bool). record { used = u; isc = c .before .args .p .isc; maskable = c .before .args .p .maskable; swap = c .before .args .p .swap; suppressible = c .before .args .p .suppressible; masked = c .before .args .on }) (sym (c .if1 .taken))))
+returns c = (rw (c .before .if1 .taken), (λ k m. record { unusedOne = λ e. absurd (true≢false e); iscSmall = k .iscSmall; maskedMaskable = m }, ap (λ (u : Bool). record { used = u; isc = c .before .before .args .p .isc; maskable = c .before .before .args .p .maskable; swap = c .before .before .args .p .swap; suppressible = c .before .before .args .p .suppressible; masked = c .before .before .args .on }) (sym (c .before .if1 .taken))))
 
 returns-2 : tie.Need-returns-2
 unfolding placeOf maskedAs choose

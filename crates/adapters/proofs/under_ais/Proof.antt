@@ -4,7 +4,7 @@ use Rattle.adapters.proofs.under_ais.Statement.{statement}
 use Rattle.adapters.proofs.under_ais.Tie as tie
 
 returns : tie.Need-returns
-returns c = rw (c .before .before .if1 .taken, c .before .if2 .taken) (c .has-bit .ensures)
+returns c = rw (c .before .before .before .if1 .taken, c .before .before .if2 .taken) (c .has-bit .ensures)
 
 returns-2 : tie.Need-returns-2
 returns-2 c = rw (c .before .if1 .taken, c .if2 .left)

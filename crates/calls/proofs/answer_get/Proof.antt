@@ -1,4 +1,4 @@
--- `controller::answer_get` meets its contract. Assumes nothing.
+-- `calls::answer_get` meets its contract. Assumes nothing.
 use borrow.Author.Needs.{needs}
 use Rattle.calls.proofs.answer_get.Statement.{statement}
 use Rattle.calls.proofs.answer_get.Tie as tie

@@ -1,4 +1,4 @@
--- `controller::answer_inject` meets its contract: of the reply by value it is the answer, and the device record can be told from its count.
+-- `calls::answer_inject` meets its contract: of the reply by value it is the answer, and the device record can be told from its count.
 use mathlib.Core.Path.{sym, _∙_}
 use native.Mathlib.Omega.{arith}
 use Rattle.calls.proofs.Laws.{replied-as}

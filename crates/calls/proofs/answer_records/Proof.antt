@@ -1,4 +1,4 @@
--- `controller::answer_records` meets its contract. Assumes nothing.
+-- `calls::answer_records` meets its contract. Assumes nothing.
 use native.Mathlib.Omega.{arith}
 use Rattle.calls.proofs.Limits.{limits-sized}
 use Rattle.calls.proofs.answer_records.Statement.{statement}

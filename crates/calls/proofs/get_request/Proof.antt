@@ -1,4 +1,4 @@
--- `core::get_request` meets its contract. Assumes nothing.
+-- `calls::get_request` meets its contract. Assumes nothing.
 use mathlib.Core.Path.{refl}
 use Rattle.rules.specs.Requests.{request}
 use Rattle.answers.proofs.Laws.{refused}

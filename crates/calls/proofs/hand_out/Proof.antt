@@ -1,4 +1,4 @@
--- `controller::hand_out` meets its contract. Assumes nothing.
+-- `calls::hand_out` meets its contract. Assumes nothing.
 use borrow.Author.Needs.{needs}
 use Rattle.calls.proofs.hand_out.Statement.{statement}
 use Rattle.calls.proofs.hand_out.Tie as tie

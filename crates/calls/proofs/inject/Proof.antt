@@ -1,4 +1,4 @@
--- `core::inject` meets its contract. Assumes nothing.
+-- `calls::inject` meets its contract. Assumes nothing.
 use Prim.Native.Nat.{ℕ, _<_}
 use mathlib.Core.Path.{_≡_, refl, ap, sym, _∙_}
 use mathlib.Core.List.{List, []}

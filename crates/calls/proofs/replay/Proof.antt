@@ -1,4 +1,4 @@
--- `controller::replay` meets its contract. Assumes nothing.
+-- `calls::replay` meets its contract. Assumes nothing.
 use mathlib.Core.Path.{sym, _∙_}
 use native.Mathlib.Omega.{arith}
 use Rattle.list_image.specs.Places.{AllCanonical}

@@ -1,4 +1,4 @@
--- `core::set_others` meets its contract. Assumes nothing.
+-- `calls::set_others` meets its contract. Assumes nothing.
 use mathlib.Core.Path.{_≡_, refl, sym, _∙_, subst}
 use Prim.Native.Nat.{ℕ}
 use borrow.Author.Needs.{needs}

@@ -1,4 +1,4 @@
--- `core::set_records` meets its contract. Assumes nothing.
+-- `calls::set_records` meets its contract. Assumes nothing.
 use mathlib.Core.Path.{refl, ap, _∙_}
 use borrow.Author.Needs.{needs}
 use Rattle.rules.specs.Requests.{request}

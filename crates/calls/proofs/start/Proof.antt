@@ -1,4 +1,4 @@
--- `controller::start` meets its contract. Assumes nothing.
+-- `calls::start` meets its contract. Assumes nothing.
 use borrow.Author.Needs.{needs}
 use Rattle.list_image.specs.Image.{imageSize}
 use Rattle.calls.proofs.Laws.{started-with}

@@ -1,4 +1,4 @@
--- `controller::write_from` meets its contract. Assumes nothing.
+-- `calls::write_from` meets its contract. Assumes nothing.
 use mathlib.Core.Path.{_∙_, sym}
 use borrow.Author.Needs.{needs}
 use Rattle.list_image.proofs.Laws.{places-all}

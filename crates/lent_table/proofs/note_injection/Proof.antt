@@ -1,4 +1,4 @@
--- `note_injection`: the bit of nimm after an injection, by `adapters::after_injection`.
+-- `note_injection`: the bit of nimm after an injection, by `lent_table::after_injection`.
 use Rattle.lent_table.proofs.Walk.{_≡_, refl, ℕ, _≤_, Bool, [], _∷_, List, URA, named, tyBool, Val, vunit, vbool, vptr, SProp, ent, emp, id⊢, GName, Lft, Share, ftrue, fsep, flft, Memory, Routine, Heap, Calls, Loops, WpFn, Tables, Atoms, Fun, givenOf, tables, tablesOf, Given, ‵, ⋆, _⊛_, _$_, _∵_, !, qed, move, keep, drop, split, join, fsplit, fsplit3, fjoin, fjoin3, feqI, suffices, frame, done, look, init, stop, from, load, and-then, no-more, enter, alloc1, alloc0, params1, pass1, pass0, FmC, fmOf, WpFn-mono, owns, Is, bool-vals, bool-tells, bool-makes, bool, RefT, MutRef, ptr-vals, mut-tells, plain, owned, nothing, onEntry, Meets, tripleOf, Contract, Triple, entered, cited, needs, says, Stays, stay-ref, stay-dropped, walkOf, goes-ref, goes-dropped, Walks, ends-at, walked, walk-meets, yes}
 use denote.Struct.Laws as LL
 use Rattle.adapters.specs.declared.Place.{Place}
@@ -25,7 +25,7 @@ module _ {M : Type 1} (𝓤 : URA M) (H : Heap 𝓤) (A : Atoms 𝓤) (mem : Mem
   ByValue = tripleOf 𝓤 H A by-value.signature (by-value.spec 𝓤 H A mem run)
 
 module _ {M : Type 1} (𝓤 : URA M) (H : Heap 𝓤) (A : Atoms 𝓤) (W : Given 𝓤 H A) (mem : Memory → SProp 𝓤) (run : Routine → Fun 𝓤)
-    (κ : Lft) (q : Share) (b o : ℕ) (γ : GName) (h : Device) (ais : Bool) (p : Place) (fits-p : Is P.the-row p (P′.lowered p ∷ [])) (few : p .isc ≤ 7) where
+    (κ : Lft) (q : Share) (b o : ℕ) (γ : GName) (h : Device) (ais : Bool) (p : Place) (fits-p : Is P.the-row p (P′.lowered p ∷ [])) (few : p .isc .0 ≤ 7) where
   abbrev x : RefT Device × (Bool × (Place × Unit {0}))
   x = (record { ptr = (b, o); name = γ; now = h }, (ais, (p, tt)))
 
@@ -67,7 +67,7 @@ module _ {M : Type 1} (𝓤 : URA M) (H : Heap 𝓤) (A : Atoms 𝓤) (W : Given
   walks : (C : Calls 𝓤 H) (Λ : Loops 𝓤 H) → FmC 𝓤 H (W .laws) C → Triple 𝓤 (C by-value-def.name) (ByValue 𝓤 H A mem run) → Walks 𝓤 H A f.ended stayed (WpFn 𝓤 H C Λ code.function) (f.clauses 𝓤 H A mem run)
   walks C Λ fm known = walked 𝓤 H A f.ended stayed (f.clauses 𝓤 H A mem run) (WpFn 𝓤 H C Λ code.function)
       (λ κs. (ptr-vals, (bool-vals, (LL.vals P.the-type P′.the-laws, tt)))) (λ κs. (mut-tells (named 0) (κs .0) D.the-row, (bool-tells, (LL.tells P.the-type P′.the-laws, tt))))
-      (λ κs qs bounds a _ are. needs 𝓤 (a .1 .1 .0 .isc ≤ 7) _ (λ few. walk 𝓤 H A W mem run (κs .0) (qs .0) (a .0 .ptr .0) (a .0 .ptr .1) (a .0 .name) (a .0 .now) (a .1 .0) (a .1 .1 .0) (are .1 .1 .0) few C Λ fm known))
+      (λ κs qs bounds a _ are. needs 𝓤 (a .1 .1 .0 .isc .0 ≤ 7) _ (λ few. walk 𝓤 H A W mem run (κs .0) (qs .0) (a .0 .ptr .0) (a .0 .ptr .1) (a .0 .name) (a .0 .now) (a .1 .0) (a .1 .1 .0) (are .1 .1 .0) few C Λ fm known))
 
   meets : (𝓣 : Tables 𝓤 H) → Triple 𝓤 (𝓣 .C by-value-def.name) (ByValue 𝓤 H A mem run) → Meets 𝓤 H A f.signature (WpFn 𝓤 H (𝓣 .C) (𝓣 .Λ) code.function) (f.spec 𝓤 H A mem run)
   meets 𝓣 known = walk-meets 𝓤 H A f.ended stayed W (goes-ref 𝓤 H A W 1 0 tt (plain (λ _. D.the-row)), (goes-dropped 𝓤 H A W 1 (plain (λ _. bool)) yes (λ κs x f. refl), (goes-dropped 𝓤 H A W 1 (plain (λ _. P.the-row)) yes (λ κs x f. refl), tt)))

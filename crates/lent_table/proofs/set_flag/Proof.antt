@@ -1,4 +1,4 @@
--- `set_flag`: the page-fault flag, by `adapters::apf_set`. As in Modes.antt, with one parameter beside the record.
+-- `set_flag`: the page-fault flag, by `lent_table::apf_set`. As in Modes.antt, with one parameter beside the record.
 use Rattle.lent_table.proofs.Walk.{_≡_, refl, ap, subst, ℕ, Bool, [], _∷_, List, URA, fullShare, named, tyBool, tyUnit, tyRef, mut, Val, vunit, vbool, vptr, SProp, ent, emp, via, fst∗, id⊢, GName, Lft, Share, ftrue, fsep, flft, fobs, fobor, fauth, fat, Memory, Routine, Heap, Env, Calls, Loops, WpFn, Tables, Atoms, Fun, givenOf, tables, tablesOf, Given, Item, Sq, runs, atRet, ‵, ⋆, _⊛_, _$_, _∵_, !, qed, by, move, keep, drop, split, join, rewrite, fsplit, fsplit3, fjoin, fjoin3, feqI, suffices, frame, done, look, look-raw, store-raw, init, stop, hop, from, load, unit-lit, of-opd, and-then, no-more, assigns, land, returns, enter, alloc1, alloc0, params1, pass1, pass0, Body, FmC, fmOf, WpFn-mono, owns, Is, shows, mem, cellAt, pointee, bool-vals, bool-tells, bool-makes, bool, RefT, MutRef, ptr-vals, mut-tells, plain, only, opens, closes, owned, peeks, nothing, spelt, onEntry, Meets, tripleOf, Contract, Triple, entered, cited, says, Stays, stay-ref, stay-dropped, walkOf, goes-ref, goes-dropped, Walks, ends-at, walked, walk-meets, yes}
 use denote.Struct.Laws as LL
 use Rattle.adapters.specs.declared.Device.{Device}

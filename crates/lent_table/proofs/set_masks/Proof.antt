@@ -1,4 +1,4 @@
--- `set_masks`: both masks, by `adapters::masks_set`.
+-- `set_masks`: both masks, by `lent_table::masks_set`.
 use Rattle.lent_table.proofs.Walk.{_≡_, refl, ℕ, _<_, _^_, [], _∷_, List, URA, named, w8, tyInt, Val, vunit, vint, vptr, SProp, ent, emp, via, fst∗, id⊢, GName, Lft, Share, ftrue, fsep, flft, Memory, Routine, Heap, Calls, Loops, WpFn, Tables, Atoms, Fun, givenOf, tables, tablesOf, Given, ‵, ⋆, _⊛_, _$_, _∵_, !, qed, move, keep, drop, split, join, fsplit, fsplit3, fjoin, fjoin3, feqI, suffices, frame, done, look, init, stop, from, load, and-then, no-more, enter, alloc1, alloc0, params1, pass1, pass0, FmC, fmOf, WpFn-mono, owns, Is, uint-vals, uint-tells, uint-makes, u8, RefT, MutRef, ptr-vals, mut-tells, plain, owned, nothing, onEntry, Meets, tripleOf, Contract, Triple, entered, cited, says, Stays, stay-ref, stay-dropped, walkOf, goes-ref, goes-dropped, Walks, ends-at, walked, walk-meets, yes}
 use denote.Struct.Laws as LL
 use Rattle.adapters.specs.declared.Device.{Device}

@@ -1,4 +1,4 @@
--- `set_mode`: the mode of one subclass, by `adapters::mode_set`.
+-- `set_mode`: the mode of one subclass, by `lent_table::mode_set`.
 use Rattle.lent_table.proofs.Walk.{_≡_, refl, ap, ℕ, _≤_, Bool, [], _∷_, List, URA, named, tyBool, Val, vunit, vbool, vptr, SProp, ent, emp, id⊢, GName, Lft, Share, ftrue, fsep, flft, Memory, Routine, Heap, Calls, Loops, WpFn, Tables, Atoms, Fun, givenOf, tables, tablesOf, Given, ‵, ⋆, _⊛_, _$_, _∵_, !, qed, move, keep, drop, split, join, fsplit, fsplit3, fjoin, fjoin3, feqI, suffices, frame, done, look, init, stop, from, load, and-then, no-more, enter, alloc1, alloc0, params1, pass1, pass0, FmC, fmOf, WpFn-mono, owns, Is, bool-vals, bool-tells, bool-makes, bool, RefT, MutRef, ptr-vals, mut-tells, plain, owned, nothing, onEntry, Meets, tripleOf, Contract, Triple, entered, cited, needs, says, Stays, stay-ref, stay-dropped, walkOf, goes-ref, goes-dropped, Walks, ends-at, walked, walk-meets, yes}
 use denote.Struct.Laws as LL
 use Rattle.numbers.specs.declared.Subclass.{Subclass}

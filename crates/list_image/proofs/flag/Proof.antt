@@ -1,4 +1,4 @@
--- `image::flag` meets its contract, by the test.
+-- `list_image::flag` meets its contract, by the test.
 use native.Mathlib.Omega.{arith}
 use Rattle.list_image.proofs.flag.Statement.{statement}
 use Rattle.list_image.proofs.flag.Tie as tie

@@ -1,4 +1,4 @@
--- `image_places::look_up` meets its contract, by the test.
+-- `list_image::look_up` meets its contract, by the test.
 use mathlib.Core.Path.{ap, _∙_}
 use borrow.Author.Needs.{needs}
 use Rattle.adapters.specs.Values.{placeOf}

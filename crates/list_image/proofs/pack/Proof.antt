@@ -1,4 +1,4 @@
--- `image::pack` meets its contract: each flag is 0 or 1, so the sums stay below 256.
+-- `list_image::pack` meets its contract: each flag is 0 or 1, so the sums stay below 256.
 use borrow.Author.Needs.{needs}
 use mathlib.Core.Path.{sym}
 use borrow.Author.Tests.{not-true, not-false}
@@ -11,7 +11,7 @@ returns c = sym (unused-byte (c .before .before .args .p) (not-true (c .before .
 
 returns-2 : tie.Need-returns-2
 returns-2 c =
-    let e = c .before .before .before .before .before in
+    let e = c .before .before .before .before .before .before in
     let p = e .before .before .args .p in
     rw (used-byte p (not-false (p .used) (e .if1 .left)), c .before .before .before .flag .ensures .0, c .before .before .flag2 .ensures .0, c .before .flag3 .ensures .0, c .flag4 .ensures .0)
 

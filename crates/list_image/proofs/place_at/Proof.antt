@@ -1,4 +1,4 @@
--- `image::place_at` meets its contract: past the end the byte reads as 0.
+-- `list_image::place_at` meets its contract: past the end the byte reads as 0.
 use borrow.Author.Needs.{needs}
 use mathlib.Core.Path.{sym, ap, _∙_}
 use lib.ListN.{List·getD-eq-default}

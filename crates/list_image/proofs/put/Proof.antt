@@ -1,4 +1,4 @@
--- `image_places::put` meets its contract, by the test.
+-- `list_image::put` meets its contract, by the test.
 use borrow.Author.Needs.{needs}
 use Rattle.adapters.specs.Values.{placeOf}
 use Rattle.list_image.proofs.Laws.{write-in, write-out, write-canonical}

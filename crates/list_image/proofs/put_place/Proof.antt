@@ -1,4 +1,4 @@
--- `image::put_place` meets its contract: past the end nothing is set.
+-- `list_image::put_place` meets its contract: past the end nothing is set.
 use borrow.Author.Needs.{needs}
 use mathlib.Core.Path.{sym}
 use lib.Seq.{set-out}

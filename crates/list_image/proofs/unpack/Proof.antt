@@ -1,4 +1,4 @@
--- `image::unpack` meets its contract, by the test.
+-- `list_image::unpack` meets its contract, by the test.
 use borrow.Author.Needs.{needs}
 use mathlib.Core.Path.{sym, _∙_}
 use Rattle.adapters.proofs.Laws.{place-is-free}

@@ -1,4 +1,4 @@
--- `play::apply` meets its contract: an answer about pending records, or a reply about one place, is one about the state of the image.
+-- `list_play::apply` meets its contract: an answer about pending records, or a reply about one place, is one about the state of the image.
 use mathlib.Core.Path.{refl, sym, ap, _∙_}
 use mathlib.Core.Bool.{true≢false}
 use borrow.Author.Needs.{needs}

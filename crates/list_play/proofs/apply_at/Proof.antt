@@ -1,4 +1,4 @@
--- `play::apply_at` meets its contract: the numbers read are the table entry's, and its payload lies within the list.
+-- `list_play::apply_at` meets its contract: the numbers read are the table entry's, and its payload lies within the list.
 use Prim.Native.Nat.{_+_, _*_, _≤_}
 use mathlib.Core.Path.{_≡_, ap, _∙_}
 use native.Mathlib.Omega.{arith}

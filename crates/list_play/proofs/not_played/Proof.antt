@@ -1,4 +1,4 @@
--- `play::not_played` meets its contract, by those of what it calls.
+-- `list_play::not_played` meets its contract, by those of what it calls.
 use borrow.Author.Needs.{needs}
 use Rattle.list_play.proofs.not_played.Statement.{statement}
 use Rattle.list_play.proofs.not_played.Tie as tie

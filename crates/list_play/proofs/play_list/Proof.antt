@@ -1,4 +1,4 @@
--- `play::play_list` meets its contract: a refusal of form, a list refused part-way, and one that is played.
+-- `list_play::play_list` meets its contract: a refusal of form, a list refused part-way, and one that is played.
 use mathlib.Core.Path.{refl}
 use native.Mathlib.Omega.{arith}
 use lib.ListN.{replicate}

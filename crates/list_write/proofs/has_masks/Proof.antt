@@ -1,4 +1,4 @@
--- `write::has_masks` meets its contract, by its tests.
+-- `list_write::has_masks` meets its contract, by its tests.
 use borrow.Author.Tests.{eq-eqb, ne-eqb, not-true, not-false}
 use Rattle.list_write.proofs.has_masks.Statement.{statement}
 use Rattle.list_write.proofs.has_masks.Tie as tie

@@ -1,4 +1,4 @@
--- `list_parts::is_written` meets its contract, by its tests.
+-- `list_write::is_written` meets its contract, by its tests.
 use borrow.Author.Tests.{not-true, not-false}
 use Rattle.list_write.proofs.is_written.Statement.{statement}
 use Rattle.list_write.proofs.is_written.Tie as tie

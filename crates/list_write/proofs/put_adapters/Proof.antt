@@ -1,4 +1,4 @@
--- `write::put_adapters` meets its contract: the table entries of MODIFY behind those of REGISTER.
+-- `list_write::put_adapters` meets its contract: the table entries of MODIFY behind those of REGISTER.
 use Prim.Native.Nat.{_*_}
 use mathlib.Core.Path.{refl, sym}
 use mathlib.Core.Bool.{true, false}

@@ -1,4 +1,4 @@
--- `list_parts::put_five` meets its contract: five numbers one behind the other.
+-- `list_write::put_five` meets its contract: five numbers one behind the other.
 use borrow.Author.Needs.{needs}
 use Rattle.list_write.proofs.Entries.{five-numbers}
 use Rattle.list_write.proofs.put_five.Statement.{statement}

@@ -1,4 +1,4 @@
--- `write::put_masks` meets its contract, by its test.
+-- `list_write::put_masks` meets its contract, by its test.
 use Prim.Native.Nat.{_+_, _*_}
 use mathlib.Core.Path.{_∙_}
 use native.Mathlib.Omega.{arith}

@@ -1,4 +1,4 @@
--- `write::put_others` meets its contract: three table entries, each if there is one.
+-- `list_write::put_others` meets its contract: three table entries, each if there is one.
 use borrow.Author.Needs.{needs}
 use Rattle.list_write.proofs.Laws.{others-put}
 use Rattle.list_write.proofs.put_others.Statement.{statement}

@@ -1,5 +1,10 @@
--- `list_parts::put_payload` meets its contract: nothing, a MODIFY or a REGISTER.
+-- `list_write::put_payload` meets its contract: nothing, a MODIFY or a REGISTER.
+use Prim.Native.Nat.{ℕ, _+_, _≤_}
+use mathlib.Core.Path.{_≡_}
+use mathlib.Core.Bool.{true}
 use native.Mathlib.Omega.{arith}
+use denote.Ref.{now}
+use lib.ListN.{length}
 use borrow.Author.Needs.{needs}
 use borrow.Author.Tests.{not-true, not-false}
 use Rattle.rules.specs.Bytes.{choose}
@@ -11,31 +16,57 @@ returns : tie.Need-returns
 unfolding choose
 returns c = rw (not-true (c .before .before .args .on) (c .if1 .taken)) (put-none _ _)
 
+-- there is a payload, and room for it
+module _ (c : tie.Else1) where
+  abbrev start : tie.Start
+  start = c .before .before
+
+  wanted : start .args .on ≡ true
+  wanted = not-false (start .args .on) (c .if1 .left)
+
+  room : (start .args .at + 8 ≤ length (now (start .args .out))) × (start .args .modify ≡ true → start .args .at + 16 ≤ length (now (start .args .out)))
+  room = payload-room (start .args .on) (start .args .modify) _ _ (start .pre .1) wanted
+
 write-be-requires : tie.Need-write-be-requires
-write-be-requires c κs = let r = payload-room (c .before .before .before .args .on) (c .before .before .before .args .modify) _ _ (c .before .before .before .pre .1) (not-false _ (c .before .if1 .left)) .0 in (omega arith, omega arith)
+write-be-requires c κs = let r = room (c .before) .0 in (omega arith, omega arith)
 
 write-be-requires-2 : tie.Need-write-be-requires-2
-write-be-requires-2 c κs = let r = payload-room (c .before .before .before .before .before .before .before .before .args .on) (c .before .before .before .before .before .before .before .before .args .modify) _ _ (c .before .before .before .before .before .before .before .before .pre .1) (not-false _ (c .before .before .before .before .before .before .if1 .left)) .0 in (omega arith, omega arith)
+write-be-requires-2 c κs = let r = room (c .before .before .before .before .before .before) .0 in (omega arith, omega arith)
 
 write-be-requires-3 : tie.Need-write-be-requires-3
-write-be-requires-3 c κs = let r = payload-room (c .before .before .before .before .before .before .before .before .before .before .before .before .args .on) (c .before .before .before .before .before .before .before .before .before .before .before .before .args .modify) _ _ (c .before .before .before .before .before .before .before .before .before .before .before .before .pre .1) (not-false _ (c .before .before .before .before .before .before .before .before .before .before .if1 .left)) .1 (c .before .before .before .before .before .if2 .taken) in (omega arith, omega arith)
+write-be-requires-3 c κs =
+    let t = c .before .before .before .before .before in
+    let r = room (t .before .before .before .before .before) .1 (t .if2 .taken) in
+    (omega arith, omega arith)
 
 returns-2 : tie.Need-returns-2
 unfolding choose
-returns-2 c = let on = not-false (c .before .before .before .before .before .before .before .before .before .before .before .before .before .before .before .args .on) (c .before .before .before .before .before .before .before .before .before .before .before .before .before .if1 .left) in
-    let r = payload-room (c .before .before .before .before .before .before .before .before .before .before .before .before .before .before .before .args .on) (c .before .before .before .before .before .before .before .before .before .before .before .before .before .before .before .args .modify) _ _ (c .before .before .before .before .before .before .before .before .before .before .before .before .before .before .before .pre .1) on .0 in
-    rw (on, c .before .before .before .before .before .before .before .before .if2 .taken) (modify-put _ _ _ _ _ _ r (c .before .before .before .before .before .before .before .before .before .before .before .write-be .ensures) _ (c .before .before .before .before .before .before .write-be2 .ensures) (c .before .before .write-be3 .ensures))
+returns-2 c =
+    let w = c .before .before in
+    let v = w .before .before .before .before in
+    let t = v .before .before in
+    let u = t .before .before .before in
+    let e = u .before .before in
+    rw (wanted e, t .if2 .taken) (modify-put _ _ _ _ _ _ (room e .0) (u .write-be .ensures) _ (v .write-be2 .ensures) (w .write-be3 .ensures))
 
 write-be-requires-4 : tie.Need-write-be-requires-4
-write-be-requires-4 c κs = let r = payload-room (c .before .before .before .before .before .before .before .before .before .before .before .before .args .on) (c .before .before .before .before .before .before .before .before .before .before .before .before .args .modify) _ _ (c .before .before .before .before .before .before .before .before .before .before .before .before .pre .1) (not-false _ (c .before .before .before .before .before .before .before .before .before .before .if1 .left)) .0 in (omega arith, omega arith)
+write-be-requires-4 c κs =
+    let t = c .before .before .before .before .before .before in
+    let r = room (t .before .before .before .before .before) .0 in
+    (omega arith, omega arith)
 
 returns-3 : tie.Need-returns-3
 unfolding choose
-returns-3 c = let on = not-false (c .before .before .before .before .before .before .before .before .before .before .before .before .before .before .before .args .on) (c .before .before .before .before .before .before .before .before .before .before .before .before .before .if1 .left) in
-    let r = payload-room (c .before .before .before .before .before .before .before .before .before .before .before .before .before .before .before .args .on) (c .before .before .before .before .before .before .before .before .before .before .before .before .before .before .before .args .modify) _ _ (c .before .before .before .before .before .before .before .before .before .before .before .before .before .before .before .pre .1) on .0 in
-    rw (on, c .before .before .before .before .before .before .before .before .if2 .left)
-    (register-put _ _ _ _ _ (c .before .before .before .before .before .before .before .before .before .before .before .before .before .before .before .args .p) r (c .before .before .before .before .before .before .before .before .before .before .before .write-be .ensures)
-    (rw (c .before .before .before .wide .ensures .0, c .before .before .before .before .before .before .before .flag-of .ensures .0, c .before .before .before .before .before .before .flag-of2 .ensures .0, c .before .before .before .before .before .flag-of3 .ensures .0) at (c .before .before .write-be4 .ensures)) (c .before .before .before .before .before .before .before .before .before .before .before .before .before .before .before .pre .0))
+returns-3 c =
+    let w = c .before .before in
+    let i = w .before in
+    let f = i .before .before .before in
+    let t = f .before .before .before in
+    let u = t .before .before .before in
+    let e = u .before .before in
+    rw (wanted e, t .if2 .left)
+    (register-put _ _ _ _ _ (start e .args .p) (room e .0) (u .write-be .ensures)
+    (rw (i .wide .ensures .0, f .before .before .flag-of .ensures .0, f .before .flag-of2 .ensures .0, f .flag-of3 .ensures .0) at (w .write-be4 .ensures)) (start e .pre .0))
 
 pub put-payload-spec : {M : Type 1} → statement M
 put-payload-spec =

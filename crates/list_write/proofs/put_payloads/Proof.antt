@@ -1,4 +1,4 @@
--- `write::put_payloads` meets its contract: the payloads one behind the other.
+-- `list_write::put_payloads` meets its contract: the payloads one behind the other.
 use borrow.Author.Needs.{needs}
 use Rattle.list_write.proofs.Laws.{payloads-put}
 use Rattle.list_write.proofs.put_payloads.Statement.{statement}

@@ -1,4 +1,4 @@
--- `list_parts::put_slot` meets its contract, by its test.
+-- `list_write::put_slot` meets its contract, by its test.
 use native.Mathlib.Omega.{arith}
 use borrow.Author.Needs.{needs}
 use Rattle.rules.specs.Bytes.{choose}

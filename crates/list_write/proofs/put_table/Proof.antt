@@ -1,4 +1,4 @@
--- `write::put_table` meets its contract: the other entries behind those of the adapters.
+-- `list_write::put_table` meets its contract: the other entries behind those of the adapters.
 use native.Mathlib.Omega.{arith}
 use borrow.Author.Needs.{needs}
 use Rattle.list_write.specs.Write.{adapterEntries, otherEntries}

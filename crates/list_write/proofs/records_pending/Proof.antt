@@ -1,4 +1,4 @@
--- `write::records_pending` meets its contract: every slot and both single records have 72 bytes.
+-- `list_write::records_pending` meets its contract: every slot and both single records have 72 bytes.
 use native.Mathlib.Omega.{arith}
 use borrow.Author.Needs.{needs}
 use Rattle.list_write.proofs.Laws.{whole-listing}

@@ -1,4 +1,4 @@
--- `list_parts::size_if` meets its contract, by its test.
+-- `list_write::size_if` meets its contract, by its test.
 use native.Mathlib.Omega.{arith}
 use borrow.Author.Needs.{needs}
 use Rattle.list_write.proofs.size_if.Statement.{statement}

@@ -1,4 +1,4 @@
--- `write::write_list` meets its contract: the length is computed first, and the parts are put one behind the other.
+-- `list_write::write_list` meets its contract: the length is computed first, and the parts are put one behind the other.
 use Prim.Native.Nat.{_+_, _*_}
 use mathlib.Core.Path.{_≡_, refl, sym, _∙_}
 use mathlib.Core.List.{List}

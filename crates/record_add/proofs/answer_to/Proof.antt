@@ -1,4 +1,4 @@
--- `records::answer_to` meets its contract, by the check and the room.
+-- `record_add::answer_to` meets its contract, by the check and the room.
 use Prim.Native.Nat.{_+_}
 use mathlib.Core.Path.{sym, ap, _∙_}
 use native.Mathlib.Omega.{arith}

@@ -1,4 +1,4 @@
--- `outgoing::hand` meets its contract. Assumes nothing.
+-- `record_take::hand` meets its contract. Assumes nothing.
 use borrow.Author.Needs.{needs}
 use mathlib.Core.Path.{_≡_, _∙_}
 use native.Mathlib.Omega.{arith}

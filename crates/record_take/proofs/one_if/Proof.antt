@@ -1,4 +1,4 @@
--- `outgoing::one_if` meets its contract. Assumes nothing.
+-- `record_take::one_if` meets its contract. Assumes nothing.
 use native.Mathlib.Omega.{arith}
 use mathlib.Core.Path.{sym}
 use Rattle.rules.proofs.Checks.{chosen, passed}

@@ -25,6 +25,7 @@ use numbers::AISM_ALL;
 use numbers::APF_DISABLE_WAIT;
 use numbers::APF_ENABLE;
 use numbers::AdapterId;
+use numbers::NO_ADAPTER;
 use numbers::Subclass;
 
 // An answer, with the device record and the adapter place as they are then.
@@ -44,17 +45,17 @@ pub fn with_answer(answer: Answer, device: Device, place: Place) -> Reply
     }
 }
 
-// The id in a payload, or 2^32, an id that no table has, where the payload is too short for one.
+// The id in a payload. A payload too short for one names no adapter.
 pub fn payload_id(payload: &[u8]) -> AdapterId
     ensures { λ r. ⌜ r .0 ≡ payloadId (now (payload .entry)) ⌝ }
 {
     if payload.len() < 4 {
-        return AdapterId(4294967296);
+        return AdapterId(NO_ADAPTER);
     }
     AdapterId(numbers::read_be(payload, 0, 4))
 }
 
-// The adapter that a set request is about; 2^32, an id that no table has, where it is about none.
+// The adapter that a set request is about, if it is about one.
 pub fn about(group: u32, attr: u64, payload: &[u8]) -> AdapterId
     ensures { λ r. ⌜ r .0 ≡ aboutOf group attr (now (payload .entry)) ⌝ }
 {
@@ -64,7 +65,7 @@ pub fn about(group: u32, attr: u64, payload: &[u8]) -> AdapterId
     if on_place(group) {
         return payload_id(payload);
     }
-    AdapterId(4294967296)
+    AdapterId(NO_ADAPTER)
 }
 
 // Whether a set request is about an adapter's place: REGISTER, MODIFY.

@@ -65,7 +65,11 @@ pub fn inject(
     let next = adapters::after_injection(ais, device, place);
     let what = adapters::inject(ais, device, place, full);
     match what {
-        Injection::NoAdapter => adapter_requests::with_answer(answers::refuse(EINVAL), device, place),
+        Injection::NoAdapter => adapter_requests::with_answer(
+            answers::refuse(EINVAL),
+            device,
+            place,
+        ),
         Injection::Dropped => adapter_requests::with_answer(answers::accept(0), device, place),
         Injection::Full => adapter_requests::with_answer(answers::refuse(EBUSY), device, place), // nimm stays
         Injection::Appended(isc) => {

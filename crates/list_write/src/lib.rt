@@ -99,7 +99,12 @@ fn put_payload(out: &mut [u8], on: bool, at: usize, id: AdapterId, p: Place, mod
         + list_form::flag_of(p.swap) * 256
         + list_form::flag_of(p.suppressible);
     let isc = p.isc;
-    numbers::write_be(out, at + 4, 4, numbers::wide(isc.0) * 16777216 + flags);
+    numbers::write_be(
+        out,
+        at + 4,
+        4,
+        numbers::subclass_byte(isc) * 16777216 + flags,
+    );
 }
 
 // How many adapters have an entry.

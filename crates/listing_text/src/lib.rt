@@ -109,7 +109,7 @@ fn write_io(out: &mut [u8], at: usize, isc: Subclass, t: u64, w: u64) -> usize
     ensures { λ r. ⌜ Wrote (now (out .entry)) (now (out .exit)) at (line (ascii "io" ∷ decimal (isc .0) ∷ hex8 t ∷ hex8 w ∷ [])) r × (r ≡ at + 23) ⌝ }
 {
     let i = append(out, at, b"io ");
-    let j = write_decimal(out, i, numbers::wide(isc.0), b" ");
+    let j = write_decimal(out, i, numbers::subclass_byte(isc), b" ");
     let k = write_hex8(out, j, t, b" ");
     write_hex8(out, k, w, b"\n")
 }
@@ -198,13 +198,7 @@ pub fn print_list(input: &[u8], out: &mut [u8; TEXT_BYTES]) -> usize
     let mut order = [0u8; ORDER_BYTES];
     let mut counts = [0usize; COUNTS];
     let mut singles = [0u8; SINGLES_BYTES];
-    let played = list_fresh::play_fresh(
-        &mut slots,
-        &mut order,
-        &mut counts,
-        &mut singles,
-        input,
-    );
+    let played = list_fresh::play_fresh(&mut slots, &mut order, &mut counts, &mut singles, input);
     let code = played.code;
     if code != 0 {
         return write_refusal(out, code);

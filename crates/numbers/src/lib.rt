@@ -58,6 +58,9 @@ pub const SINGLES_BYTES: usize = 2 * 72 + 2;
 // An adapter's id: a place in the adapter table, and nothing else.
 pub struct AdapterId(pub u64);
 
+// 2^32: an id that no table has. A request that is about no adapter is looked up under it.
+pub const NO_ADAPTER: u64 = 4294967296;
+
 // An interruption subclass, 0 to 7: it alone names an I/O queue or a bit of a mask.
 #[repr(C)]
 pub struct Subclass(pub u8);
@@ -72,6 +75,13 @@ pub fn wide(x: u8) -> u64
     ensures { λ r. ⌜ (r ≡ x) × (r < 256) ⌝ }
 {
     x as u64
+}
+
+// A subclass as a list's writer and the listing program write it.
+pub fn subclass_byte(isc: Subclass) -> u64
+    ensures { λ r. ⌜ (r ≡ isc .0) × (r < 256) ⌝ }
+{
+    wide(isc.0)
 }
 
 pub fn index(x: u8) -> usize

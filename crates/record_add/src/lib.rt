@@ -235,5 +235,12 @@ pub fn append_interrupt(
     ensures pending { λ _. ⌜ ((singles : List ℕ) → pendingOf (now (order .exit)) (now (counts .exit)) (now (slots .exit)) singles ≡ addIo (isc .0) (adapterInterrupt (isc .0)) (pendingOf (now (order .entry)) (now (counts .entry)) (now (slots .entry)) singles)) ⌝ }
     ensures held { λ _. ⌜ HeldAfter order counts ⌝ }
 {
-    store_queues::append(slots, order, counts, store_queues::of(isc), n, interrupt(isc));
+    store_queues::append(
+        slots,
+        order,
+        counts,
+        store_queues::of(isc),
+        n,
+        interrupt(isc),
+    );
 }

@@ -17,13 +17,13 @@ use answers::Answer;
 use answers::EFAULT;
 use answers::EINVAL;
 use answers::ENOMEM;
-use store_search::Found;
 use numbers::COUNTS;
 use numbers::ORDER_BYTES;
 use numbers::Queue;
 use numbers::SINGLES_BYTES;
 use numbers::SLOT_BYTES;
 use numbers::Subchannel;
+use store_search::Found;
 
 fn one_if(t: bool) -> usize
     ensures { λ r. ⌜ (r ≡ choose t 1 0) × (r ≤ 1) ⌝ }
@@ -136,7 +136,8 @@ pub fn clear_io(
     if word == 0 {
         return answers::refuse(EINVAL);
     }
-    let Found::At(isc, at) = store_search::find(slots, order, counts, 255, false, Subchannel(word)) else {
+    let Found::At(isc, at) = store_search::find(slots, order, counts, 255, false, Subchannel(word))
+    else {
         return answers::accept(0); // no record is for it
     };
     store_queues::remove(order, counts, store_queues::of(isc), at);
@@ -174,7 +175,8 @@ fn next_queued(
         return Next::At(store_queues::done(), 0);
     }
     let allowed = mask & store_queues::nonempty(counts);
-    let Found::At(isc, at) = store_search::find(slots, order, counts, allowed, true, Subchannel(0)) else {
+    let Found::At(isc, at) = store_search::find(slots, order, counts, allowed, true, Subchannel(0))
+    else {
         return Next::None;
     };
     Next::At(store_queues::of(isc), at)

@@ -3,8 +3,8 @@
 ghost use mathlib.Core.Path.{_≡_};
 ghost use Rattle.store_queues.specs.Queues.{Held};
 ghost use Rattle.adapters.specs.Values.{Canonical};
-use libc::STDOUT_FILENO;
 use adapter_requests::Reply;
+use libc::STDOUT_FILENO;
 use numbers::ADAPTER_REGISTER;
 use numbers::AIRQ_INJECT;
 use numbers::AISM;

@@ -8,8 +8,8 @@ use Rattle.listing_text.proofs.write_io.Statement.{statement}
 use Rattle.listing_text.proofs.write_io.Tie as tie
 
 -- a subclass is one digit
-one : (c : tie.After-wide) → digitCount (c .wide .result) (c .wide .result) ≡ 1
-one c = size-one (c .wide .result) (c .wide .result) (omega arith)
+one : (c : tie.After-subclass-byte) → digitCount (c .subclass-byte .result) (c .subclass-byte .result) ≡ 1
+one c = size-one (c .subclass-byte .result) (c .subclass-byte .result) (omega arith)
 
 write-decimal-requires : tie.Need-write-decimal-requires
 write-decimal-requires c κs = omega (arith, one (c .before))
@@ -33,7 +33,7 @@ returns c =
     let f = e .before .before in
     let g = f .before .before .before .before in
     let w = wrote-then (wrote-then (wrote-then (g .append .ensures) (e .write-decimal .ensures .0)) (d .write-hex8 .ensures .0)) (c .before .before .write-hex82 .ensures .0) in
-    (rw (← io-text) (rw (f .wide .ensures .0) at w), omega (arith, g .append .ensures .ends, e .write-decimal .ensures .1, one f))
+    (rw (← io-text) (rw (f .subclass-byte .ensures .0) at w), omega (arith, g .append .ensures .ends, e .write-decimal .ensures .1, one f))
 
 pub write-io-spec : {M : Type 1} → statement M
 write-io-spec =

@@ -92,101 +92,6 @@ pub fn on_records(group: u32) -> bool
     group == CLEAR_IO_IRQ
 }
 
-// A request that sets, about pending records alone: it touches neither the device record nor a place.
-pub fn set_records(
-    slots: &mut [u8; SLOT_BYTES],
-    order: &mut [u8; ORDER_BYTES],
-    counts: &mut [usize; COUNTS],
-    singles: &mut [u8; SINGLES_BYTES],
-    room: usize,
-    group: u32,
-    attr: u64,
-    payload: &[u8],
-) -> Answer
-    requires { ⌜ (room ≤ slotCount) × Held (now order) (now counts) × (onRecords group ≡ true) ⌝ }
-    ensures answer { λ r. ⌜ ((L : Limits) (s : State) → L .room ≡ room → s .pending ≡ before order counts slots singles → Answers L s (now (payload .entry)) (request L s (setRequest group) attr (now (payload .entry))) r (withPending (after order counts slots singles) s) (now (payload .entry))) ⌝ }
-    ensures held { λ _. ⌜ HeldAfter order counts ⌝ }
-    ensures kept { λ r. ⌜ ((r .code ≡ 0 → ⊥) → Stays slots × Stays order × Stays counts × Stays singles) ⌝ }
-{
-    if group == ENQUEUE {
-        let a = record_add::enqueue_irqs(slots, order, counts, singles, room, attr, payload);
-        return answers::by_fields(a);
-    }
-    if group == CLEAR_IRQS {
-        return record_take::clear_irqs(order, counts, singles, attr);
-    }
-    record_take::clear_io(slots, order, counts, attr, payload)
-}
-
-// Any other request that sets.
-pub fn set_others(
-    slots: &mut [u8; SLOT_BYTES],
-    order: &mut [u8; ORDER_BYTES],
-    counts: &mut [usize; COUNTS],
-    places: u64,
-    room: usize,
-    ais: bool,
-    device: Device,
-    place: Place,
-    group: u32,
-    attr: u64,
-    payload: &[u8],
-) -> Reply
-    requires { ⌜ (room ≤ slotCount) × Held (now order) (now counts) × Canonical place × (group ≡ 2 → ⊥) × (group ≡ 3 → ⊥) × (group ≡ 8 → ⊥) ⌝ }
-    ensures answer { λ r. ⌜ ((singles : List ℕ) → Replies places room ais device place (aboutOf group attr (now (payload .entry))) (now (payload .entry)) (λ L s. request L s (setRequest group) attr (now (payload .entry))) (pendingOf (now (order .entry)) (now (counts .entry)) (now (slots .entry)) singles) (pendingOf (now (order .exit)) (now (counts .exit)) (now (slots .exit)) singles) r) ⌝ }
-    ensures held { λ r. ⌜ HeldAfter order counts × Canonical (r .place) ⌝ }
-    ensures kept { λ r. ⌜ ((r .answer .code ≡ 0 → ⊥) → (r .device ≡ device) × (r .place ≡ place) × Stays slots × Stays order × Stays counts) ⌝ }
-    ensures change { λ r. ⌜ Within (changeOf group) place (r .place) ⌝ }
-{
-    if group == AIRQ_INJECT {
-        return inject(
-            slots,
-            order,
-            counts,
-            places,
-            room,
-            ais,
-            device,
-            place,
-            AdapterId(attr),
-        );
-    }
-    let r = adapter_requests::set_values(places, ais, device, place, group, attr, payload);
-    let answer = r.answer;
-    let modes = r.device;
-    let after = r.place;
-    adapter_requests::with_answer(
-        answers::by_fields(answer),
-        adapters::by_fields(modes),
-        after,
-    )
-}
-
-// A request that gets.
-pub fn get_request(
-    slots: &[u8; SLOT_BYTES],
-    order: &[u8; ORDER_BYTES],
-    counts: &[usize; COUNTS],
-    singles: &[u8; SINGLES_BYTES],
-    ais: bool,
-    device: Device,
-    group: u32,
-    attr: u64,
-    out: &mut [u8],
-) -> Answer
-    requires { ⌜ Held (now order) (now counts) ⌝ }
-    ensures answer { λ r. ⌜ ((L : Limits) (s : State) → s .ais ≡ ais → s .pending ≡ before order counts slots singles → s .device ≡ deviceOf device → Answers L s (now (out .entry)) (request L s (getRequest group) attr (now (out .entry))) r s (now (out .exit))) ⌝ }
-    ensures kept { λ r. ⌜ ((r .code ≡ 0 → ⊥) → Stays out) ⌝ }
-{
-    if group == GET_ALL_IRQS {
-        return record_take::get_all(slots, order, counts, singles, attr, out);
-    }
-    if group == AISM_ALL {
-        return adapter_requests::get_masks(ais, device, attr, out);
-    }
-    answers::refuse(EINVAL)
-}
-
 // A controller: the memory of its pending records, and its AIS capability.
 #[repr(C)]
 pub struct Controller {
@@ -291,7 +196,14 @@ pub fn answer_records(
     requires { ⌜ Held (now order) (now counts) × (onRecords group ≡ true) ⌝ }
     ensures { λ r. ⌜ ((ais : Bool) → Recorded group attr (controller (now (slots .entry)) (now (order .entry)) (now (counts .entry)) (now (singles .entry)) ais) (controller (now (slots .exit)) (now (order .exit)) (now (counts .exit)) (now (singles .exit)) ais) (now (payload .entry)) r) ⌝ }
 {
-    set_records(slots, order, counts, singles, ROOM, group, attr, payload)
+    if group == ENQUEUE {
+        let a = record_add::enqueue_irqs(slots, order, counts, singles, ROOM, attr, payload);
+        return answers::by_fields(a);
+    }
+    if group == CLEAR_IRQS {
+        return record_take::clear_irqs(order, counts, singles, attr);
+    }
+    record_take::clear_io(slots, order, counts, attr, payload)
 }
 
 // INJECT, on the controller's arrays, with the device record and the adapter's place by value. An injection of count 1 is still to be noted in the device record.
@@ -337,7 +249,13 @@ pub fn answer_get(
     requires { ⌜ Held (now order) (now counts) ⌝ }
     ensures { λ r. ⌜ Got group attr (controller (now (slots .entry)) (now (order .entry)) (now (counts .entry)) (now (singles .entry)) ais) device (now (out .entry)) (now (out .exit)) r ⌝ }
 {
-    get_request(slots, order, counts, singles, ais, device, group, attr, out)
+    if group == GET_ALL_IRQS {
+        return record_take::get_all(slots, order, counts, singles, attr, out);
+    }
+    if group == AISM_ALL {
+        return adapter_requests::get_masks(ais, device, attr, out);
+    }
+    answers::refuse(EINVAL)
 }
 
 // A take on the controller's arrays.

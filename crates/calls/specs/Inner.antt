@@ -10,7 +10,7 @@ use Rattle.rules.specs.State.{State, Pending, nothing, withPending}
 use Rattle.rules.specs.Requests.{airqInject, setRequest, getRequest, request}
 use Rattle.rules.specs.Outcome.{refuseWith}
 use Rattle.rules.specs.Take.{takes}
-use Rattle.rules.specs.MoveList.{writes, plays}
+use Rattle.rules.specs.MoveList.{plays}
 use Rattle.rules.specs.Invariant.{All}
 use Rattle.answers.specs.declared.Answer.{Answer}
 use Rattle.answers.specs.Answers.{Answers, answered}
@@ -64,12 +64,6 @@ pub record Replayed (c c′ : Controller) (b : List ℕ) (r : Started) : Type 0 
   pub answer : (s : State) → s .ais ≡ c .ais
       → Answers (limitsOf c) s b (plays (limitsOf c) s b) (r .answer) (choose (eqb (r .restored) 0) s (playedState (limitsOf c .places) c′ r)) b
   pub form : (s : State) → s .ais ≡ c .ais → (code count : ℕ) → plays (limitsOf c) s b ≡ refuseWith code count → r .restored ≡ 0
-
--- Writing a list, from an image of the table.
-pub record Wrote (c : Controller) (d : Device) (image b b′ : List ℕ) (r : Answer) : Type 0 where
-  pub answer : (s : State) → s .ais ≡ c .ais → s .adapters ≡ map placeOf (map unpacked image) → s .pending ≡ pendingIn c → s .device ≡ deviceOf d
-      → Answers (limitsOf c) s b (writes s b) r s b′
-  pub kept : (r .code ≡ 0 → ⊥) → b′ ≡ b
 
 -- A set request about pending records alone.
 pub record Recorded (group attr : ℕ) (c c′ : Controller) (b : List ℕ) (r : Answer) : Type 0 where

@@ -6,17 +6,15 @@ ghost use mathlib.Core.List.{List};
 ghost use Prim.Native.Nat.{ℕ, _≤_, _<_};
 ghost use lib.Dec.{leb, eqb};
 ghost use Rattle.rules.specs.Bytes.{choose};
-ghost use Rattle.rules.specs.State.{Limits, State, withPending};
-ghost use Rattle.rules.specs.Requests.{airqInject, setRequest, getRequest, request};
+ghost use Rattle.rules.specs.Requests.{airqInject, request};
 ghost use Rattle.store_queues.specs.Slots.{slotCount};
 ghost use Rattle.store_queues.specs.Queues.{total, Held};
-ghost use Rattle.answers.specs.Answers.{Answers};
 ghost use Rattle.store.specs.Memory.{pendingOf};
-ghost use Rattle.adapters.specs.Values.{deviceOf, Canonical, injectionOf, injectedDevice};
+ghost use Rattle.adapters.specs.Values.{Canonical, injectionOf, injectedDevice};
 ghost use Rattle.calls.specs.Cases.{answerFor, onRecords};
-ghost use Rattle.adapter_requests.specs.States.{aboutOf, Replies, changeOf, Within};
-ghost use Rattle.calls.specs.Inner.{controller, Began, Replayed, Wrote, Recorded, Injected, Got, Handed};
-ghost use Rattle.store.specs.Lent.{before, after, HeldAfter, Stays};
+ghost use Rattle.adapter_requests.specs.States.{Replies};
+ghost use Rattle.calls.specs.Inner.{controller, Began, Replayed, Recorded, Injected, Got, Handed};
+ghost use Rattle.store.specs.Lent.{HeldAfter, Stays};
 use adapter_requests::Reply;
 use adapters::Device;
 use adapters::Injection;
@@ -24,7 +22,6 @@ use adapters::Place;
 use answers::Answer;
 use answers::EBUSY;
 use answers::EINVAL;
-use numbers::AIRQ_INJECT;
 use numbers::AISM_ALL;
 use numbers::AdapterId;
 use numbers::CLEAR_IO_IRQ;
@@ -164,23 +161,6 @@ pub fn replay(
         restored: r.restored,
         image: places,
     }
-}
-
-// A move list is written from the controller's arrays, the device record by value and an image of the table.
-pub fn write_from(
-    slots: &[u8; SLOT_BYTES],
-    order: &[u8; ORDER_BYTES],
-    counts: &[usize; COUNTS],
-    singles: &[u8; SINGLES_BYTES],
-    ais: bool,
-    device: Device,
-    image: [u8; PLACES],
-    out: &mut [u8],
-) -> Answer
-    requires { ⌜ Held (now order) (now counts) ⌝ }
-    ensures { λ r. ⌜ Wrote (controller (now (slots .entry)) (now (order .entry)) (now (counts .entry)) (now (singles .entry)) ais) device image (now (out .entry)) (now (out .exit)) r ⌝ }
-{
-    list_write::write_list(slots, order, counts, singles, ais, device, image, out)
 }
 
 // A set request about pending records alone, on the controller's arrays.

@@ -24,6 +24,8 @@ use Rattle.adapters.specs.declared.Device.{Device}
 use Rattle.adapters.specs.declared.Place.{Place}
 use Rattle.adapters.specs.Values.{placeOf, deviceOf, unused, Canonical}
 use Rattle.list_image.specs.Image.{imageSize, unpacked}
+use Rattle.list_image.proofs.Laws.{places-all}
+use Rattle.list_write.specs.Write.{Written}
 use Rattle.list_image.proofs.Packed.{unpacked-zero, unpacked-table}
 use Rattle.lent_table.specs.Table.{snapTo, restored}
 use Rattle.lent_requests.specs.Requests.{ModesSet, PlaceSet}
@@ -35,7 +37,7 @@ use Rattle.calls.specs.declared.Started.{Started}
 use Rattle.calls.specs.Limits.{limitsOf}
 use Rattle.calls.proofs.Limits.{limits-sized, limits-made, limits-kept}
 use Rattle.flic.specs.Surface.{stateOf, Valid, Steps, Made, Requested, Taken}
-use Rattle.calls.specs.Inner.{pendingIn, Began, playedState, Replayed, Wrote, Recorded, notedIn, Injected, Got, Handed}
+use Rattle.calls.specs.Inner.{pendingIn, Began, playedState, Replayed, Recorded, notedIn, Injected, Got, Handed}
 use Rattle.answers.specs.Answers.{answered, saw}
 
 -- a state that a step leads to is sound
@@ -247,13 +249,13 @@ module _ (ais : Bool) (c c′ : Controller) (d : Device) (t : List Place) (r : S
       }
 
 -- ---- move lists, with the right table
-module _ (c : Controller) (d : Device) (t : List Place) (b b′ : List ℕ) (r : Answer) (e : length t ≡ limitsOf c .places) (h : Valid c d t) (f : Wrote c d (snapTo t imageSize) b b′ r) where
+module _ (c : Controller) (d : Device) (t : List Place) (b b′ : List ℕ) (r : Answer) (e : length t ≡ limitsOf c .places) (h : Valid c d t) (f : Written (c .ais) d (snapTo t imageSize) (pendingIn c) b b′ r) where
   imaged : map placeOf t ≡ map placeOf (map unpacked (snapTo t imageSize))
   imaged = sym (ap (λ (l : List ℕ). map placeOf (map unpacked l)) (snap-all t (e ∙ limits-sized c .places)) ∙ ap (map placeOf) (unpacked-table t (h .places)))
 
   write-steps : Steps writeList c c d d t t b (saw r b′)
   unfolding step outcome stateOf
-  write-steps = ap (answerOf (limitsOf c) (stateOf c d t) b) (right-table (limitsOf c) (length t) 14 _ e) ∙ f .answer (stateOf c d t) refl imaged refl refl
+  write-steps = ap (answerOf (limitsOf c) (stateOf c d t) b) (right-table (limitsOf c) (length t) 14 _ e) ∙ f .answer _ (stateOf c d t) refl (imaged ∙ sym (places-all (snapTo t imageSize))) refl refl
 
   pub write-promises : Requested writeList c c d d t t b (saw r b′)
   write-promises =

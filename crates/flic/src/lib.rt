@@ -157,7 +157,7 @@ pub extern "C" fn flic_write_list(c: &Controller, d: &Device, t: &[Place], out: 
     }
     let device = lent_table::read_device(d);
     let image = lent_table::snapshot(t);
-    calls::write_from(
+    list_write::write_list(
         &c.slots,
         &c.order,
         &c.counts,

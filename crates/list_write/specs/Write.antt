@@ -6,11 +6,16 @@ use mathlib.Core.List.{List, [], _∷_, _++_, flatten}
 use lib.ListN.{length}
 use lib.Dec.{ltb}
 use Rattle.rules.specs.Bytes.{choose}
-use Rattle.rules.specs.State.{Record, recordBytes}
-use Rattle.rules.specs.MoveList.{ListRequest, oneIf, enqueueRequest, apfRequest}
+use Rattle.rules.specs.State.{Limits, State, Pending, Record, recordBytes}
+use Rattle.rules.specs.MoveList.{ListRequest, oneIf, enqueueRequest, apfRequest, writes}
 use Rattle.list_write.specs.Parts.{each}
 use Rattle.list_write.specs.declared.Parts.{Parts}
+use Rattle.answers.specs.declared.Answer.{Answer}
+use Rattle.answers.specs.Answers.{Answers}
+use Rattle.adapters.specs.declared.Device.{Device}
+use Rattle.adapters.specs.Values.{deviceOf}
 use Rattle.list_image.specs.Image.{imageSize}
+use Rattle.list_image.specs.Places.{placesOf}
 use Rattle.store_queues.specs.Slots.{mostPending}
 
 -- AISM_ALL, where it is written
@@ -56,3 +61,9 @@ pub record Counted (image : List ℕ) (p : Parts) : Type 0 where
 pub record Whole (rs : List Record) (n : ℕ) : Type 0 where
   pub count : length rs ≡ n
   pub size : length (flatten rs) ≡ recordBytes * n
+
+-- writing a list, of what is pending, with the table as an image and the device record by value
+pub record Written (ais : Bool) (d : Device) (image : List ℕ) (p : Pending) (b b′ : List ℕ) (r : Answer) : Type 0 where
+  pub answer : (L : Limits) (s : State) → s .ais ≡ ais → s .adapters ≡ placesOf image → s .pending ≡ p → s .device ≡ deviceOf d
+      → Answers L s b (writes s b) r s b′
+  pub kept : (r .code ≡ 0 → ⊥) → b′ ≡ b

@@ -4,20 +4,17 @@ ghost use mathlib.Core.List.{[], List, _∷_, flatten};
 ghost use Prim.Native.Nat.{_+_, _*_, _≤_, ℕ};
 ghost use lib.ListN.{length};
 ghost use Rattle.rules.specs.Bytes.{choose};
-ghost use Rattle.rules.specs.MoveList.{oneIf, tableEntryBytes, payloads, writtenTable, headerBytes, payloadOffset, writes};
+ghost use Rattle.rules.specs.MoveList.{oneIf, tableEntryBytes, payloads, writtenTable, headerBytes, payloadOffset};
 ghost use Rattle.list_write.specs.Parts.{put, five, each, isWritten, groupOf, sizeOf, payloadOf};
 ghost use Rattle.list_image.specs.Image.{imageSize};
 ghost use mathlib.Core.Bool.{_&&_, _||_};
-ghost use Rattle.rules.specs.State.{Limits, State, Record, recordBytes, listing};
+ghost use Rattle.rules.specs.State.{Record, recordBytes, listing};
 ghost use Rattle.rules.specs.Requests.{nonZero};
-ghost use Rattle.answers.specs.Answers.{Answers};
 ghost use Rattle.store_queues.specs.Queues.{Held};
 ghost use Rattle.store.specs.Memory.{pendingOf};
-ghost use Rattle.adapters.specs.Values.{deviceOf};
-ghost use Rattle.list_image.specs.Places.{placesOf};
-ghost use Rattle.list_write.specs.Write.{adapterEntries, otherEntries, entriesFrom, otherCount, countOf, bytesOf, mostEntries, mostPayload, Counted, Whole};
+ghost use Rattle.list_write.specs.Write.{adapterEntries, otherEntries, entriesFrom, otherCount, countOf, bytesOf, mostEntries, mostPayload, Counted, Whole, Written};
 ghost use Rattle.store_queues.specs.Slots.{slotCount, mostPending};
-ghost use Rattle.store.specs.Lent.{before, Stays};
+ghost use Rattle.store.specs.Lent.{before};
 use adapters::Device;
 use adapters::Place;
 use answers::Answer;
@@ -309,8 +306,7 @@ pub fn write_list(
     out: &mut [u8],
 ) -> Answer
     requires { ⌜ Held (now order) (now counts) ⌝ }
-    ensures answer { λ r. ⌜ ((L : Limits) (s : State) → s .ais ≡ ais → s .adapters ≡ placesOf image → s .pending ≡ before order counts slots singles → s .device ≡ deviceOf device → Answers L s (now (out .entry)) (writes s (now (out .entry))) r s (now (out .exit))) ⌝ }
-    ensures kept { λ r. ⌜ ((r .code ≡ 0 → ⊥) → Stays out) ⌝ }
+    ensures { λ r. ⌜ Written ais device image (before order counts slots singles) (now (out .entry)) (now (out .exit)) r ⌝ }
 {
     let p = Parts {
         registers: count(image, false),

@@ -26,7 +26,8 @@ use Rattle.lent_table.proofs.Record.{ReadDevice}
 use Rattle.lent_table.proofs.Calls.{Snapshot, snapshots-shared}
 use Rattle.calls.specs.declared.Controller.{Controller}
 use Rattle.flic.specs.Surface.{Valid, Requested}
-use Rattle.calls.specs.Inner.{Wrote}
+use Rattle.list_write.specs.Write.{Written}
+use Rattle.calls.specs.Inner.{pendingIn}
 use Rattle.calls.proofs.Controller as C
 use Rattle.flic.proofs.Promises.{write-promises, wrong-promises}
 use Rattle.lent_table.proofs.Locals.{Content, blank, holds, since, locals, frees-all, swaps, holds-false, not-not}
@@ -42,9 +43,9 @@ use Rattle.lent_table.proofs.read_device.Symbol as read-device-def
 use Rattle.lent_table.proofs.read_device.Met as read-device-thm
 use Rattle.lent_table.proofs.snapshot.Symbol as snapshot-def
 use Rattle.lent_table.proofs.snapshot.Met as snapshot-thm
-use Rattle.calls.proofs.write_from as write-from
-use Rattle.calls.proofs.write_from.Symbol as write-from-def
-use Rattle.calls.proofs.write_from.Met as write-from-thm
+use Rattle.list_write.proofs.write_list as write-list
+use Rattle.list_write.proofs.write_list.Symbol as write-list-def
+use Rattle.list_write.proofs.write_list.Met as write-list-thm
 use Rattle.flic.proofs.flic_write_list.Key.{name as #key}
 use Rattle.flic.proofs.flic_write_list as f
 use Rattle.flic.proofs.flic_write_list.Statement as stated
@@ -56,15 +57,15 @@ abbrev stayed : Stays (f.ended .signature .params) (f.ended .kept)
 stayed = (stay-dropped (shrRefTo (0 ∷ []) tt (plain (λ _. C.the-row))) yes, (stay-dropped (shrRefTo (1 ∷ []) tt (plain (λ _. D.the-row))) yes, (stay-dropped (shrSliceOf (2 ∷ []) tt (plain (λ _. P.the-row))) yes, (gave-slice (3 ∷ []) tt (plain (λ _. u8)), tt))))
 
 module _ {M : Type 1} (𝓤 : URA M) (H : Heap 𝓤) (A : Atoms 𝓤) (mem′ : Memory → SProp 𝓤) (run : Routine → Fun 𝓤) where
-  abbrev WriteFrom : Contract 𝓤
-  WriteFrom = tripleOf 𝓤 H A write-from.signature (write-from.spec 𝓤 H A mem′ run)
+  abbrev WriteList : Contract 𝓤
+  WriteList = tripleOf 𝓤 H A write-list.signature (write-list.spec 𝓤 H A mem′ run)
 
   -- what is known of the four callees
   pub record Known (C′ : Calls 𝓤 H) : Type 1 where
     pub refuse : Triple 𝓤 (C′ refuse-def.name) (Refuse 𝓤 H A mem′ run)
     pub read-device : Triple 𝓤 (C′ read-device-def.name) (ReadDevice 𝓤 H A mem′ run)
     pub snapshot : Triple 𝓤 (C′ snapshot-def.name) (Snapshot 𝓤 H A mem′ run)
-    pub write-from : Triple 𝓤 (C′ write-from-def.name) WriteFrom
+    pub write-list : Triple 𝓤 (C′ write-list-def.name) WriteList
 
 module _ {M : Type 1} (𝓤 : URA M) (H : Heap 𝓤) (A : Atoms 𝓤) (W : Given 𝓤 H A) (mem′ : Memory → SProp 𝓤) (run : Routine → Fun 𝓤) (a : Refs) (κo : Lft) (qo : Share) (bo oo : ℕ) (γo : GName) (bytes : List ℕ)
     (room : Room P.the-row (length (a .t))) (room-o : Room u8 (length bytes)) (valid : length (a .t) ≡ limitsOf (a .c) .places → Valid (a .c) (a .d) (a .t)) where
@@ -96,7 +97,7 @@ module _ {M : Type 1} (𝓤 : URA M) (H : Heap 𝓤) (A : Atoms 𝓤) (W : Given
       nothing ! $ move ! (4 ∷ 0 ∷ []) $ join ! $ move ! (3 ∷ 0 ∷ []) $ join ! $ move ! (2 ∷ 0 ∷ []) $ join ! $ move ! (1 ∷ 0 ∷ []) $ join ! $ frame ! $
       nothing ! $ move ! (1 ∷ 0 ∷ []) $ fjoin ! $ nothing ! $ fjoin ! $ nothing ! $ fjoin ! $ nothing ! $ fjoin ! $ frame ! $ owned ! An.the-row (Is An.the-row) (LL.makes An.the-type An′.the-plain 𝓤 H A) z _ is $ done !
 
-  -- ---- the call of `write_from`: after the arrays it takes three values and the bytes
+  -- ---- the call of `write_list`: after the arrays it takes three values and the bytes
   abbrev T : Item 𝓤
   T = ‵ (flft κo qo) ⊛ ‵ ftrue
 
@@ -112,10 +113,10 @@ module _ {M : Type 1} (𝓤 : URA M) (H : Heap 𝓤) (A : Atoms 𝓤) (W : Given
   abbrev Leaves : Y → Fml
   Leaves y = fsep ftrue (fsep ftrue (fsep ftrue (fsep (fsep (finally u8 γo (last y)) (feq ℕ (length (last y)) (length bytes))) ftrue)))
 
-  abbrev to-write : Loan → WriteFrom 𝓤 H A mem′ run .Ghost
+  abbrev to-write : Loan → WriteList 𝓤 H A mem′ run .Ghost
   to-write n = ((lent-lfts n (κo, tt), lent-shares (qo, tt), tt, lent-args n (a .c) (a .bc) (a .oc) (a .c .ais, (a .d, (snapTo (a .t) imageSize, (at-array bo oo γo bytes, tt)))), lent-vals (a .bc) (a .oc) (vbool (a .c .ais) ∷ [], (D′.lowered (a .d) ∷ [], (low-image (snapTo (a .t) imageSize) ∷ [], (out ∷ [], tt))))), tt)
 
-  goes : length (a .t) ≡ limitsOf (a .c) .places → (sh : Share) (n : Loan) → ent 𝓤 (⋆ 𝓤 H A (Toks n T ∷ ‵ (Lent (shared sh) n (a .c) (a .bc) (a .oc) O) ∷ [])) (WriteFrom 𝓤 H A mem′ run .pre (to-write n))
+  goes : length (a .t) ≡ limitsOf (a .c) .places → (sh : Share) (n : Loan) → ent 𝓤 (⋆ 𝓤 H A (Toks n T ∷ ‵ (Lent (shared sh) n (a .c) (a .bc) (a .oc) O) ∷ [])) (WriteList 𝓤 H A mem′ run .pre (to-write n))
   goes right sh n = qed W (Toks n T ∷ ‵ (Lent (shared sh) n (a .c) (a .bc) (a .oc) O) ∷ []) ∵ says ! (valid right .ready) $ done !
 
   module _ (C′ : Calls 𝓤 H) (Λ : Loops 𝓤 H) (fm : FmC 𝓤 H (W .laws) C′) (known : Known 𝓤 H A mem′ run C′) (l₀ l₁ l₂ l₃ l₄ l₅ l₆ l₇ l₈ l₉ l₁₀ l₁₁ l₁₂ l₁₃ l₁₄ : ℕ) where
@@ -136,7 +137,7 @@ module _ {M : Type 1} (𝓤 : URA M) (H : Heap 𝓤) (A : Atoms 𝓤) (W : Given
 
     module _ (right : length (a .t) ≡ limitsOf (a .c) .places) where
       -- the controller is shut
-      ends : (sh : Share) → Has (a .c) → (z : Answer) (v : Val) (y : Y) → Wrote (a .c) (a .d) (snapTo (a .t) imageSize) bytes (last y) z → Is An.the-row z (v ∷ [])
+      ends : (sh : Share) → Has (a .c) → (z : Answer) (v : Val) (y : Y) → Written (a .c .ais) (a .d) (snapTo (a .t) imageSize) (pendingIn (a .c)) bytes (last y) z → Is An.the-row z (v ∷ [])
           → Sq W (Open sh (T ∷ ‵ (Leaves y) ∷ ‵ (flft (a .κd) (a .qd)) ∷ ‵ (flft (a .κt) (a .qt)) ∷ locals E (held (holds v) (a .c .ais) 12) [])) (runs C′ Λ E mir.t-14 (atRet E Post))
       ends sh g z v y wrote is =
           shuts-ctl ! tt sh (a .c) g (a .bc) (a .oc) $ move ! (2 ∷ []) $ fsplit ! $ drop ! $ fsplit ! $ drop ! $ fsplit ! $ drop ! $ fsplit ! $ fsplit ! $ move ! (1 ∷ []) $ feqL ! (λ e.
@@ -148,7 +149,7 @@ module _ {M : Type 1} (𝓤 : URA M) (H : Heap 𝓤) (A : Atoms 𝓤) (W : Given
       calls-it sh g gd gi =
           nothing ! $ move ! (9 ∷ 0 ∷ []) $ fjoin ! $ owned ! Image (Is Image) (image-makes 𝓤 H A W) (snapTo (a .t) imageSize) _ gi $ fjoin ! $ owned ! D.the-row (Is D.the-row) (LL.makes D.the-type D′.the-plain 𝓤 H A) (a .d) _ gd $ fjoin ! $
           owned ! bool (Is bool) (bool-makes 𝓤 H A W) (a .c .ais) _ refl $ fjoin ! $ nothing ! $ move ! (10 ∷ 0 ∷ []) $ join ! $ move ! (2 ∷ 3 ∷ 4 ∷ 5 ∷ 0 ∷ 1 ∷ []) $
-          calls-four ! fm (WriteFrom 𝓤 H A mem′ run) (known .write-from) (shared sh) to-write (a .c) g (a .bc) (a .oc) An.the-row T O Leaves (λ z w. Wrote (a .c) (a .d) (snapTo (a .t) imageSize) bytes (last (w .1 .1 .1 .1)) z) (goes right sh) (λ n v. id⊢ 𝓤 _) (λ n i.
+          calls-four ! fm (WriteList 𝓤 H A mem′ run) (known .write-list) (shared sh) to-write (a .c) g (a .bc) (a .oc) An.the-row T O Leaves (λ z w. Written (a .c .ais) (a .d) (snapTo (a .t) imageSize) (pendingIn (a .c)) bytes (last (w .1 .1 .1 .1)) z) (goes right sh) (λ n v. id⊢ 𝓤 _) (λ n i.
           (and-then ! (load ! (from ! (stop !)) (look ! 28 refl)) (and-then ! (load ! (from ! (stop !)) (look ! 30 refl)) (and-then ! (load ! (from ! (stop !)) (look ! 32 refl)) (and-then ! (load ! (from ! (stop !)) (look ! 34 refl)) (and-then ! (load ! (from ! (stop !)) (look ! 26 refl)) (and-then ! (load ! (from ! (stop !)) (look ! 20 refl)) (and-then ! (load ! (from ! (stop !)) (look ! 22 refl)) (and-then ! (load ! (from ! (stop !)) (look ! 38 refl)) (no-more !)))))))))) (λ z v w wrote g′ is.
           land ! (from ! (stop !)) (init ! 11 refl (LL.lawful An.the-type An′.the-laws 𝓤 H A W .typed z _ is .0)) $ move ! (0 ∷ 1 ∷ 2 ∷ 3 ∷ 6 ∷ 7 ∷ 8 ∷ []) $ ends sh g z v (w .1 .1 .1 .1) wrote is)
 
@@ -229,5 +230,5 @@ flic-write-list-spec 𝓤 H 𝓜 𝓖 𝓡 =
       refuse = cited 𝓤 H (Refuse 𝓤 H (𝓖 .A) (𝓜 .mem) (𝓡 .run)) 𝓜 𝓡 code.env refuse-def.name refuse-def.routine code.calls-answers·refuse (refuse-thm.met 𝓤 H 𝓜 𝓖 𝓡);
       read-device = cited 𝓤 H (ReadDevice 𝓤 H (𝓖 .A) (𝓜 .mem) (𝓡 .run)) 𝓜 𝓡 code.env read-device-def.name read-device-def.routine code.calls-lent-table·read-device (read-device-thm.met 𝓤 H 𝓜 𝓖 𝓡);
       snapshot = cited 𝓤 H (Snapshot 𝓤 H (𝓖 .A) (𝓜 .mem) (𝓡 .run)) 𝓜 𝓡 code.env snapshot-def.name snapshot-def.routine code.calls-lent-table·snapshot (snapshot-thm.met 𝓤 H 𝓜 𝓖 𝓡);
-      write-from = cited 𝓤 H (WriteFrom 𝓤 H (𝓖 .A) (𝓜 .mem) (𝓡 .run)) 𝓜 𝓡 code.env write-from-def.name write-from-def.routine code.calls-calls·write-from (write-from-thm.met 𝓤 H 𝓜 𝓖 𝓡);
+      write-list = cited 𝓤 H (WriteList 𝓤 H (𝓖 .A) (𝓜 .mem) (𝓡 .run)) 𝓜 𝓡 code.env write-list-def.name write-list-def.routine code.calls-list-write·write-list (write-list-thm.met 𝓤 H 𝓜 𝓖 𝓡);
     }))

@@ -58,10 +58,10 @@ same-entries : (c : tie.After-has-masks) (s : State) → let a = c .before .befo
 same-entries c s e1 e2 e3 e4 = sym (entries-are s _ _ _ (c .before .before .before .before .before .before .before .args .device) _ e1 e2 e3 e4 (c .has-masks .ensures))
 
 returns : tie.Need-returns
-returns c = (
-  λ L s e1 e2 e3 e4. too-short L s _ _ _ _ (same-entries (c .before .before .before .before) s e1 e2 e3 e4) (total-is (c .before .before)) (c .before .if1 .taken) (c .refuse .ensures),
-  λ k. refl,
-)
+returns c = record {
+  answer = λ L s e1 e2 e3 e4. too-short L s _ _ _ _ (same-entries (c .before .before .before .before) s e1 e2 e3 e4) (total-is (c .before .before)) (c .before .if1 .taken) (c .refuse .ensures);
+  kept = λ k. refl;
+}
 
 put-payloads-requires : tie.Need-put-payloads-requires
 put-payloads-requires c κs =
@@ -72,11 +72,11 @@ returns-2 c =
     let a = c .before .before .before .before .before .before .before .before .before .before .before .before .before .before .before .before .before .before .before .before .before .before .before .before .args in
     let w = c .before .before .before .before .before .before .before .before .before .before .before .before .before .before .before .before .before .before .records-pending .ensures .0 in
     let g = list-put (a .ais) (wanted (c .before .before .before .before .before .before .before .before .before .before .before .before .before .before .before .before .before)) (a .out .now) _ _ _ _ _ (count-is (c .before .before .before .before .before .before .before .before .before .before .before .before .before .before .before .before)) (total-is (c .before .before .before .before .before .before .before .before .before .before .before .before .before .before .before)) (c .before .before .before .before .before .before .before .before .before .before .before .before .before .before .if1 .left)
-    (rw (c .before .before .before .before .before .before .before .before .before .before .before .before .before .flag-of .ensures .0) at (c .before .before .before .before .before .before .before .before .before .before .before .put-five .ensures)) (c .before .before .before .before .before .before .before .put-table .ensures _ (a .device .simm) (a .device .nimm) w) (c .before .before .before .put-payloads .ensures) in (
-      λ L s e1 e2 e3 e4.
-          written L s _ _ _ _ (same-entries (c .before .before .before .before .before .before .before .before .before .before .before .before .before .before .before .before .before) s e1 e2 e3 e4) (total-is (c .before .before .before .before .before .before .before .before .before .before .before .before .before .before .before)) _ (a .ais) e1 (c .before .before .before .before .before .before .before .before .before .before .before .before .before .before .if1 .left) (c .accept .ensures) g,
-      not-refused _ _ (c .accept .ensures),
-    )
+    (rw (c .before .before .before .before .before .before .before .before .before .before .before .before .before .flag-of .ensures .0) at (c .before .before .before .before .before .before .before .before .before .before .before .put-five .ensures)) (c .before .before .before .before .before .before .before .put-table .ensures _ (a .device .simm) (a .device .nimm) w) (c .before .before .before .put-payloads .ensures) in record {
+      answer = λ L s e1 e2 e3 e4.
+          written L s _ _ _ _ (same-entries (c .before .before .before .before .before .before .before .before .before .before .before .before .before .before .before .before .before) s e1 e2 e3 e4) (total-is (c .before .before .before .before .before .before .before .before .before .before .before .before .before .before .before)) _ (a .ais) e1 (c .before .before .before .before .before .before .before .before .before .before .before .before .before .before .if1 .left) (c .accept .ensures) g;
+      kept = not-refused _ _ (c .accept .ensures);
+    }
 
 pub write-list-spec : {M : Type 1} → statement M
 write-list-spec =

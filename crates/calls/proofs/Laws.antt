@@ -5,19 +5,16 @@ use mathlib.Core.Bool.{Bool}
 use mathlib.Core.List.{List, map}
 use lib.ListN.{take}
 use Rattle.rules.specs.Bytes.{choose}
-use Rattle.rules.specs.State.{Limits, State, Pending}
+use Rattle.rules.specs.State.{State, Pending}
 use Rattle.rules.specs.Invariant.{All}
-use Rattle.rules.specs.Outcome.{Outcome, tell}
+use Rattle.rules.specs.Outcome.{tell}
 use Rattle.rules.specs.Outcome.{Answer as Told}
 use Rattle.answers.specs.declared.Answer.{Answer}
 use Rattle.adapters.specs.declared.Device.{Device}
-use Rattle.adapters.specs.declared.Place.{Place}
 use Rattle.adapters.specs.Values.{placeOf, deviceOf, Canonical}
 use Rattle.list_image.specs.Image.{unpacked}
 use Rattle.list_image.proofs.Laws.{places-take}
 use Rattle.list_play.specs.Play.{stateOf as imageState}
-use Rattle.adapter_requests.specs.declared.Reply.{Reply}
-use Rattle.adapter_requests.specs.States.{Replies}
 use Rattle.calls.specs.declared.Started.{Started}
 
 -- so many places of an image
@@ -37,10 +34,3 @@ replayed-answer m n h s ais image b p device a q e =
     e
     ∙ (λ i. tell (a .code) (a .count)
     (choose q s (record { ais = ais; adapters = (places-take n image ∙ ap (λ (k : ℕ). map placeOf (map unpacked (take k image))) (sym h)) i; pending = p; device = deviceOf device })) b)
-
--- a reply with other names for its device record and its place
-pub replied-as : (places room : ℕ) (ais : Bool) (device : Device) (place : Place) (id : ℕ) (b : List ℕ) (o : Limits → State → Outcome State) (before after : Pending) (r : Reply) (d : Device)
-    → r .device ≡ d → r .place ≡ place → Replies places room ais device place id b o before after r
-    → Replies places room ais device place id b o before after (record { answer = r .answer; device = d; place = place })
-replied-as places room ais device place id b o before after r d e h f =
-    subst (Replies places room ais device place id b o before after) (λ i. record { answer = r .answer; device = e i; place = h i }) f

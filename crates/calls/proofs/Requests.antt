@@ -10,8 +10,8 @@ use borrow.Author.Tests.{lt-ltb, le-ltb, ne-eqb, eqb-true}
 use Rattle.rules.specs.Bytes.{choose}
 use Rattle.rules.specs.State as rules
 use Rattle.rules.specs.State.{Limits, Pending, State, withPending, addIo, queued}
-use Rattle.rules.specs.Outcome.{Outcome, refuse, accept, need_else_⨾_}
-use Rattle.rules.specs.Requests.{holding, noRequest, airqInject, setRequest, getRequest, injected, injects, adapterInterrupt, request}
+use Rattle.rules.specs.Outcome.{refuse, accept, need_else_⨾_}
+use Rattle.rules.specs.Requests.{holding, noRequest, airqInject, getRequest, injected, injects, adapterInterrupt, request}
 use Rattle.rules.specs.Requests.{underAis as rules-underAis}
 use Rattle.rules.proofs.Checks.{passes, fails, found, missing, chosen, passed}
 use Rattle.answers.specs.declared.Answer.{Answer}
@@ -22,10 +22,13 @@ use Rattle.adapters.specs.declared.Injection.{Injection}
 use Rattle.adapters.specs.declared.Injection.the-variants.{NoAdapter, Dropped, Full, Appended}
 use Rattle.adapters.specs.Values.{placeOf, deviceOf, adapterOf, underAis, injectedDevice}
 use Rattle.adapters.proofs.Laws.{place-used, place-free}
-use Rattle.adapter_requests.specs.declared.Reply.{Reply}
-use Rattle.adapter_requests.specs.States.{aboutOf, stateWith, Replies}
+use Rattle.adapter_requests.specs.States.{stateWith, Replies}
 use Rattle.adapter_requests.proofs.Laws.{as-it-was as held-values}
 use Rattle.numbers.specs.declared.Subclass.{Subclass}
+use Rattle.store_queues.specs.Queues.{Held}
+use Rattle.calls.specs.declared.Controller.{Controller}
+use Rattle.calls.specs.Limits.{limitsOf}
+use Rattle.calls.specs.Inner.{pendingIn, Injected}
 use Rattle.calls.specs.Cases.{onRecords}
 
 -- the state with other pending records, as the values stand for it
@@ -38,14 +41,6 @@ pub as-it-was : (s : State) (id : ℕ) (device : Device) (place : Place) (p : Pe
     → getD (s .adapters) id rules.free ≡ placeOf place → s ≡ stateWith s id (placeOf place) p (deviceOf device)
 as-it-was s id device place p q d e =
     (λ i. record { ais = s .ais; adapters = s .adapters; pending = q i; device = s .device }) ∙ with-values s id device place p d e
-
-module _ (places room : ℕ) (ais : Bool) (device : Device) (place : Place) (id : ℕ) (b : List ℕ) (o : Limits → State → Outcome State) (p₀ p₁ : Pending) where
-  -- a reply from its answer and its device record, the place as it was
-  pub replies : {a : Answer} {r : Reply} {device′ : Device} → r ≡ record { answer = a; device = device′; place = place }
-      → ((L : Limits) (s : State) → L .places ≡ places → L .room ≡ room → s .ais ≡ ais → s .pending ≡ p₀ → s .device ≡ deviceOf device
-      → getD (s .adapters) id rules.free ≡ placeOf place → Answers L s b (o L s) a (stateWith s id (placeOf place) p₁ (deviceOf device′)) b)
-      → Replies places room ais device place id b o p₀ p₁ r
-  replies er f = subst (Replies places room ais device place id b o p₀ p₁) (sym er) f
 
 -- ---- the cases of an injection
 module _ (i : Subclass) where
@@ -154,28 +149,32 @@ pub not-records : (g : ℕ) → onRecords g ≡ false → (g ≡ 2 → ⊥) × (
 unfolding onRecords
 not-records g e = (λ z. true≢false (sym (ap onRecords z) ∙ e), λ z. true≢false (sym (ap onRecords z) ∙ e), λ z. true≢false (sym (ap onRecords z) ∙ e))
 
--- a reply to the set request of one group number is one to that of an equal number; an answer to a get likewise
-pub as-set : {places room : ℕ} {ais : Bool} (device : Device) (place : Place) {b : List ℕ} {p₀ p₁ : Pending} (r : Reply) (attr k : ℕ) {g : ℕ} → g ≡ k
-    → Replies places room ais device place (aboutOf k attr b) b (λ L s. request L s (setRequest k) attr b) p₀ p₁ r
-    → Replies places room ais device place (aboutOf g attr b) b (λ L s. request L s (setRequest g) attr b) p₀ p₁ r
-as-set {places} {room} {ais} device place {b} {p₀} {p₁} r attr k e h =
-    subst (λ (x : ℕ). Replies places room ais device place (aboutOf x attr b) b (λ L s. request L s (setRequest x) attr b) p₀ p₁ r) (sym e) h
-
+-- an answer to the get request of one group number is one to that of an equal number
 pub as-get : (L : Limits) (s : State) (attr : ℕ) (b c : List ℕ) {a : Answer} (k : ℕ) {g : ℕ} → g ≡ k
     → Answers L s b (request L s (getRequest k) attr b) a s c → Answers L s b (request L s (getRequest g) attr b) a s c
 as-get L s attr b c {a} k e h = subst (λ (x : ℕ). Answers L s b (request L s (getRequest x) attr b) a s c) (sym e) h
 
--- a refused reply's answer is a refusal
-pub code-of : {a : Answer} {d : Device} {p : Place} {r : Reply} → r ≡ record { answer = a; device = d; place = p } → (r .answer .code ≡ 0 → ⊥) → a .code ≡ 0 → ⊥
-code-of er n e = n (ap (λ (x : Reply). x .answer .code) er ∙ e)
-
--- the device record of a reply: an injection that was appended, of count 1, is noted in it, and no other
-pub not-noted : (x : Device) {a : Answer} {code : ℕ} {d : Device} {p : Place} {r : Reply} → r ≡ record { answer = a; device = d; place = p }
-    → a ≡ answered code 0 → r .device ≡ choose (eqb (r .answer .count) 1) x d
+-- the device record after an injection: one that was appended, of count 1, is noted in it, and no other
+not-noted : (x d : Device) (code : ℕ) {r : Answer} → r ≡ answered code 0 → d ≡ choose (eqb (r .count) 1) x d
 unfolding choose
-not-noted x er ea = rw (er, ea)
+not-noted x d code e = rw e
 
-pub noted : (d x : Device) {a : Answer} {d′ : Device} {p : Place} {r : Reply} → r ≡ record { answer = a; device = d′; place = p }
-    → a ≡ answered 0 1 → d′ ≡ x → r .device ≡ choose (eqb (r .answer .count) 1) x d
+noted : (x d : Device) {r : Answer} → r ≡ answered 0 1 → x ≡ choose (eqb (r .count) 1) x d
 unfolding choose
-noted d x er ea e = rw (er, ea) e
+noted x d e = rw e
+
+-- an injection from its answer: one that leaves everything as it was, and one that was appended
+module _ (id : ℕ) (c : Controller) (d : Device) (p : Place) (r : Answer) where
+  abbrev Came : Pending → Device → Type 0
+  Came q d′ = (b : List ℕ) → Replies (limitsOf c .places) (limitsOf c .room) (c .ais) d p id b (λ L s. request L s airqInject id b) (pendingIn c) q (record { answer = r; device = d′; place = p })
+
+  came-as : (q : Pending) {d₀ d₁ : Device} → d₀ ≡ d₁ → Came q d₀ → Came q d₁
+  came-as q e f = λ b. subst (λ (x : Device). Replies (limitsOf c .places) (limitsOf c .room) (c .ais) d p id b (λ L s. request L s airqInject id b) (pendingIn c) q (record { answer = r; device = x; place = p })) e (f b)
+
+  pub nothing-changes : (code : ℕ) → r ≡ answered code 0 → Held (c .order) (c .counts) → Came (pendingIn c) d → Injected id c c d p r
+  nothing-changes code e h f =
+      let n = not-noted (injectedDevice (c .ais) d p) d code e in
+      record { answer = came-as (pendingIn c) n f; kept = λ k. (refl, sym n); held = h }
+
+  pub is-noted : (c′ : Controller) → r ≡ answered 0 1 → Held (c′ .order) (c′ .counts) → Came (pendingIn c′) (injectedDevice (c .ais) d p) → Injected id c c′ d p r
+  is-noted c′ e h f = record { answer = came-as (pendingIn c′) (noted (injectedDevice (c .ais) d p) d e) f; kept = λ k. absurd (k (ap (λ (x : Answer). x .code) e)); held = h }

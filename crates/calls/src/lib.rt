@@ -2,20 +2,12 @@
 // image of the table by value.
 ghost use mathlib.Core.Path.{_≡_};
 ghost use mathlib.Core.Bool.{true, Bool};
-ghost use mathlib.Core.List.{List};
-ghost use Prim.Native.Nat.{ℕ, _≤_, _<_};
-ghost use lib.Dec.{leb, eqb};
-ghost use Rattle.rules.specs.Bytes.{choose};
-ghost use Rattle.rules.specs.Requests.{airqInject, request};
-ghost use Rattle.store_queues.specs.Slots.{slotCount};
-ghost use Rattle.store_queues.specs.Queues.{total, Held};
-ghost use Rattle.store.specs.Memory.{pendingOf};
-ghost use Rattle.adapters.specs.Values.{Canonical, injectionOf, injectedDevice};
-ghost use Rattle.calls.specs.Cases.{answerFor, onRecords};
-ghost use Rattle.adapter_requests.specs.States.{Replies};
+ghost use Prim.Native.Nat.{_<_};
+ghost use Rattle.rules.specs.Requests.{request};
+ghost use Rattle.store_queues.specs.Queues.{Held};
+ghost use Rattle.adapters.specs.Values.{Canonical};
+ghost use Rattle.calls.specs.Cases.{onRecords};
 ghost use Rattle.calls.specs.Inner.{controller, Began, Replayed, Recorded, Injected, Got, Handed};
-ghost use Rattle.store.specs.Lent.{HeldAfter, Stays};
-use adapter_requests::Reply;
 use adapters::Device;
 use adapters::Injection;
 use adapters::Place;
@@ -34,47 +26,6 @@ use numbers::PLACES;
 use numbers::ROOM;
 use numbers::SINGLES_BYTES;
 use numbers::SLOT_BYTES;
-
-// Group 10: an adapter interrupt.
-pub fn inject(
-    slots: &mut [u8; SLOT_BYTES],
-    order: &mut [u8; ORDER_BYTES],
-    counts: &mut [usize; COUNTS],
-    places: u64,
-    room: usize,
-    ais: bool,
-    device: Device,
-    place: Place,
-    id: AdapterId,
-) -> Reply
-    requires { ⌜ (room ≤ slotCount) × Held (now order) (now counts) × Canonical place ⌝ }
-    ensures answer { λ r. ⌜ ((singles b : List ℕ) → Replies places room ais device place (id .0) b (λ L s. request L s airqInject (id .0) b) (pendingOf (now (order .entry)) (now (counts .entry)) (now (slots .entry)) singles) (pendingOf (now (order .exit)) (now (counts .exit)) (now (slots .exit)) singles) r) ⌝ }
-    ensures held { λ r. ⌜ HeldAfter order counts × (r .place ≡ place) ⌝ }
-    ensures kept { λ r. ⌜ ((r .answer .code ≡ 0 → ⊥) → (r .device ≡ device) × Stays slots × Stays order × Stays counts) ⌝ }
-    ensures noted { λ r. ⌜ r .device ≡ choose (eqb (r .answer .count) 1) (injectedDevice ais device place) device ⌝ }
-    ensures told { λ r. ⌜ (id .0 < places → r .answer ≡ answerFor (injectionOf ais device place (leb room (total (now (counts .entry)))))) ⌝ }
-{
-    if places <= id.0 {
-        return adapter_requests::with_answer(answers::refuse(EINVAL), device, place);
-    }
-    let n = store_queues::queued(counts);
-    let full = room <= n;
-    let next = adapters::after_injection(ais, device, place);
-    let what = adapters::inject(ais, device, place, full);
-    match what {
-        Injection::NoAdapter => adapter_requests::with_answer(
-            answers::refuse(EINVAL),
-            device,
-            place,
-        ),
-        Injection::Dropped => adapter_requests::with_answer(answers::accept(0), device, place),
-        Injection::Full => adapter_requests::with_answer(answers::refuse(EBUSY), device, place), // nimm stays
-        Injection::Appended(isc) => {
-            record_add::append_interrupt(slots, order, counts, isc, n);
-            adapter_requests::with_answer(answers::accept(1), next, place)
-        }
-    }
-}
 
 // Whether a set request is about pending records alone: ENQUEUE, CLEAR_IRQS, CLEAR_IO_IRQ.
 pub fn on_records(group: u32) -> bool
@@ -200,18 +151,20 @@ pub fn answer_inject(
     requires { ⌜ Held (now order) (now counts) × Canonical place ⌝ }
     ensures { λ r. ⌜ Injected (id .0) (controller (now (slots .entry)) (now (order .entry)) (now (counts .entry)) (now (singles .entry)) ais) (controller (now (slots .exit)) (now (order .exit)) (now (counts .exit)) (now (singles .exit)) ais) device place r ⌝ }
 {
-    let r = inject(
-        slots,
-        order,
-        counts,
-        PLACES as u64,
-        ROOM,
-        ais,
-        device,
-        place,
-        id,
-    );
-    r.answer
+    if PLACES as u64 <= id.0 {
+        return answers::refuse(EINVAL);
+    }
+    let n = store_queues::queued(counts);
+    let what = adapters::inject(ais, device, place, ROOM <= n);
+    match what {
+        Injection::NoAdapter => answers::refuse(EINVAL),
+        Injection::Dropped => answers::accept(0),
+        Injection::Full => answers::refuse(EBUSY),
+        Injection::Appended(isc) => {
+            record_add::append_interrupt(slots, order, counts, isc, n);
+            answers::accept(1)
+        }
+    }
 }
 
 // A get request on the controller's arrays and the device record by value.

@@ -1,24 +1,123 @@
--- `calls::answer_inject` meets its contract: of the reply by value it is the answer, and the device record can be told from its count.
-use mathlib.Core.Path.{sym, _∙_}
+-- `calls::answer_inject` meets its contract: the four cases of an injection, and an id past the last place.
+use Prim.Native.Nat.{ℕ, _<_}
+use mathlib.Core.Path.{_≡_, refl, ap, sym, _∙_}
+use mathlib.Core.List.{List, []}
 use native.Mathlib.Omega.{arith}
-use Rattle.calls.proofs.Laws.{replied-as}
+use borrow.Author.Needs.{needs}
+use borrow.Author.Tests.{leb-true, leb-false}
+use Rattle.rules.specs.Requests.{adapterInterrupt}
+use Rattle.rules.specs.State.{State, queued, addIo}
+use Rattle.rules.specs.Outcome.{accept}
+use Rattle.record_add.proofs.Laws.{queued-total}
+use Rattle.adapters.specs.Values.{injectionOf, injectedDevice, placeOf, deviceOf}
+use Rattle.numbers.specs.declared.Subclass.{Subclass}
+use Rattle.answers.proofs.Laws.{refused-as, accepted}
+use Rattle.adapter_requests.specs.States.{stateWith}
+use Rattle.calls.specs.declared.Controller.{Controller}
+use Rattle.calls.specs.Inner.{controller, pendingIn}
 use Rattle.calls.proofs.Limits.{limits-sized}
+use Rattle.calls.proofs.Requests.{as-it-was, none-there, dropped-there, full-there, appended-there, out-of-range, nobody-there, is-dropped, is-full, is-appended, injected-is, nothing-changes, is-noted}
 use Rattle.calls.proofs.answer_inject.Statement.{statement}
 use Rattle.calls.proofs.answer_inject.Tie as tie
 
-inject-requires : tie.Need-inject-requires
-inject-requires c κs = let f = c .before .before .before in (omega arith, f .pre .0, f .pre .1)
+abbrev before : tie.Start → Controller
+before f = let a = f .args in controller (a .slots .now) (a .order .now) (a .counts .now) (a .singles .now) (a .ais)
 
 returns : tie.Need-returns
 returns c =
-    let j = c .before in
-    let e = j .inject .ensures in
-    let a = j .before .before .before .before .args in
-    record {
-      answer = λ b. replied-as _ _ (a .ais) (a .device) (a .place) (a .id .0) b _ _ _ (j .inject .result) _ (e .1 .1 .1 .0) (e .1 .0 .1) (λ L s u v. e .0 (a .singles .now) b L s (u ∙ limits-sized _ .places) (v ∙ limits-sized _ .room));
-      kept = λ n. let k = e .1 .1 .0 n in ((λ i. record { slots = k .1 i; order = k .2 i; counts = k .3 i; singles = a .singles .now; ais = a .ais }), sym (e .1 .1 .1 .0) ∙ k .0);
-      held = e .1 .0 .0;
-    }
+    let f = c .before .before .before in
+    let a = f .args in
+    nothing-changes _ (before f) _ _ _ 22 (c .refuse .ensures) (f .pre .0) (λ b L s e1 e2 e3 e4 e5 e6.
+    refused-as L s _ _ _ 22 _ (as-it-was s _ _ _ _ e4 e5 e6)
+    (out-of-range L s (a .ais) (a .device) (a .place) (a .id .0) b (omega (arith, e1, limits-sized (before f) .places, c .before .if1 .taken)))
+    (c .refuse .ensures))
+
+-- what is known once `adapters::inject` was called
+abbrev start : tie.After-inject → tie.Start
+start j = j .before .before .before .before .before
+
+in-range : (j : tie.After-inject) → start j .args .id .0 < 64
+in-range j = omega (arith, j .before .before .before .if1 .left)
+
+all-counted : (j : tie.After-inject) → queued (pendingIn (before (start j))) ≡ j .before .queued .result
+all-counted j =
+    let a = start j .args in
+    queued-total (a .order .now) (a .counts .now) (a .slots .now) (a .singles .now) (start j .pre .0) ∙ sym (j .before .queued .ensures)
+
+append-interrupt-requires : tie.Need-append-interrupt-requires
+unfolding injectionOf
+append-interrupt-requires c κs =
+    let w = c .before .before .before .before in
+    let j = w .before .before in
+    let f = start j in
+    let d = appended-there _ _ _ _ _ (sym (j .inject .ensures) ∙ w .what .given .1) in (
+      omega (arith, ap (λ (x : Subclass). x .0) (d .3), f .pre .1 .iscSmall),
+      j .before .queued .ensures,
+      omega (arith, leb-false 256 (j .before .queued .result) (d .2), j .before .queued .ensures),
+      f .pre .0,
+    )
+
+returns-2 : tie.Need-returns-2
+unfolding injectionOf
+returns-2 c =
+    let j = c .before .before .before in
+    let f = start j in
+    let a = f .args in
+    nothing-changes _ (before f) _ _ _ 22 (c .refuse2 .ensures) (f .pre .0) (λ b L s e1 e2 e3 e4 e5 e6.
+    refused-as L s _ _ _ 22 _ (as-it-was s _ _ _ _ e4 e5 e6)
+    (nobody-there L s (a .ais) (a .device) (a .place) (a .id .0) b (omega (arith, e1, limits-sized (before f) .places, in-range j)) e6
+    (none-there _ _ _ _ (sym (j .inject .ensures) ∙ c .before .enum-told .given .1)))
+    (c .refuse2 .ensures))
+
+returns-3 : tie.Need-returns-3
+unfolding injectionOf
+returns-3 c =
+    let j = c .before .before .before in
+    let f = start j in
+    let a = f .args in
+    let d = dropped-there _ _ _ _ (sym (j .inject .ensures) ∙ c .before .enum-told2 .given .1) in
+    nothing-changes _ (before f) _ _ _ 0 (c .accept .ensures) (f .pre .0) (λ b L s e1 e2 e3 e4 e5 e6.
+    accepted L s _ _ _ 0 _ [] _
+    (is-dropped L s (a .ais) (a .device) (a .place) (a .id .0) b (omega (arith, e1, limits-sized (before f) .places, in-range j)) e6 (d .0) e3 e5 (d .1)
+    ∙ ap (λ (t : State). accept 0 t []) (as-it-was s _ _ _ _ e4 e5 e6))
+    (c .accept .ensures) refl)
+
+returns-4 : tie.Need-returns-4
+unfolding injectionOf
+returns-4 c =
+    let j = c .before .before .before in
+    let f = start j in
+    let a = f .args in
+    let d = full-there _ _ _ _ (sym (j .inject .ensures) ∙ c .before .enum-told3 .given .1) in
+    nothing-changes _ (before f) _ _ _ 16 (c .refuse3 .ensures) (f .pre .0) (λ b L s e1 e2 e3 e4 e5 e6.
+    refused-as L s _ _ _ 16 _ (as-it-was s _ _ _ _ e4 e5 e6)
+    (is-full L s (a .ais) (a .device) (a .place) (a .id .0) b (omega (arith, e1, limits-sized (before f) .places, in-range j)) e6 (d .0) e3 e5 (d .1)
+    (omega (arith, e2, limits-sized (before f) .room, leb-true 256 (j .before .queued .result) (d .2), ap queued e4, all-counted j)))
+    (c .refuse3 .ensures))
+
+returns-5 : tie.Need-returns-5
+unfolding injectionOf
+returns-5 c =
+    let w = c .before .before .before .before .before .before in
+    let j = w .before .before in
+    let f = start j in
+    let a = f .args in
+    let d = appended-there _ _ _ _ _ (sym (j .inject .ensures) ∙ w .what .given .1) in
+    is-noted _ (before f) _ _ _ _ (c .accept2 .ensures) (c .before .append-interrupt .ensures .1) (λ b L s e1 e2 e3 e4 e5 e6.
+    let h : a .id .0 < L .places = omega (arith, e1, limits-sized (before f) .places, in-range j) in
+    accepted L s _ _ _ 1 _ [] _
+    (is-appended L s (a .ais) (a .device) (a .place) (a .id .0) b h e6 (d .0) e3 e5 (d .1)
+    (omega (arith, e2, limits-sized (before f) .room, leb-false 256 (j .before .queued .result) (d .2), ap queued e4, all-counted j))
+    ∙ ap (λ (t : State). accept 1 t []) (injected-is L s (a .ais) (a .device) (a .place) (a .id .0) b h e6 (d .0) e3 e5 _ e4
+    ∙ (λ i. stateWith s (a .id .0) (placeOf (a .place))
+    (sym (c .before .append-interrupt .ensures .0 (a .singles .now)
+    ∙ ap (λ (x : Subclass). addIo (x .0) (adapterInterrupt (x .0)) (pendingIn (before f))) (d .3)) i)
+    (deviceOf (injectedDevice (a .ais) (a .device) (a .place))))))
+    (c .accept2 .ensures) refl)
 
 pub answer-inject-spec : {M : Type 1} → statement M
-answer-inject-spec = tie.close (tie.spec inject-requires returns)
+answer-inject-spec =
+    tie.close
+    (tie.spec (λ c κs. search needs) returns (λ c κs. search needs) (λ c κs. search needs) (λ c. search needs) (λ c κs. search needs)
+    (λ c. search needs) (λ c κs. search needs) (λ c. search needs) (λ c κs. search needs) (λ c. search needs) append-interrupt-requires
+    (λ c κs. search needs) returns-2 returns-3 returns-4 returns-5)

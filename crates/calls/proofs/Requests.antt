@@ -5,7 +5,7 @@ use mathlib.Core.Bool.{Bool, true, false, _&&_, _||_, true≢false}
 use mathlib.Core.List.{List, []}
 use lib.ListN.{getD, set}
 use lib.Seq.{set-getD}
-use lib.Dec.{ltb, eqb}
+use lib.Dec.{ltb, leb, eqb}
 use borrow.Author.Tests.{lt-ltb, le-ltb, ne-eqb, eqb-true}
 use Rattle.rules.specs.Bytes.{choose}
 use Rattle.rules.specs.State as rules
@@ -20,16 +20,16 @@ use Rattle.adapters.specs.declared.Device.{Device}
 use Rattle.adapters.specs.declared.Place.{Place}
 use Rattle.adapters.specs.declared.Injection.{Injection}
 use Rattle.adapters.specs.declared.Injection.the-variants.{NoAdapter, Dropped, Full, Appended}
-use Rattle.adapters.specs.Values.{placeOf, deviceOf, adapterOf, underAis, injectedDevice}
+use Rattle.adapters.specs.Values.{placeOf, deviceOf, adapterOf, underAis, injectionOf, injectedDevice}
 use Rattle.adapters.proofs.Laws.{place-used, place-free}
 use Rattle.adapter_requests.specs.States.{stateWith, Replies}
 use Rattle.adapter_requests.proofs.Laws.{as-it-was as held-values}
 use Rattle.numbers.specs.declared.Subclass.{Subclass}
-use Rattle.store_queues.specs.Queues.{Held}
+use Rattle.store_queues.specs.Queues.{total, Held}
 use Rattle.calls.specs.declared.Controller.{Controller}
 use Rattle.calls.specs.Limits.{limitsOf}
 use Rattle.calls.specs.Inner.{pendingIn, Injected}
-use Rattle.calls.specs.Cases.{onRecords}
+use Rattle.calls.specs.Cases.{answerFor, onRecords}
 
 -- the state with other pending records, as the values stand for it
 with-values : (s : State) (id : ℕ) (device : Device) (place : Place) (p : Pending) → s .device ≡ deviceOf device
@@ -171,10 +171,14 @@ module _ (id : ℕ) (c : Controller) (d : Device) (p : Place) (r : Answer) where
   came-as : (q : Pending) {d₀ d₁ : Device} → d₀ ≡ d₁ → Came q d₀ → Came q d₁
   came-as q e f = λ b. subst (λ (x : Device). Replies (limitsOf c .places) (limitsOf c .room) (c .ais) d p id b (λ L s. request L s airqInject id b) (pendingIn c) q (record { answer = r; device = x; place = p })) e (f b)
 
-  pub nothing-changes : (code : ℕ) → r ≡ answered code 0 → Held (c .order) (c .counts) → Came (pendingIn c) d → Injected id c c d p r
-  nothing-changes code e h f =
-      let n = not-noted (injectedDevice (c .ais) d p) d code e in
-      record { answer = came-as (pendingIn c) n f; kept = λ k. (refl, sym n); held = h }
+  -- the answer by the case
+  abbrev ByCase : Type 0
+  ByCase = id < limitsOf c .places → r ≡ answerFor (injectionOf (c .ais) d p (leb (limitsOf c .room) (total (c .counts))))
 
-  pub is-noted : (c′ : Controller) → r ≡ answered 0 1 → Held (c′ .order) (c′ .counts) → Came (pendingIn c′) (injectedDevice (c .ais) d p) → Injected id c c′ d p r
-  is-noted c′ e h f = record { answer = came-as (pendingIn c′) (noted (injectedDevice (c .ais) d p) d e) f; kept = λ k. absurd (k (ap (λ (x : Answer). x .code) e)); held = h }
+  pub nothing-changes : (code : ℕ) → r ≡ answered code 0 → Held (c .order) (c .counts) → ByCase → Came (pendingIn c) d → Injected id c c d p r
+  nothing-changes code e h t f =
+      let n = not-noted (injectedDevice (c .ais) d p) d code e in
+      record { answer = came-as (pendingIn c) n f; kept = λ k. (refl, sym n); held = h; told = t }
+
+  pub is-noted : (c′ : Controller) → r ≡ answered 0 1 → Held (c′ .order) (c′ .counts) → ByCase → Came (pendingIn c′) (injectedDevice (c .ais) d p) → Injected id c c′ d p r
+  is-noted c′ e h t f = record { answer = came-as (pendingIn c′) (noted (injectedDevice (c .ais) d p) d e) f; kept = λ k. absurd (k (ap (λ (x : Answer). x .code) e)); held = h; told = t }

@@ -1,7 +1,18 @@
--- Which set requests are about pending records alone.
+-- 01, group 10 and 'Codes and the order of checks': the code and count for each case of an injection. And which set requests are about pending records alone.
 use Prim.Native.Nat.{ℕ}
 use mathlib.Core.Bool.{Bool, _||_}
 use lib.Dec.{eqb}
+use Rattle.rules.specs.Outcome.{EINVAL, EBUSY}
+use Rattle.answers.specs.declared.Answer.{Answer}
+use Rattle.adapters.specs.declared.Injection.{Injection}
+use Rattle.adapters.specs.declared.Injection.the-variants.{NoAdapter, Dropped, Full, Appended}
+use Rattle.answers.specs.Answers.{answered}
+
+abbrev pub answerFor : Injection → Answer
+answerFor NoAdapter = answered EINVAL 0
+answerFor Dropped = answered 0 0
+answerFor Full = answered EBUSY 0
+answerFor (Appended isc) = answered 0 1
 
 -- whether a set request is about pending records alone: ENQUEUE, CLEAR_IRQS, CLEAR_IO_IRQ
 unfoldable pub onRecords : ℕ → Bool

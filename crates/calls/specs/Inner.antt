@@ -1,10 +1,10 @@
 -- What the inner functions of the public calls promise, on the controller's arrays and with one adapter place by value.
-use Prim.Native.Nat.{ℕ}
+use Prim.Native.Nat.{ℕ, _<_}
 use mathlib.Core.Path.{_≡_}
 use mathlib.Core.Bool.{Bool, false}
 use mathlib.Core.List.{List, map}
 use lib.ListN.{take, replicate}
-use lib.Dec.{eqb}
+use lib.Dec.{leb, eqb}
 use Rattle.rules.specs.Bytes.{choose}
 use Rattle.rules.specs.State.{State, Pending, nothing, withPending}
 use Rattle.rules.specs.Requests.{airqInject, setRequest, getRequest, request}
@@ -16,14 +16,15 @@ use Rattle.answers.specs.declared.Answer.{Answer}
 use Rattle.answers.specs.Answers.{Answers, answered}
 use Rattle.adapters.specs.declared.Device.{Device}
 use Rattle.adapters.specs.declared.Place.{Place}
-use Rattle.adapters.specs.Values.{placeOf, deviceOf, Canonical, injectedDevice}
+use Rattle.adapters.specs.Values.{placeOf, deviceOf, Canonical, injectionOf, injectedDevice}
 use Rattle.list_image.specs.Image.{imageSize, unpacked}
 use Rattle.store.specs.Memory.{pendingOf}
 use Rattle.adapter_requests.specs.States.{Replies}
 use Rattle.calls.specs.declared.Controller.{Controller}
 use Rattle.calls.specs.declared.Started.{Started}
 use Rattle.calls.specs.Limits.{limitsOf}
-use Rattle.store_queues.specs.Queues.{Held}
+use Rattle.calls.specs.Cases.{answerFor}
+use Rattle.store_queues.specs.Queues.{total, Held}
 
 -- a controller from its arrays and its capability
 abbrev pub controller : (slots order counts singles : List ℕ) → Bool → Controller
@@ -76,13 +77,14 @@ pub record Recorded (group attr : ℕ) (c c′ : Controller) (b : List ℕ) (r :
 abbrev pub notedIn : Bool → Device → Place → Answer → Device
 notedIn ais d p r = choose (eqb (r .count) 1) (injectedDevice ais d p) d
 
--- INJECT, of an adapter id with the place p.
+-- INJECT, of an adapter id with the place p; the answer, of an id in the table, by the case that the injection comes to.
 pub record Injected (id : ℕ) (c c′ : Controller) (d : Device) (p : Place) (r : Answer) : Type 0 where
   pub answer : (b : List ℕ)
       → Replies (limitsOf c .places) (limitsOf c .room) (c .ais) d p id b (λ L s. request L s airqInject id b) (pendingIn c) (pendingIn c′)
       (record { answer = r; device = notedIn (c .ais) d p r; place = p })
   pub kept : (r .code ≡ 0 → ⊥) → (c′ ≡ c) × (notedIn (c .ais) d p r ≡ d)
   pub held : Held (c′ .order) (c′ .counts)
+  pub told : id < limitsOf c .places → r ≡ answerFor (injectionOf (c .ais) d p (leb (limitsOf c .room) (total (c .counts))))
 
 -- A get request.
 pub record Got (group attr : ℕ) (c : Controller) (d : Device) (b b′ : List ℕ) (r : Answer) : Type 0 where

@@ -3,17 +3,22 @@ use Prim.Native.Nat.{ℕ, _<_}
 use mathlib.Core.Path.{_≡_, refl, ap, sym, _∙_}
 use mathlib.Core.List.{List, []}
 use native.Mathlib.Omega.{arith}
+use lib.Dec.{leb}
 use borrow.Author.Needs.{needs}
 use borrow.Author.Tests.{leb-true, leb-false}
 use Rattle.rules.specs.Requests.{adapterInterrupt}
 use Rattle.rules.specs.State.{State, queued, addIo}
 use Rattle.rules.specs.Outcome.{accept}
 use Rattle.record_add.proofs.Laws.{queued-total}
+use Rattle.store_queues.specs.Queues.{total}
+use Rattle.adapters.specs.declared.Injection.{Injection}
 use Rattle.adapters.specs.Values.{injectionOf, injectedDevice, placeOf, deviceOf}
 use Rattle.numbers.specs.declared.Subclass.{Subclass}
 use Rattle.answers.proofs.Laws.{refused-as, accepted}
 use Rattle.adapter_requests.specs.States.{stateWith}
 use Rattle.calls.specs.declared.Controller.{Controller}
+use Rattle.calls.specs.Limits.{limitsOf}
+use Rattle.calls.specs.Cases.{answerFor}
 use Rattle.calls.specs.Inner.{controller, pendingIn}
 use Rattle.calls.proofs.Limits.{limits-sized}
 use Rattle.calls.proofs.Requests.{as-it-was, none-there, dropped-there, full-there, appended-there, out-of-range, nobody-there, is-dropped, is-full, is-appended, injected-is, nothing-changes, is-noted}
@@ -27,7 +32,7 @@ returns : tie.Need-returns
 returns c =
     let f = c .before .before .before in
     let a = f .args in
-    nothing-changes _ (before f) _ _ _ 22 (c .refuse .ensures) (f .pre .0) (λ b L s e1 e2 e3 e4 e5 e6.
+    nothing-changes _ (before f) _ _ _ 22 (c .refuse .ensures) (f .pre .0) (λ h. absurd (omega (arith, h, limits-sized (before f) .places, c .before .if1 .taken))) (λ b L s e1 e2 e3 e4 e5 e6.
     refused-as L s _ _ _ 22 _ (as-it-was s _ _ _ _ e4 e5 e6)
     (out-of-range L s (a .ais) (a .device) (a .place) (a .id .0) b (omega (arith, e1, limits-sized (before f) .places, c .before .if1 .taken)))
     (c .refuse .ensures))
@@ -43,6 +48,13 @@ all-counted : (j : tie.After-inject) → queued (pendingIn (before (start j))) �
 all-counted j =
     let a = start j .args in
     queued-total (a .order .now) (a .counts .now) (a .slots .now) (a .singles .now) (start j .pre .0) ∙ sym (j .before .queued .ensures)
+
+case-told : (j : tie.After-inject) {x : Injection} → j .inject .result ≡ x → let c = before (start j) in let a = start j .args in
+    answerFor x ≡ answerFor (injectionOf (a .ais) (a .device) (a .place) (leb (limitsOf c .room) (total (c .counts))))
+case-told j e =
+    let a = start j .args in
+    ap answerFor (sym e ∙ j .inject .ensures
+    ∙ (λ i. injectionOf (a .ais) (a .device) (a .place) (leb (sym (limits-sized (before (start j)) .room) i) (j .before .queued .ensures i))))
 
 append-interrupt-requires : tie.Need-append-interrupt-requires
 unfolding injectionOf
@@ -63,7 +75,7 @@ returns-2 c =
     let j = c .before .before .before in
     let f = start j in
     let a = f .args in
-    nothing-changes _ (before f) _ _ _ 22 (c .refuse2 .ensures) (f .pre .0) (λ b L s e1 e2 e3 e4 e5 e6.
+    nothing-changes _ (before f) _ _ _ 22 (c .refuse2 .ensures) (f .pre .0) (λ h. c .refuse2 .ensures ∙ case-told j (c .before .enum-told .given .1)) (λ b L s e1 e2 e3 e4 e5 e6.
     refused-as L s _ _ _ 22 _ (as-it-was s _ _ _ _ e4 e5 e6)
     (nobody-there L s (a .ais) (a .device) (a .place) (a .id .0) b (omega (arith, e1, limits-sized (before f) .places, in-range j)) e6
     (none-there _ _ _ _ (sym (j .inject .ensures) ∙ c .before .enum-told .given .1)))
@@ -76,7 +88,7 @@ returns-3 c =
     let f = start j in
     let a = f .args in
     let d = dropped-there _ _ _ _ (sym (j .inject .ensures) ∙ c .before .enum-told2 .given .1) in
-    nothing-changes _ (before f) _ _ _ 0 (c .accept .ensures) (f .pre .0) (λ b L s e1 e2 e3 e4 e5 e6.
+    nothing-changes _ (before f) _ _ _ 0 (c .accept .ensures) (f .pre .0) (λ h. c .accept .ensures ∙ case-told j (c .before .enum-told2 .given .1)) (λ b L s e1 e2 e3 e4 e5 e6.
     accepted L s _ _ _ 0 _ [] _
     (is-dropped L s (a .ais) (a .device) (a .place) (a .id .0) b (omega (arith, e1, limits-sized (before f) .places, in-range j)) e6 (d .0) e3 e5 (d .1)
     ∙ ap (λ (t : State). accept 0 t []) (as-it-was s _ _ _ _ e4 e5 e6))
@@ -89,7 +101,7 @@ returns-4 c =
     let f = start j in
     let a = f .args in
     let d = full-there _ _ _ _ (sym (j .inject .ensures) ∙ c .before .enum-told3 .given .1) in
-    nothing-changes _ (before f) _ _ _ 16 (c .refuse3 .ensures) (f .pre .0) (λ b L s e1 e2 e3 e4 e5 e6.
+    nothing-changes _ (before f) _ _ _ 16 (c .refuse3 .ensures) (f .pre .0) (λ h. c .refuse3 .ensures ∙ case-told j (c .before .enum-told3 .given .1)) (λ b L s e1 e2 e3 e4 e5 e6.
     refused-as L s _ _ _ 16 _ (as-it-was s _ _ _ _ e4 e5 e6)
     (is-full L s (a .ais) (a .device) (a .place) (a .id .0) b (omega (arith, e1, limits-sized (before f) .places, in-range j)) e6 (d .0) e3 e5 (d .1)
     (omega (arith, e2, limits-sized (before f) .room, leb-true 256 (j .before .queued .result) (d .2), ap queued e4, all-counted j)))
@@ -103,7 +115,7 @@ returns-5 c =
     let f = start j in
     let a = f .args in
     let d = appended-there _ _ _ _ _ (sym (j .inject .ensures) ∙ w .what .given .1) in
-    is-noted _ (before f) _ _ _ _ (c .accept2 .ensures) (c .before .append-interrupt .ensures .1) (λ b L s e1 e2 e3 e4 e5 e6.
+    is-noted _ (before f) _ _ _ _ (c .accept2 .ensures) (c .before .append-interrupt .ensures .1) (λ h. c .accept2 .ensures ∙ case-told j (w .what .given .1)) (λ b L s e1 e2 e3 e4 e5 e6.
     let h : a .id .0 < L .places = omega (arith, e1, limits-sized (before f) .places, in-range j) in
     accepted L s _ _ _ 1 _ [] _
     (is-appended L s (a .ais) (a .device) (a .place) (a .id .0) b h e6 (d .0) e3 e5 (d .1)

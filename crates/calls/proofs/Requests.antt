@@ -1,15 +1,14 @@
--- Replies to an injection and its cases; which request a group number is.
+-- The cases of an injection, and which get request a group number is.
 use Prim.Native.Nat.{ℕ, zero, suc, _≤_, _<_}
 use mathlib.Core.Path.{_≡_, refl, ap, sym, _∙_, subst}
-use mathlib.Core.Bool.{Bool, true, false, _&&_, _||_, true≢false}
+use mathlib.Core.Bool.{Bool, true, false, _&&_, _||_}
 use mathlib.Core.List.{List, []}
-use lib.ListN.{getD, set}
-use lib.Seq.{set-getD}
+use lib.ListN.{getD}
 use lib.Dec.{ltb, leb, eqb}
-use borrow.Author.Tests.{lt-ltb, le-ltb, ne-eqb, eqb-true}
+use borrow.Author.Tests.{lt-ltb, le-ltb}
 use Rattle.rules.specs.Bytes.{choose}
 use Rattle.rules.specs.State as rules
-use Rattle.rules.specs.State.{Limits, Pending, State, withPending, addIo, queued}
+use Rattle.rules.specs.State.{Limits, Pending, State, withPending, withDevice, addIo, queued}
 use Rattle.rules.specs.Outcome.{refuse, accept, need_else_⨾_}
 use Rattle.rules.specs.Requests.{holding, noRequest, airqInject, getRequest, injected, injects, adapterInterrupt, request}
 use Rattle.rules.specs.Requests.{underAis as rules-underAis}
@@ -22,25 +21,16 @@ use Rattle.adapters.specs.declared.Injection.{Injection}
 use Rattle.adapters.specs.declared.Injection.the-variants.{NoAdapter, Dropped, Full, Appended}
 use Rattle.adapters.specs.Values.{placeOf, deviceOf, adapterOf, underAis, injectionOf, injectedDevice}
 use Rattle.adapters.proofs.Laws.{place-used, place-free}
-use Rattle.adapter_requests.specs.States.{stateWith, Replies}
-use Rattle.adapter_requests.proofs.Laws.{as-it-was as held-values}
 use Rattle.numbers.specs.declared.Subclass.{Subclass}
 use Rattle.store_queues.specs.Queues.{total, Held}
 use Rattle.calls.specs.declared.Controller.{Controller}
 use Rattle.calls.specs.Limits.{limitsOf}
 use Rattle.calls.specs.Inner.{pendingIn, Injected}
-use Rattle.calls.specs.Cases.{answerFor, onRecords}
+use Rattle.calls.specs.Cases.{answerFor}
 
--- the state with other pending records, as the values stand for it
-with-values : (s : State) (id : ℕ) (device : Device) (place : Place) (p : Pending) → s .device ≡ deviceOf device
-    → getD (s .adapters) id rules.free ≡ placeOf place → withPending p s ≡ stateWith s id (placeOf place) p (deviceOf device)
-with-values s id device place p d e = held-values (withPending p s) id device place d e
-
--- the same where the pending records are as they were
-pub as-it-was : (s : State) (id : ℕ) (device : Device) (place : Place) (p : Pending) → s .pending ≡ p → s .device ≡ deviceOf device
-    → getD (s .adapters) id rules.free ≡ placeOf place → s ≡ stateWith s id (placeOf place) p (deviceOf device)
-as-it-was s id device place p q d e =
-    (λ i. record { ais = s .ais; adapters = s .adapters; pending = q i; device = s .device }) ∙ with-values s id device place p d e
+-- the state that the values stand for is the state itself
+pub as-it-was : (s : State) (device : Device) (p : Pending) → s .pending ≡ p → s .device ≡ deviceOf device → s ≡ withDevice (deviceOf device) (withPending p s)
+as-it-was s device p q d = λ i. record { ais = s .ais; adapters = s .adapters; pending = q i; device = d i }
 
 -- ---- the cases of an injection
 module _ (i : Subclass) where
@@ -108,12 +98,12 @@ module _ (L : Limits) (s : State) (ais : Bool) (device : Device) (place : Place)
 
       pub injected-is : (p₀ : Pending) → s .pending ≡ p₀
           → injected s (adapterOf place)
-          ≡ stateWith s id (placeOf place) (addIo (place .isc .0) (adapterInterrupt (place .isc .0)) p₀) (deviceOf (injectedDevice ais device place))
+          ≡ withDevice (deviceOf (injectedDevice ais device place)) (withPending (addIo (place .isc .0) (adapterInterrupt (place .isc .0)) p₀) s)
       unfolding injected injectedDevice
       injected-is p₀ e4 =
           λ i. record {
             ais = s .ais;
-            adapters = (sym (set-getD (s .adapters) id rules.free) ∙ ap (set (s .adapters) id) e6) i;
+            adapters = s .adapters;
             pending = addIo (place .isc .0) (adapterInterrupt (place .isc .0)) (e4 i);
             device =
                 record {
@@ -140,15 +130,6 @@ no-get (suc (suc (suc (suc (suc (suc (suc (suc (suc (suc zero)))))))))) h1 h11 =
 no-get (suc (suc (suc (suc (suc (suc (suc (suc (suc (suc (suc zero))))))))))) h1 h11 = absurd (h11 refl)
 no-get (suc (suc (suc (suc (suc (suc (suc (suc (suc (suc (suc (suc n)))))))))))) h1 h11 = refl
 
--- ---- which set requests are about pending records alone
-pub records-eight : (g : ℕ) → onRecords g ≡ true → (g ≡ 2 → ⊥) → (g ≡ 3 → ⊥) → g ≡ 8
-unfolding onRecords
-records-eight g e h2 h3 = eqb-true g 8 ((λ i. sym (ne-eqb g 2 h2) i || (sym (ne-eqb g 3 h3) i || eqb g 8)) ∙ e)
-
-pub not-records : (g : ℕ) → onRecords g ≡ false → (g ≡ 2 → ⊥) × (g ≡ 3 → ⊥) × (g ≡ 8 → ⊥)
-unfolding onRecords
-not-records g e = (λ z. true≢false (sym (ap onRecords z) ∙ e), λ z. true≢false (sym (ap onRecords z) ∙ e), λ z. true≢false (sym (ap onRecords z) ∙ e))
-
 -- an answer to the get request of one group number is one to that of an equal number
 pub as-get : (L : Limits) (s : State) (attr : ℕ) (b c : List ℕ) {a : Answer} (k : ℕ) {g : ℕ} → g ≡ k
     → Answers L s b (request L s (getRequest k) attr b) a s c → Answers L s b (request L s (getRequest g) attr b) a s c
@@ -166,10 +147,8 @@ noted x d e = rw e
 -- an injection from its answer: one that leaves everything as it was, and one that was appended
 module _ (id : ℕ) (c : Controller) (d : Device) (p : Place) (r : Answer) where
   abbrev Came : Pending → Device → Type 0
-  Came q d′ = (b : List ℕ) → Replies (limitsOf c .places) (limitsOf c .room) (c .ais) d p id b (λ L s. request L s airqInject id b) (pendingIn c) q (record { answer = r; device = d′; place = p })
-
-  came-as : (q : Pending) {d₀ d₁ : Device} → d₀ ≡ d₁ → Came q d₀ → Came q d₁
-  came-as q e f = λ b. subst (λ (x : Device). Replies (limitsOf c .places) (limitsOf c .room) (c .ais) d p id b (λ L s. request L s airqInject id b) (pendingIn c) q (record { answer = r; device = x; place = p })) e (f b)
+  Came q d′ = (s : State) (b : List ℕ) → s .ais ≡ c .ais → s .pending ≡ pendingIn c → s .device ≡ deviceOf d → getD (s .adapters) id rules.free ≡ placeOf p
+      → Answers (limitsOf c) s b (request (limitsOf c) s airqInject id b) r (withDevice (deviceOf d′) (withPending q s)) b
 
   -- the answer by the case
   abbrev ByCase : Type 0
@@ -178,7 +157,7 @@ module _ (id : ℕ) (c : Controller) (d : Device) (p : Place) (r : Answer) where
   pub nothing-changes : (code : ℕ) → r ≡ answered code 0 → Held (c .order) (c .counts) → ByCase → Came (pendingIn c) d → Injected id c c d p r
   nothing-changes code e h t f =
       let n = not-noted (injectedDevice (c .ais) d p) d code e in
-      record { answer = came-as (pendingIn c) n f; kept = λ k. (refl, sym n); held = h; told = t }
+      record { answer = subst (Came (pendingIn c)) n f; kept = λ k. (refl, sym n); held = h; told = t }
 
   pub is-noted : (c′ : Controller) → r ≡ answered 0 1 → Held (c′ .order) (c′ .counts) → ByCase → Came (pendingIn c′) (injectedDevice (c .ais) d p) → Injected id c c′ d p r
-  is-noted c′ e h t f = record { answer = came-as (pendingIn c′) (noted (injectedDevice (c .ais) d p) d e) f; kept = λ k. absurd (k (ap (λ (x : Answer). x .code) e)); held = h; told = t }
+  is-noted c′ e h t f = record { answer = subst (Came (pendingIn c′)) (noted (injectedDevice (c .ais) d p) d e) f; kept = λ k. absurd (k (ap (λ (x : Answer). x .code) e)); held = h; told = t }

@@ -1,7 +1,4 @@
--- 01, group 10 and 'Codes and the order of checks': the code and count for each case of an injection. And which set requests are about pending records alone.
-use Prim.Native.Nat.{ℕ}
-use mathlib.Core.Bool.{Bool, _||_}
-use lib.Dec.{eqb}
+-- 01, group 10 and 'Codes and the order of checks': the code and count for each case of an injection.
 use Rattle.rules.specs.Outcome.{EINVAL, EBUSY}
 use Rattle.answers.specs.declared.Answer.{Answer}
 use Rattle.adapters.specs.declared.Injection.{Injection}
@@ -13,7 +10,3 @@ answerFor NoAdapter = answered EINVAL 0
 answerFor Dropped = answered 0 0
 answerFor Full = answered EBUSY 0
 answerFor (Appended isc) = answered 0 1
-
--- whether a set request is about pending records alone: ENQUEUE, CLEAR_IRQS, CLEAR_IO_IRQ
-unfoldable pub onRecords : ℕ → Bool
-onRecords group = eqb group 2 || (eqb group 3 || eqb group 8)

@@ -1,4 +1,4 @@
--- Calls as steps of a walk: of `calls::on_records` and `adapter_requests::on_place`; of `lent_requests::set_place` and `lent_requests::set_modes`, which are lent the payload beside the table or the device record; and
+-- Calls as steps of a walk: of `adapter_requests::on_place`; of `lent_requests::set_place` and `lent_requests::set_modes`, which are lent the payload beside the table or the device record; and
 -- of `lent_table::read_device`, where the walk passes a shared reference of its own on. And a `&mut [u8]` that is not used any more, given up at its value.
 use Rattle.flic.proofs.Walk.{_≡_, refl, sym, ap, subst, ℕ, _<_, _^_, Bool, true, false, [], _∷_, List, length, URA, fullShare, named, w64, Val, vint, vptr, SProp, id⊢, GName, Lft, Share, Fml, ftrue, fsep, flft, fres, Memory, Routine, Heap, Env, Calls, Loops, Atoms, Fun, Given, Item, Goal, Step, step, Seq, runs, lands, ‵, _⊛_, _$_, move, drop, use1, split, join, fsplit, fjoin, Opds, FmC, Is, cellAt, bool-makes, uint-makes, u8, u64, RefT, ShrRef, finally, sliceVal, MutSlice, Room, heres, codedHoleys, row, only, owned, nothing, tripleOf, Contract, Triple, says, w32, u32, bool, vbool, bool-vals, bool-tells, ent, emp, _∵_, !, qed, frame, done, sem, exE, snd∗, ensured, lasts}
 use types.Kit as Kit
@@ -12,13 +12,11 @@ use Rattle.adapters.specs.declared.Place.{Place}
 use Rattle.adapters.proofs.Device as D
 use Rattle.adapters.proofs.Device.Laws as D′
 use Rattle.adapters.proofs.Place as P
-use Rattle.calls.specs.Cases.{onRecords}
-use Rattle.calls.proofs.on_records as group-of
-use Rattle.calls.proofs.on_records.Symbol.{name as #group-of}
 use Rattle.adapter_requests.specs.States.{onPlace}
 use Rattle.adapter_requests.proofs.on_place as on-place
 use Rattle.adapter_requests.proofs.on_place.Symbol.{name as #on-place}
-use Rattle.lent_requests.specs.Requests.{ModesSet, PlaceSet}
+use Rattle.adapter_requests.specs.States.{ModesSet}
+use Rattle.lent_requests.specs.Requests.{TableSet}
 use Rattle.lent_table.proofs.Record.{ReadDevice}
 use Rattle.lent_table.proofs.Gives.{at-list, Lent, LentCell, gives}
 use Rattle.lent_requests.proofs.Payload.{payload, Payload, asks-record, asks-table}
@@ -37,16 +35,6 @@ module _ {M : Type 1} {𝓤 : URA M} {H : Heap 𝓤} {A : Atoms 𝓤} {K : Type 
       use1 W (‵ (finally u8 γ bs)) (res-finally 𝓤 H A W (named 0) κ u8 γ bs) $ move t (1 ∷ []) $ drop t $ k)
 
 module _ {M : Type 1} (𝓤 : URA M) (H : Heap 𝓤) (A : Atoms 𝓤) (mem′ : Memory → SProp 𝓤) (run : Routine → Fun 𝓤) where
-  abbrev pub Group : Contract 𝓤
-  Group = tripleOf 𝓤 H A group-of.signature (group-of.spec 𝓤 H A mem′ run)
-
-  module _ (W : Given 𝓤 H A) (group : ℕ) where
-    abbrev to-group : Group .Ghost
-    to-group = ((tt, tt, tt, (group, tt), (vint w32 group ∷ [], tt)), tt)
-
-    goes-group : group < 2 ^ 32 → ent 𝓤 (emp 𝓤) (Group .pre to-group)
-    goes-group fits = qed W [] ∵ nothing ! $ owned ! u32 (Is u32) (uint-makes 𝓤 H A W w32) group _ (refl, fits) $ fjoin ! $ nothing ! $ join ! $ frame ! $ done !
-
   abbrev pub OnPlace : Contract 𝓤
   OnPlace = tripleOf 𝓤 H A on-place.signature (on-place.spec 𝓤 H A mem′ run)
 
@@ -83,17 +71,6 @@ abbrev at-device : ℕ → ℕ → GName → Device → RefT Device
 at-device b o γ m = record { ptr = (b, o); name = γ; now = m }
 
 module _ {M : Type 1} {𝓤 : URA M} {H : Heap 𝓤} {A : Atoms 𝓤} {K : Type 0} {W : Given 𝓤 H A} {Γ : List (Item 𝓤)} {E : Env 𝓤 H} {C : Calls 𝓤 H} {Λ : Loops 𝓤 H} {p : Kit.Post 𝓤 H} {d : Where} {rest : Code} {xs : List Operand} where
-  pub asks-group : K → (mem′ : Memory → SProp 𝓤) (run : Routine → Fun 𝓤) → FmC 𝓤 H (W .laws) C → Triple 𝓤 (C #group-of) (Group 𝓤 H A mem′ run) → (group : ℕ) → group < 2 ^ 32
-      → ((i : Item 𝓤) → Opds K W (i ∷ Γ) E xs (vint w32 group ∷ [])) → Seq K W Γ (lands C Λ E d (vbool (onRecords group)) rest p) → Seq K W Γ (runs C Λ E (seq (call #group-of xs d) rest) p)
-  asks-group t mem′ run fm known group fits os k =
-      gives t fm (Group 𝓤 H A mem′ run) known (to-group 𝓤 H A mem′ run W group) (goes-group 𝓤 H A mem′ run W group fits) bool bool-vals (onRecords group)
-      (record {
-        tells = bool-tells;
-        Said = ensured 𝓤 H A group-of.ended (group-of.clauses 𝓤 H A mem′ run) tt (group, tt) tt;
-        shape = λ w. id⊢ 𝓤 _;
-        told = λ r. exE 𝓤 _ (λ ws. snd∗ 𝓤 (sem 𝓤 H A (lasts group-of.ended tt (group, tt) ws)) _);
-      }) os (λ _. k)
-
   pub asks-place : K → (mem′ : Memory → SProp 𝓤) (run : Routine → Fun 𝓤) → FmC 𝓤 H (W .laws) C → Triple 𝓤 (C #on-place) (OnPlace 𝓤 H A mem′ run) → (group : ℕ) → group < 2 ^ 32
       → ((i : Item 𝓤) → Opds K W (i ∷ Γ) E xs (vint w32 group ∷ [])) → Seq K W Γ (lands C Λ E d (vbool (onPlace group)) rest p) → Seq K W Γ (runs C Λ E (seq (call #on-place xs d) rest) p)
   asks-place t mem′ run fm known group fits os k =
@@ -109,12 +86,12 @@ module _ {M : Type 1} {𝓤 : URA M} {H : Heap 𝓤} {A : Atoms 𝓤} {K : Type 
   pub sets-place : K → (mem′ : Memory → SProp 𝓤) (run : Routine → Fun 𝓤) → FmC 𝓤 H (W .laws) C → Triple 𝓤 (C #set-place) (SetPlace 𝓤 H A mem′ run) → (κ : Lft) (q : Share) (b o : ℕ) (γ : GName) (ps : List ℕ) (ys : List Place) (bt ot : ℕ)
       → Room P.the-row (length ys) → (group attr : ℕ) → group < 2 ^ 32 → attr < 2 ^ 64 → onPlace group ≡ true
       → ((i j k : Item 𝓤) → Opds K W (i ∷ j ∷ k ∷ Γ) E xs (sliceVal (bt, ot) (length ys) ∷ vint w32 group ∷ vint w64 attr ∷ payload κ b o γ ps ∷ []))
-      → ((z : Answer) (v : Val) (zs : List Place) → PlaceSet group attr ys zs ps z → Is An.the-row z (v ∷ []) → Seq K W (‵ (row P.the-row fullShare zs bt ot) ∷ ‵ (flft κ q) ∷ ‵ (Payload κ b o γ ps) ∷ Γ) (lands C Λ E d v rest p))
+      → ((z : Answer) (v : Val) (zs : List Place) → TableSet group attr ys zs ps z → Is An.the-row z (v ∷ []) → Seq K W (‵ (row P.the-row fullShare zs bt ot) ∷ ‵ (flft κ q) ∷ ‵ (Payload κ b o γ ps) ∷ Γ) (lands C Λ E d v rest p))
       → Seq K W (‵ (row P.the-row fullShare ys bt ot) ∷ ‵ (flft κ q) ∷ ‵ (Payload κ b o γ ps) ∷ Γ) (runs C Λ E (seq (call #set-place xs d) rest) p)
   sets-place t mem′ run fm known κ q b o γ ps ys bt ot room group attr group-fits attr-fits on os k =
       asks-table t fm (SetPlace 𝓤 H A mem′ run) known κ q b o γ ps ys bt ot room
       (λ ν δ. (((ν ∷ [], (κ, tt)), (fullShare, (q, tt)), tt, (at-list bt ot δ ys, (group, (attr, (at-list b o γ ps, tt)))), (sliceVal (bt, ot) (length ys) ∷ [], (vint w32 group ∷ [], (vint w64 attr ∷ [], (payload κ b o γ ps ∷ [], tt))))), tt))
-      (with-two 𝓤 H A mem′ run W κ q b o γ ps true group attr group-fits attr-fits) (two-grow 𝓤 H A mem′ run W κ q b o γ ps true group attr group-fits attr-fits) An.the-row {Y = Unit {0} × (Unit {0} × (Unit {0} × Unit {0}))} (λ w. fsep ftrue (fsep ftrue (fsep ftrue ftrue))) (λ z zs. PlaceSet group attr ys zs ps z)
+      (with-two 𝓤 H A mem′ run W κ q b o γ ps true group attr group-fits attr-fits) (two-grow 𝓤 H A mem′ run W κ q b o γ ps true group attr group-fits attr-fits) An.the-row {Y = Unit {0} × (Unit {0} × (Unit {0} × Unit {0}))} (λ w. fsep ftrue (fsep ftrue (fsep ftrue ftrue))) (λ z zs. TableSet group attr ys zs ps z)
       (λ ν δ. qed W ((‵ (flft (ν ∷ []) fullShare) ⊛ ‵ (flft κ q) ⊛ ‵ ftrue) ∷ ‵ (fsep (Lent P.the-row ys bt ot (ν ∷ []) δ) (with-two 𝓤 H A mem′ run W κ q b o γ ps true group attr group-fits attr-fits (fsep (Payload κ b o γ ps) ftrue))) ∷ []) ∵ says ! on $ done !)
       (λ ν δ v. id⊢ 𝓤 _) (λ ν δ. os) k
 

@@ -26,11 +26,11 @@ use Rattle.lent_table.proofs.Calls.{Restore, restores}
 use Rattle.lent_table.proofs.store_device.Symbol.{name as #store-device}
 use Rattle.lent_table.proofs.restore.Symbol.{name as #restore}
 use Rattle.calls.specs.declared.Controller.{Controller}
-use Rattle.calls.specs.declared.Started.{Started}
+use Rattle.list_play.specs.declared.Played.{Played}
 use Rattle.calls.proofs.Controller as C
 use Rattle.calls.proofs.Controller.Laws as C′
-use Rattle.calls.proofs.Started as St
-use Rattle.calls.proofs.Started.Laws as St′
+use Rattle.list_play.proofs.Played as St
+use Rattle.list_play.proofs.Played.Laws as St′
 use Rattle.lent_table.proofs.Locals.{Content, blank, holds, since, locals, frees-all, swaps, holds-false, not-not}
 use Rattle.lent_requests.proofs.Answered.{FitsAnswer, refused, Refuse, refuses}
 use Rattle.answers.proofs.refuse.Symbol.{name as #refuse}
@@ -51,10 +51,10 @@ abbrev answers : Code
 answers = seq (assign (local 0 []) (rvOpd (copy (local 5 (field 0 ∷ []))))) return
 
 abbrev restoring : Code
-restoring = seq (assign (local 14 []) (addrOf (local 3 (field 0 ∷ deref P′.mir ∷ [])))) (seq (assign (local 15 []) (aggregate (copy (local 14 []) ∷ copy (local 3 (field 1 ∷ [])) ∷ []))) (seq (call #restore (copy (local 15 []) ∷ copy (local 5 (field 3 ∷ [])) ∷ copy (local 5 (field 4 ∷ [])) ∷ []) (local 12 [])) answers))
+restoring = seq (assign (local 14 []) (addrOf (local 3 (field 0 ∷ deref P′.mir ∷ [])))) (seq (assign (local 15 []) (aggregate (copy (local 14 []) ∷ copy (local 3 (field 1 ∷ [])) ∷ []))) (seq (call #restore (copy (local 15 []) ∷ copy (local 5 (field 2 ∷ [])) ∷ copy (local 5 (field 3 ∷ [])) ∷ []) (local 12 [])) answers))
 
 abbrev pub after : Code
-after = seq (assign (local 13 []) (addrOf (local 2 (deref D′.mir ∷ [])))) (seq (call #store-device (copy (local 13 []) ∷ copy (local 5 (field 2 ∷ [])) ∷ []) (local 12 [])) restoring)
+after = seq (assign (local 13 []) (addrOf (local 2 (deref D′.mir ∷ [])))) (seq (call #store-device (copy (local 13 []) ∷ copy (local 5 (field 1 ∷ [])) ∷ []) (local 12 [])) restoring)
 
 -- what is known of the functions that both call
 pub record Known {M : Type 1} (𝓤 : URA M) (H : Heap 𝓤) (A : Atoms 𝓤) (mem′ : Memory → SProp 𝓤) (run : Routine → Fun 𝓤) (C′ : Calls 𝓤 H) : Type 1 where
@@ -110,7 +110,7 @@ module _ {M : Type 1} (𝓤 : URA M) (H : Heap 𝓤) (A : Atoms 𝓤) (W : Given
         k (eqb-true (length (a .t)) imageSize (not-not (eqb (length (a .t)) imageSize) t)) gc gd))
 
   -- the callee gave r, and the controller is c′; the flag is on or off
-  module _ (r : Started) (c′ : Controller) (flag : Bool) (gd : Is D.the-row (a .d) (D′.lowered (a .d) ∷ [])) (gc′ : Has c′) (gr : Is St.the-row r (St′.lowered r ∷ [])) where
+  module _ (r : Played) (c′ : Controller) (flag : Bool) (gd : Is D.the-row (a .d) (D′.lowered (a .d) ∷ [])) (gc′ : Has c′) (gr : Is St.the-row r (St′.lowered r ∷ [])) where
     abbrev pub zs : List Place
     zs = restored (a .t) (r .image) (r .restored)
 
@@ -122,7 +122,7 @@ module _ {M : Type 1} (𝓤 : URA M) (H : Heap 𝓤) (A : Atoms 𝓤) (W : Given
       ends : Sq W (Left zs (r .device) 9) (runs C′ Λ Ls answers (atRet Ls Post))
       ends =
           assigns ! (of-opd ! (load ! (from ! (fld ! refl (stop !))) (look-in ! 27 (sub ! 0 refl (whole !))))) (from ! (stop !)) (init ! 17 refl (LL.lawful An.the-type An′.the-laws 𝓤 H A W .typed (r .answer) _ (LL.owed St.the-type St′.the-laws r _ gr .0) .0)) $
-          closes-all ! tt a zs (r .device) c′ (length-restored (a .t) (r .image) (r .restored)) (LL.owed St.the-type St′.the-laws r _ gr .1 .1 .0) gc′ $ returns ! (look ! 9 refl) $
+          closes-all ! tt a zs (r .device) c′ (length-restored (a .t) (r .image) (r .restored)) (LL.owed St.the-type St′.the-laws r _ gr .1 .0) gc′ $ returns ! (look ! 9 refl) $
           swaps ! (Closed a zs (r .device) c′ []) (locals Ls (held a v (holds (An′.lowered (r .answer))) (holds (St′.lowered r)) (holds (vbool flag)) 9) X) $ frees-all ! Ls (held a v (holds (An′.lowered (r .answer))) (holds (St′.lowered r)) (holds (vbool flag)) 9) $
           by ! (exits (length-restored (a .t) (r .image) (r .restored)) (LL.owed St.the-type St′.the-laws r _ gr .0))
 
@@ -131,12 +131,12 @@ module _ {M : Type 1} (𝓤 : URA M) (H : Heap 𝓤) (A : Atoms 𝓤) (W : Given
       restores-it =
           assigns ! (addr ! (from ! (fld ! refl (hop ! (look-in ! 23 (sub ! 0 refl (whole !))) (stop !))))) (from ! (stop !)) (init ! 45 refl (tt, tt)) $
           assigns ! (agg ! (and-then ! (load ! (from ! (stop !)) (look ! 45 refl)) (and-then ! (load ! (from ! (fld ! refl (stop !))) (look-in ! 23 (sub ! 1 refl (whole !)))) (no-more !)))) (from ! (stop !)) (init ! 47 refl (tt, (tt, (record { fits = room .0 }, tt)))) $
-          restores ! mem′ run fm (known .restore) (a .t) (r .restored) (r .image) (a .bt) (a .ot) room ((LL.owed St.the-type St′.the-laws r _ gr .1 .1 .1 .0) .1) (image-of-field (r .image) _ (LL.owed St.the-type St′.the-laws r _ gr .1 .1 .1 .1 .0)) (λ _ _. (and-then ! (load ! (from ! (stop !)) (look ! 48 refl)) (and-then ! (load ! (from ! (fld ! refl (stop !))) (look-in ! 28 (sub ! 3 refl (whole !)))) (and-then ! (load ! (from ! (fld ! refl (stop !))) (look-in ! 28 (sub ! 4 refl (whole !)))) (no-more !)))))
+          restores ! mem′ run fm (known .restore) (a .t) (r .restored) (r .image) (a .bt) (a .ot) room ((LL.owed St.the-type St′.the-laws r _ gr .1 .1 .0) .1) (image-of-field (r .image) _ (LL.owed St.the-type St′.the-laws r _ gr .1 .1 .1 .0)) (λ _ _. (and-then ! (load ! (from ! (stop !)) (look ! 48 refl)) (and-then ! (load ! (from ! (fld ! refl (stop !))) (look-in ! 28 (sub ! 2 refl (whole !)))) (and-then ! (load ! (from ! (fld ! refl (stop !))) (look-in ! 28 (sub ! 3 refl (whole !)))) (no-more !)))))
           (land ! (from ! (stop !)) (store ! 41 refl (tt, tt)) $ ends)
 
       -- the device record is stored
       pub finishes : Sq W (Left (a .t) (a .d) 5) (runs C′ Λ Ls after (atRet Ls Post))
       finishes =
           assigns ! (addr ! (from ! (hop ! (look ! 21 refl) (stop !)))) (from ! (stop !)) (init ! 43 refl (tt, tt)) $
-          move ! (1 ∷ []) $ stores-device ! mem′ run fm (known .store-device) (a .d) (r .device) (a .bd) (a .od) gd (LL.owed St.the-type St′.the-laws r _ gr .1 .1 .0) (λ _ _. (and-then ! (load ! (from ! (stop !)) (look ! 44 refl)) (and-then ! (load ! (from ! (fld ! refl (stop !))) (look-in ! 28 (sub ! 2 refl (whole !)))) (no-more !))))
+          move ! (1 ∷ []) $ stores-device ! mem′ run fm (known .store-device) (a .d) (r .device) (a .bd) (a .od) gd (LL.owed St.the-type St′.the-laws r _ gr .1 .0) (λ _ _. (and-then ! (load ! (from ! (stop !)) (look ! 44 refl)) (and-then ! (load ! (from ! (fld ! refl (stop !))) (look-in ! 28 (sub ! 1 refl (whole !)))) (no-more !))))
           (λ _. land ! (from ! (stop !)) (init ! 41 refl (tt, tt)) $ move ! (1 ∷ []) $ restores-it)

@@ -4,15 +4,14 @@ use mathlib.Core.Path.{_≡_, refl, ap, sym, _∙_, subst}
 use mathlib.Core.Bool.{Bool, true, false}
 use mathlib.Core.List.{List, map}
 use native.Mathlib.Omega.{arith}
-use lib.ListN.{length, getD, set, take, replicate, length-take, length-replicate, length-map, List·getD-map}
-use lib.Seq.{set-getD}
+use lib.ListN.{length, getD, take, replicate, length-take, length-replicate, length-map, List·getD-map}
 use lib.Dec.{eqb}
 use borrow.Author.Tests.{eq-eqb, ne-eqb, eqb-true, eqb-false}
 use Rattle.rules.specs.Bytes.{choose}
-use Rattle.rules.specs.State.{Limits, State, free, fresh, paperLimits}
+use Rattle.rules.specs.State.{Limits, State, free, fresh, paperLimits, withPending}
 use Rattle.rules.specs.Outcome.{Outcome, refuseWith, refuse, need_else_⨾_, result, tell, Seen}
 use Rattle.rules.specs.Outcome.{Answer as Told}
-use Rattle.rules.specs.Requests.{setRequest, request}
+use Rattle.rules.specs.Requests.{enqueue, clearIrqs, clearIoIrq, setRequest, request}
 use Rattle.rules.specs.Machine.{Ask, setAttr, getAttr, guestTake, writeList, playList, outcome, step, answerOf}
 use Rattle.rules.proofs.Checks.{passes, fails, chosen, passed}
 use Rattle.rules.specs.Invariant.{All, Sound}
@@ -24,21 +23,29 @@ use Rattle.adapters.specs.declared.Device.{Device}
 use Rattle.adapters.specs.declared.Place.{Place}
 use Rattle.adapters.specs.Values.{placeOf, deviceOf, unused, Canonical}
 use Rattle.list_image.specs.Image.{imageSize, unpacked}
-use Rattle.list_image.proofs.Laws.{places-all}
+use Rattle.list_image.proofs.Laws.{places-all, places-take}
 use Rattle.list_write.specs.Write.{Written}
 use Rattle.list_image.proofs.Packed.{unpacked-zero, unpacked-table}
 use Rattle.lent_table.specs.Table.{snapTo, restored}
-use Rattle.lent_requests.specs.Requests.{ModesSet, PlaceSet}
+use Rattle.adapter_requests.specs.States.{ModesSet}
+use Rattle.lent_requests.specs.Requests.{TableSet}
 use Rattle.lent_table.proofs.Tables.{snap-all, restored-all, restored-whole}
 use Rattle.lent_requests.proofs.Maps.{map-replicate}
 use Rattle.lent_requests.proofs.Laws.{canonical-unused}
 use Rattle.calls.specs.declared.Controller.{Controller}
-use Rattle.calls.specs.declared.Started.{Started}
+use Rattle.list_play.specs.declared.Played.{Played}
+use Rattle.list_play.specs.Play.{stateOf as imageState}
+use Rattle.list_play.proofs.Sized.{paper-sized}
 use Rattle.calls.specs.Limits.{limitsOf}
 use Rattle.calls.proofs.Limits.{limits-sized, limits-made, limits-kept}
 use Rattle.flic.specs.Surface.{stateOf, Valid, Steps, Made, Requested, Taken}
-use Rattle.calls.specs.Inner.{pendingIn, Began, playedState, Replayed, Recorded, notedIn, Injected, Got, Handed}
-use Rattle.answers.specs.Answers.{answered, saw}
+use Rattle.calls.specs.Inner.{controller, pendingIn, Began, notedIn, Injected, Got}
+use Rattle.answers.specs.Answers.{Answers, answered, saw}
+use Rattle.store_queues.specs.Queues.{Held}
+use Rattle.store.specs.Memory.{pendingOf}
+use Rattle.rules.specs.Take.{takes}
+use Rattle.rules.specs.MoveList.{plays}
+use Rattle.list_image.specs.Places.{placesOf, AllCanonical}
 
 -- a state that a step leads to is sound
 pub next-sound : (ask : Ask) (c c′ : Controller) (d d′ : Device) (t t′ : List Place) (b : List ℕ) (x : Seen) → limitsOf c′ ≡ limitsOf c
@@ -100,6 +107,54 @@ module _ (c : Controller) (d : Device) (t : List Place) (b : List ℕ) (w : leng
 pub wrong-makes : (L : Limits) (ais : Bool) (c : Controller) (d : Device) (t : List Place) → (length t ≡ L .places → ⊥) → Made L ais c c d d t t (answered 14 0)
 wrong-makes L ais c d t w = record { right = λ e. absurd (w e); wrong = λ _. (refl, refl, refl, refl) }
 
+-- ---- What the functions about pending records promise, of the controller's arrays c and what they are then, and of the bytes b and what is left in them.
+-- a controller whose arrays stay
+same-arrays : (c : Controller) {slots order counts singles : List ℕ} → slots ≡ c .slots → order ≡ c .order → counts ≡ c .counts → singles ≡ c .singles → controller slots order counts singles (c .ais) ≡ c
+same-arrays c e₀ e₁ e₂ e₃ = λ i. controller (e₀ i) (e₁ i) (e₂ i) (e₃ i) (c .ais)
+
+-- The outcome q of a call that changes pending records alone.
+pub record Recorded (q : State → Outcome State) (c c′ : Controller) (b b′ : List ℕ) (r : Answer) : Type 0 where
+  pub answer : (s : State) → s .pending ≡ pendingIn c → Answers (limitsOf c) s b (q s) r (withPending (pendingIn c′) s) b′
+  pub kept : (r .code ≡ 0 → ⊥) → (c′ ≡ c) × (b′ ≡ b)
+  pub held : Held (c′ .order) (c′ .counts)
+
+abbrev pub SetRecords : (group attr : ℕ) (c c′ : Controller) (b : List ℕ) (r : Answer) → Type 0
+SetRecords group attr c c′ b r = Recorded (λ s. request (limitsOf c) s (setRequest group) attr b) c c′ b b r
+
+module _ (c : Controller) (slots order counts singles : List ℕ) (attr : ℕ) (b : List ℕ) (r : Answer) where
+  abbrev pub Enqueued : Type 0
+  Enqueued = ((L : Limits) (s : State) → L .room ≡ 256 → s .pending ≡ pendingIn c → Answers L s b (request L s enqueue attr b) r (withPending (pendingOf order counts slots singles) s) b)
+      × (Held order counts × ((r .code ≡ 0 → ⊥) → (slots ≡ c .slots) × (order ≡ c .order) × (counts ≡ c .counts) × (singles ≡ c .singles)))
+
+  pub enqueued : Enqueued → SetRecords 2 attr c (controller slots order counts singles (c .ais)) b r
+  enqueued f = record { answer = λ s p. f .0 _ s (limits-sized c .room) p; kept = λ n. let k = f .1 .1 n in (same-arrays c (k .0) (k .1) (k .2) (k .3), refl); held = f .1 .0 }
+
+  abbrev pub Cleared : Type 0
+  Cleared = ((L : Limits) (s : State) (slots b : List ℕ) → s .pending ≡ pendingOf (c .order) (c .counts) slots (c .singles) → Answers L s b (request L s clearIrqs attr b) r (withPending (pendingOf order counts slots singles) s) b)
+      × (Held order counts × ((r .code ≡ 0 → ⊥) → (order ≡ c .order) × (counts ≡ c .counts) × (singles ≡ c .singles)))
+
+  pub cleared : Cleared → SetRecords 3 attr c (controller (c .slots) order counts singles (c .ais)) b r
+  cleared f = record { answer = λ s p. f .0 _ s _ _ p; kept = λ n. let k = f .1 .1 n in (same-arrays c refl (k .0) (k .1) (k .2), refl); held = f .1 .0 }
+
+  abbrev pub ClearedIo : Type 0
+  ClearedIo = ((L : Limits) (s : State) (singles : List ℕ) → s .pending ≡ pendingOf (c .order) (c .counts) (c .slots) singles → Answers L s b (request L s clearIoIrq attr b) r (withPending (pendingOf order counts (c .slots) singles) s) b)
+      × (Held order counts × ((r .code ≡ 0 → ⊥) → (order ≡ c .order) × (counts ≡ c .counts)))
+
+  pub cleared-io : ClearedIo → SetRecords 8 attr c (controller (c .slots) order counts (c .singles) (c .ais)) b r
+  cleared-io f = record { answer = λ s p. f .0 _ s _ p; kept = λ n. let k = f .1 .1 n in (same-arrays c refl (k .0) (k .1) refl, refl); held = f .1 .0 }
+
+module _ (subclasses : ℕ) (external mcheck : Bool) (c : Controller) (order counts singles : List ℕ) (b b′ : List ℕ) (r : Answer) where
+  abbrev pub TakenOf : Type 0
+  TakenOf = ((L : Limits) (s : State) → s .pending ≡ pendingIn c → Answers L s b (takes s subclasses external mcheck b) r (withPending (pendingOf order counts (c .slots) singles) s) b′)
+      × (Held order counts × ((r .code ≡ 0 → ⊥) → (order ≡ c .order) × (counts ≡ c .counts) × (singles ≡ c .singles) × (b′ ≡ b)))
+
+  abbrev taken-of : TakenOf → Recorded (λ s. takes s subclasses external mcheck b) c (controller (c .slots) order counts singles (c .ais)) b b′ r
+  taken-of f = record { answer = λ s p. f .0 _ s p; kept = λ n. let k = f .1 .1 n in (same-arrays c refl (k .0) (k .1) (k .2), k .3); held = f .1 .0 }
+
+-- a set request of one group number is one of an equal number
+pub of-group : (c c′ : Controller) (attr : ℕ) (b : List ℕ) (r : Answer) (k g : ℕ) → g ≡ k → SetRecords k attr c c′ b r → SetRecords g attr c c′ b r
+of-group c c′ attr b r k g e = subst (λ (x : ℕ). SetRecords x attr c c′ b r) (sym e)
+
 -- ---- set requests, with the right table
 module _ (group attr : ℕ) (c c′ : Controller) (d : Device) (t : List Place) (b : List ℕ) (r : Answer) (e : length t ≡ limitsOf c .places) (h : Valid c d t) where
   -- the request's answer is the step's
@@ -109,17 +164,17 @@ module _ (group attr : ℕ) (c c′ : Controller) (d : Device) (t : List Place) 
   as-step d′ t′ f = ap (answerOf (limitsOf c) (stateOf c d t) b) (right-table (limitsOf c) (length t) 14 _ e) ∙ f
 
   -- about pending records alone: the device record and the table are as they were
-  record-steps : c′ .ais ≡ c .ais → Recorded group attr c c′ b r → Steps (setAttr group attr) c c′ d d t t b (saw r b)
+  record-steps : c′ .ais ≡ c .ais → SetRecords group attr c c′ b r → Steps (setAttr group attr) c c′ d d t t b (saw r b)
   unfolding stateOf
   record-steps a f =
       as-step d t (f .answer (stateOf c d t) refl
       ∙ (λ i. tell (r .code) (r .count) (record { ais = (sym a) i; adapters = map placeOf t; pending = pendingIn c′; device = deviceOf d }) b))
 
-  pub record-promises : c′ .ais ≡ c .ais → Recorded group attr c c′ b r → Requested (setAttr group attr) c c′ d d t t b (saw r b)
+  pub record-promises : c′ .ais ≡ c .ais → SetRecords group attr c c′ b r → Requested (setAttr group attr) c c′ d d t t b (saw r b)
   record-promises a f =
       record {
         steps = record-steps a f;
-        kept = λ code count o. (f .kept (refused-code (setAttr group attr) c c′ d d t t b (saw r b) (record-steps a f) code count o), refl, refl, refl);
+        kept = λ code count o. (f .kept (refused-code (setAttr group attr) c c′ d d t t b (saw r b) (record-steps a f) code count o) .0, refl, refl, refl);
         valid = λ _. record { ready = f .held; places = h .places; sound = next-sound (setAttr group attr) c c′ d d t t b (saw r b) (limits-kept c c′) h (record-steps a f) };
         limits = limits-kept c c′;
       }
@@ -132,13 +187,8 @@ module _ (attr : ℕ) (c c′ : Controller) (d : Device) (t : List Place) (b : L
   inject-steps : Steps (setAttr 10 attr) c c′ d noted t t b (saw r b)
   unfolding stateOf placeOf choose
   inject-steps =
-      as-step 10 attr c c′ d t b r e h noted t (f .answer b (limitsOf c) (stateOf c d t) refl refl refl refl refl (List·getD-map placeOf t attr unused)
-      ∙ (λ i. tell (r .code) (r .count) (record {
-        ais = (sym a) i;
-        adapters = (ap (set (map placeOf t) attr) (sym (List·getD-map placeOf t attr unused)) ∙ set-getD (map placeOf t) attr free) i;
-        pending = pendingIn c′;
-        device = deviceOf noted;
-      }) b))
+      as-step 10 attr c c′ d t b r e h noted t (f .answer (stateOf c d t) b refl refl refl (List·getD-map placeOf t attr unused)
+      ∙ (λ i. tell (r .code) (r .count) (record { ais = (sym a) i; adapters = map placeOf t; pending = pendingIn c′; device = deviceOf noted }) b))
 
   pub inject-promises : Requested (setAttr 10 attr) c c′ d noted t t b (saw r b)
   inject-promises =
@@ -151,11 +201,11 @@ module _ (attr : ℕ) (c c′ : Controller) (d : Device) (t : List Place) (b : L
 
 -- about an adapter's place, and about the device record: nothing else changes
 module _ (group attr : ℕ) (c : Controller) (d : Device) (t : List Place) (b : List ℕ) (r : Answer) (e : length t ≡ limitsOf c .places) (h : Valid c d t) where
-  place-steps : (t′ : List Place) → PlaceSet group attr t t′ b r → Steps (setAttr group attr) c c d d t t′ b (saw r b)
+  place-steps : (t′ : List Place) → TableSet group attr t t′ b r → Steps (setAttr group attr) c c d d t t′ b (saw r b)
   unfolding stateOf
   place-steps t′ f = as-step group attr c c d t b r e h d t′ (f .answer (limitsOf c) (stateOf c d t) (limits-sized c .places) refl)
 
-  pub place-promises : (t′ : List Place) → PlaceSet group attr t t′ b r → Requested (setAttr group attr) c c d d t t′ b (saw r b)
+  pub place-promises : (t′ : List Place) → TableSet group attr t t′ b r → Requested (setAttr group attr) c c d d t t′ b (saw r b)
   place-promises t′ f =
       record {
         steps = place-steps t′ f;
@@ -193,42 +243,38 @@ module _ (group attr : ℕ) (c : Controller) (d : Device) (t : List Place) (b b�
       }
 
 -- ---- a take: for every device record and every table
-pub take-promises : (subclasses : ℕ) (external mcheck : Bool) (c c′ : Controller) (b b′ : List ℕ) (r : Answer) → c′ .ais ≡ c .ais → Handed subclasses external mcheck c c′ b b′ r
-    → Taken subclasses external mcheck c c′ b (saw r b′)
+pub take-promises : (subclasses : ℕ) (external mcheck : Bool) (c : Controller) (order counts singles : List ℕ) (b b′ : List ℕ) (r : Answer) → TakenOf subclasses external mcheck c order counts singles b b′ r
+    → Taken subclasses external mcheck c (controller (c .slots) order counts singles (c .ais)) b (saw r b′)
 unfolding step outcome stateOf
-take-promises subclasses external mcheck c c′ b b′ r a f =
-    record {
-      steps = λ d t. f .answer (stateOf c d t) refl
-          ∙ (λ i. tell (r .code) (r .count) (record { ais = (sym a) i; adapters = map placeOf t; pending = pendingIn c′; device = deviceOf d }) b′);
-      kept = f .kept;
-      ready = f .held;
-      limits = limits-kept c c′;
-    }
+take-promises subclasses external mcheck c order counts singles b b′ r f =
+    let g = taken-of subclasses external mcheck c order counts singles b b′ r f in
+    record { steps = λ d t. g .answer (stateOf c d t) refl; kept = g .kept; ready = g .held; limits = limits-kept c _ }
 
 -- ---- a fresh controller, with the right table
 unused-free : placeOf unused ≡ free
 unfolding placeOf choose
 unused-free = refl
 
-module _ (ais : Bool) (c c′ : Controller) (d : Device) (t : List Place) (r : Started) (a : c′ .ais ≡ r .ais) (e : length t ≡ paperLimits .places) (f : Began ais c′ r) where
+module _ (c c′ : Controller) (d : Device) (t : List Place) (r : Played) (e : length t ≡ paperLimits .places) (f : Began (c′ .order) (c′ .counts) (c′ .singles) r) where
+  abbrev ais : Bool
+  ais = c′ .ais
+
   abbrev pub started : List Place
   started = restored t (r .image) (r .restored)
 
   -- a table that is restored from an image of zeros
   table-cleared : started ≡ replicate (paperLimits .places) unused
   table-cleared =
-      (λ i. restored t (f .started i .image) ((ap (λ (x : Started). x .restored) (f .started) ∙ ap (λ (L : Limits). L .places) (limits-made c′)) i))
-      ∙ restored-whole t (replicate imageSize 0) (paperLimits .places) e
-      (length-replicate {A = ℕ} imageSize 0 ∙ sym (limits-sized c′ .places) ∙ ap (λ (L : Limits). L .places) (limits-made c′))
-      ∙ map-replicate unpacked imageSize 0 ∙ (λ i. replicate ((sym (limits-sized c′ .places) ∙ ap (λ (L : Limits). L .places) (limits-made c′)) i) (unpacked-zero i))
+      (λ i. restored t (f .started i .image) (f .started i .restored)) ∙ restored-whole t (replicate imageSize 0) imageSize (e ∙ paper-sized .places) (length-replicate {A = ℕ} imageSize 0)
+      ∙ map-replicate unpacked imageSize 0 ∙ (λ i. replicate (sym (paper-sized .places) i) (unpacked-zero i))
 
   started-fresh : stateOf c′ (r .device) started ≡ fresh paperLimits ais
   unfolding stateOf fresh
   started-fresh =
       λ i. record {
-        ais = (a ∙ ap (λ (x : Started). x .ais) (f .started)) i;
+        ais = ais;
         adapters = (ap (map placeOf) table-cleared ∙ map-replicate placeOf (paperLimits .places) unused ∙ ap (replicate (paperLimits .places)) unused-free) i;
-        pending = f .pending i;
+        pending = f .pending (c′ .slots) i;
         device = deviceOf (f .started i .device);
       }
 
@@ -236,7 +282,7 @@ module _ (ais : Bool) (c c′ : Controller) (d : Device) (t : List Place) (r : S
   make-promises =
       record {
         right = λ _. (
-          ap (λ (x : Started). x .answer) (f .started),
+          ap (λ (x : Played). x .answer) (f .started),
           limits-made c′,
           started-fresh,
           record {
@@ -266,7 +312,29 @@ module _ (c : Controller) (d : Device) (t : List Place) (b b′ : List ℕ) (r :
         limits = refl;
       }
 
-module _ (c c′ : Controller) (d : Device) (t : List Place) (b : List ℕ) (r : Started) (a : c′ .ais ≡ c .ais) (e : length t ≡ limitsOf c .places) (h : Valid c d t) (f : Replayed c c′ b r) where
+-- the state that a controller's arrays and the first places of an image stand for
+abbrev playedState : (places : ℕ) → Controller → Played → State
+playedState places c r = record { ais = c .ais; adapters = map placeOf (map unpacked (take places (r .image))); pending = pendingIn c; device = deviceOf (r .device) }
+
+-- what `play_list` promises of the controller's arrays c and what they are then
+module _ (c : Controller) (slots order counts singles : List ℕ) (b : List ℕ) (r : Played) where
+  abbrev left : Controller
+  left = controller slots order counts singles (c .ais)
+
+  abbrev pub Replayed : Type 0
+  Replayed = ((L : Limits) (s : State) → L .places ≡ imageSize → L .room ≡ 256 → s .ais ≡ c .ais
+      → Answers L s b (plays L s b) (r .answer) (choose (eqb (r .restored) 0) s (imageState (c .ais) imageSize (r .image) (pendingIn left) (r .device))) b)
+      × ((Held order counts × AllCanonical (take imageSize (r .image))) × (((r .restored ≡ 0 → ⊥) → r .restored ≡ imageSize)
+      × (((L : Limits) (s : State) → s .ais ≡ c .ais → (code count : ℕ) → plays L s b ≡ refuseWith code count → r .restored ≡ 0)
+      × (r .restored ≡ 0 → (slots ≡ c .slots) × (order ≡ c .order) × (counts ≡ c .counts) × (singles ≡ c .singles)))))
+
+module _ (c : Controller) (slots order counts singles : List ℕ) (d : Device) (t : List Place) (b : List ℕ) (r : Played) (e : length t ≡ limitsOf c .places) (h : Valid c d t) (f : Replayed c slots order counts singles b r) where
+  abbrev c′ : Controller
+  c′ = controller slots order counts singles (c .ais)
+
+  same : r .restored ≡ 0 → c′ ≡ c
+  same z = let k = f .1 .1 .1 .1 z in same-arrays c (k .0) (k .1) (k .2) (k .3)
+
   -- the machine's next state, whether the controller was made fresh or not
   next : State
   next = choose (eqb (r .restored) 0) (stateOf c d t) (playedState (limitsOf c .places) c′ r)
@@ -274,12 +342,16 @@ module _ (c c′ : Controller) (d : Device) (t : List Place) (b : List ℕ) (r :
   told : step (limitsOf c) (stateOf c d t) (record { ask = playList; buffer = b; tableLength = length t })
       ≡ tell (r .answer .code) (r .answer .count) next b
   unfolding step outcome stateOf next
-  told = ap (answerOf (limitsOf c) (stateOf c d t) b) (right-table (limitsOf c) (length t) 14 _ e) ∙ f .answer (stateOf c d t) refl
+  told = ap (answerOf (limitsOf c) (stateOf c d t) b) (right-table (limitsOf c) (length t) 14 _ e) ∙ f .0 (limitsOf c) (stateOf c d t) (limits-sized c .places) (limits-sized c .room) refl
+      ∙ (λ i. tell (r .answer .code) (r .answer .count) (choose (eqb (r .restored) 0) (stateOf c d t) (record { ais = c .ais; adapters = images i; pending = pendingIn c′; device = deviceOf (r .device) })) b)
+    where
+      images : take imageSize (placesOf (r .image)) ≡ map placeOf (map unpacked (take (limitsOf c .places) (r .image)))
+      images = places-take imageSize (r .image) ∙ ap (λ (k : ℕ). map placeOf (map unpacked (take k (r .image)))) (sym (limits-sized c .places))
 
   -- a refusal of form
   form : (code count : ℕ) → outcome (limitsOf c) (stateOf c d t) playList (length t) b ≡ refuseWith code count → r .restored ≡ 0
   unfolding outcome stateOf
-  form code count o = f .form (stateOf c d t) refl code count (sym (right-table (limitsOf c) (length t) 14 _ e) ∙ o)
+  form code count o = f .1 .1 .1 .0 (limitsOf c) (stateOf c d t) refl code count (sym (right-table (limitsOf c) (length t) 14 _ e) ∙ o)
 
   -- nothing was changed
   module _ (z : r .restored ≡ 0) where
@@ -288,14 +360,14 @@ module _ (c c′ : Controller) (d : Device) (t : List Place) (b : List ℕ) (r :
     same-steps =
         told
         ∙ (λ i. tell (r .answer .code) (r .answer .count)
-        ((chosen _ (stateOf c d t) (playedState (limitsOf c .places) c′ r) (eq-eqb (r .restored) 0 z) ∙ (λ j. stateOf ((sym (f .same z)) j) d t)) i) b)
+        ((chosen _ (stateOf c d t) (playedState (limitsOf c .places) c′ r) (eq-eqb (r .restored) 0 z) ∙ (λ j. stateOf ((sym (same z)) j) d t)) i) b)
 
     pub same-promises : Requested playList c c′ d d t t b (saw (r .answer) b)
     same-promises =
         record {
           steps = same-steps;
-          kept = λ code count o. (f .same z, refl, refl, refl);
-          valid = λ _. record { ready = f .held; places = h .places; sound = next-sound playList c c′ d d t t b (saw (r .answer) b) (limits-kept c c′) h same-steps };
+          kept = λ code count o. (same z, refl, refl, refl);
+          valid = λ _. record { ready = f .1 .0 .0; places = h .places; sound = next-sound playList c c′ d d t t b (saw (r .answer) b) (limits-kept c c′) h same-steps };
           limits = limits-kept c c′;
         }
 
@@ -315,7 +387,11 @@ module _ (c c′ : Controller) (d : Device) (t : List Place) (b : List ℕ) (r :
         omega (arith, l, length-take (limitsOf c .places) (r .image))
 
     after-is : after ≡ map unpacked (take (limitsOf c .places) (r .image))
-    after-is = ap (restored t (r .image)) (f .whole n) ∙ restored-all t (r .image) (limitsOf c .places) e long
+    after-is = ap (restored t (r .image)) (f .1 .1 .0 n ∙ sym (limits-sized c .places)) ∙ restored-all t (r .image) (limitsOf c .places) e long
+
+    canonical : All Canonical (map unpacked (take (limitsOf c .places) (r .image)))
+    unfolding AllCanonical
+    canonical = subst (λ (k : ℕ). All Canonical (map unpacked (take k (r .image)))) (sym (limits-sized c .places)) (f .1 .0 .1)
 
     play-steps : Steps playList c c′ d (r .device) t after b (saw (r .answer) b)
     unfolding stateOf
@@ -329,8 +405,8 @@ module _ (c c′ : Controller) (d : Device) (t : List Place) (b : List ℕ) (r :
           steps = play-steps;
           kept = λ code count o. absurd (n (form code count o));
           valid = λ _. record {
-            ready = f .held;
-            places = subst (All Canonical) (sym after-is) (f .canonical);
+            ready = f .1 .0 .0;
+            places = subst (All Canonical) (sym after-is) canonical;
             sound = next-sound playList c c′ d (r .device) t after b (saw (r .answer) b) (limits-kept c c′) h play-steps;
           };
           limits = limits-kept c c′;

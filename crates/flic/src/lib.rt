@@ -1,5 +1,5 @@
-// The public calls: what a caller may use is this crate, with the records `calls::Controller`, `adapters::Device` and `adapters::Place` that he lends and the
-// `answers::Answer` that he gets.
+// The public calls. A caller uses this crate, lends the records `calls::Controller`, `adapters::Device` and
+// `adapters::Place`, and gets an `answers::Answer`.
 ghost use Rattle.rules.specs.State.{paperLimits};
 ghost use Rattle.rules.specs.Machine.{setAttr, getAttr, writeList, playList};
 ghost use Rattle.answers.specs.Answers.{saw};
@@ -9,9 +9,14 @@ use adapters::Place;
 use answers::Answer;
 use answers::EFAULT;
 use calls::Controller;
+use lent_table::IDS;
 use numbers::AIRQ_INJECT;
 use numbers::AdapterId;
+use numbers::CLEAR_IO_IRQ;
+use numbers::CLEAR_IRQS;
+use numbers::ENQUEUE;
 use numbers::PLACES;
+use numbers::ROOM;
 
 // A fresh controller with this capability. Its memory holds any values of its types before, for example zeros.
 #[no_mangle]
@@ -26,14 +31,8 @@ pub extern "C" fn flic_make(
     if t.len() != PLACES {
         return answers::refuse(EFAULT);
     }
-    let r = calls::start(
-        &mut c.slots,
-        &mut c.order,
-        &mut c.counts,
-        &mut c.singles,
-        ais,
-    );
-    c.ais = r.ais;
+    let r = calls::start(&mut c.slots, &mut c.order, &mut c.counts, &mut c.singles);
+    c.ais = ais;
     lent_table::store_device(d, r.device);
     lent_table::restore(t, r.restored, r.image);
     r.answer
@@ -55,16 +54,22 @@ pub extern "C" fn flic_set(
     if t.len() != PLACES {
         return answers::refuse(EFAULT);
     }
-    if calls::on_records(group) {
-        return calls::answer_records(
+    if group == ENQUEUE {
+        return record_add::enqueue_irqs(
             &mut c.slots,
             &mut c.order,
             &mut c.counts,
             &mut c.singles,
-            group,
+            ROOM,
             attr,
             payload,
         );
+    }
+    if group == CLEAR_IRQS {
+        return record_take::clear_irqs(&mut c.order, &mut c.counts, &mut c.singles, attr);
+    }
+    if group == CLEAR_IO_IRQ {
+        return record_take::clear_io(&c.slots, &mut c.order, &mut c.counts, attr, payload);
     }
     if group == AIRQ_INJECT {
         let id = AdapterId(attr);
@@ -74,7 +79,6 @@ pub extern "C" fn flic_set(
             &mut c.slots,
             &mut c.order,
             &mut c.counts,
-            &mut c.singles,
             c.ais,
             device,
             place,
@@ -83,7 +87,8 @@ pub extern "C" fn flic_set(
         if r.count != 1 {
             return r; // refused, or dropped
         }
-        lent_table::note_injection(d, c.ais, place);
+        let next = adapters::after_injection(c.ais, device, place);
+        lent_table::store_device(d, next);
         return r;
     }
     if adapter_requests::on_place(group) {
@@ -134,8 +139,8 @@ pub extern "C" fn flic_take(
     requires { ⌜ Ready (now c) ⌝ }
     ensures { λ r. ⌜ Taken subclasses external mcheck (now (c .entry)) (now (c .exit)) (now (out .entry)) (saw r (now (out .exit))) ⌝ }
 {
-    calls::hand_out(
-        &mut c.slots,
+    record_take::take(
+        &c.slots,
         &mut c.order,
         &mut c.counts,
         &mut c.singles,
@@ -183,11 +188,13 @@ pub extern "C" fn flic_play_list(
     if t.len() != PLACES {
         return answers::refuse(EFAULT);
     }
-    let r = calls::replay(
+    let r = list_play::play_list(
         &mut c.slots,
         &mut c.order,
         &mut c.counts,
         &mut c.singles,
+        IDS,
+        ROOM,
         c.ais,
         list,
     );

@@ -1,4 +1,4 @@
--- Laws of playing: one request on the values, and the requests of a table in turn.
+-- Laws of playing: the requests of a table in turn.
 use Prim.Native.Nat.{ℕ, zero, suc, _+_, _-_, _≤_, _<_}
 use mathlib.Core.Path.{_≡_, refl, ap, sym, _∙_, subst}
 use mathlib.Core.Bool.{Bool, false}
@@ -6,7 +6,7 @@ use mathlib.Core.List.{List, [], _∷_}
 use native.Mathlib.Nat.{not-suc-le-zero, le-of-suc-le-suc}
 use native.Mathlib.Numerals.{add-one}
 use native.Mathlib.Omega.{arith}
-use lib.ListN.{getD, set, take, drop, replicate}
+use lib.ListN.{take, drop, replicate}
 use lib.Dec.{eqb}
 use borrow.Author.Tests.{eq-eqb, ne-eqb}
 use Rattle.rules.specs.Bytes.{choose, part}
@@ -22,27 +22,12 @@ use Rattle.rules.proofs.Outcomes.{Known, known-request, never-zero}
 use Rattle.answers.specs.declared.Answer.{Answer}
 use Rattle.answers.specs.Answers.{Answers, answered}
 use Rattle.adapters.specs.declared.Device.{Device}
-use Rattle.adapters.specs.declared.Place.{Place}
-use Rattle.adapters.specs.Values.{placeOf, deviceOf}
-use Rattle.adapter_requests.specs.declared.Reply.{Reply}
-use Rattle.adapter_requests.specs.States.{Replies}
-use Rattle.list_image.specs.Places.{placesOf}
+use Rattle.adapters.specs.Values.{deviceOf}
 use Rattle.list_image.proofs.Laws.{places-none}
 use Rattle.list_form.specs.Form.{slotAt}
 use Rattle.list_form.proofs.Laws.{slotsFrom, next-slot, last-slot}
 use Rattle.list_play.specs.Play.{limitsFrom, stateOf, requestIn, ranTo}
 use Rattle.list_image.specs.Image.{imageSize}
-
--- a reply about one place of an image, as an answer about the state that the image stands for
-pub as-state : (places room : ℕ) (ais : Bool) (device : Device) (place : Place) (id : ℕ) (image image′ b : List ℕ) (o : Limits → State → Outcome State) (p₀ p₁ : Pending) (r : Reply)
-    (a : Answer) (d : Device) → Replies places room ais device place id b o p₀ p₁ r → a ≡ r .answer → d ≡ r .device
-    → placeOf place ≡ getD (take places (placesOf image)) id rules.free
-    → take places (placesOf image′) ≡ set (take places (placesOf image)) id (placeOf (r .place))
-    → Answers (limitsFrom places room) (stateOf ais places image p₀ device) b (o (limitsFrom places room) (stateOf ais places image p₀ device)) a
-    (stateOf ais places image′ p₁ d) b
-as-state places room ais device place id image image′ b o p₀ p₁ r a d h ea ed f g =
-    h (limitsFrom places room) (stateOf ais places image p₀ device) refl refl refl refl refl (sym f)
-    ∙ (λ i. tell ((sym ea) i .code) ((sym ea) i .count) (record { ais = ais; adapters = (sym g) i; pending = p₁; device = deviceOf ((sym ed) i) }) b)
 
 -- the request of a table entry, by the numbers that were read of it
 pub as-slot : (L : Limits) (s t : State) (b : List ℕ) (e : TableEntry) (a : Answer) (at size group attr : ℕ) → at ≡ e .at → size ≡ e .size → group ≡ e .group

@@ -26,13 +26,14 @@ use numbers::PLACES;
 use numbers::SINGLES_BYTES;
 use numbers::SLOT_BYTES;
 
-// What came of a request: its answer; or of a list's requests: code 0 and their number, or the code and place of the refused one. And the device record.
+// Answer and device record after one request, or after all of a list's requests. Of these the answer has code 0 and their
+// number, or the code and the place of the refused one.
 struct Ran {
     answer: Answer,
     device: Device,
 }
 
-// A set request of a list, on the place of the image that it is about, by the functions that answer a single request of its group.
+// A set request of a list, by the functions that answer a single request of its group.
 fn apply(
     slots: &mut [u8; SLOT_BYTES],
     order: &mut [u8; ORDER_BYTES],
@@ -53,20 +54,29 @@ fn apply(
 {
     if group == ENQUEUE {
         let a = record_add::enqueue_irqs(slots, order, counts, singles, room, attr, payload);
-        return Ran {
-            answer: answers::by_fields(a),
-            device,
-        };
+        let answer = answers::by_fields(a);
+        return Ran { answer, device };
     }
-    let id = adapter_requests::about(group, attr, payload);
-    let place = list_image::look_up(image, places, id);
-    let r = adapter_requests::set_values(places, ais, device, place, group, attr, payload);
-    let answer = r.answer;
-    let modes = r.device;
-    list_image::put(image, places, id, r.place);
+    if adapter_requests::on_place(group) {
+        let id = adapter_requests::payload_id(payload);
+        let place = list_image::look_up(image, places, id);
+        let r = adapter_requests::set_place(places, place, group, attr, payload);
+        list_image::put(image, places, id, r.place);
+        let answer = Answer {
+            code: r.code,
+            count: 0,
+        };
+        return Ran { answer, device };
+    }
+    let r = adapter_requests::set_modes(ais, device, group, attr, payload);
+    let answer = Answer {
+        code: r.code,
+        count: 0,
+    };
+    let next = r.device;
     Ran {
-        answer: answers::by_fields(answer),
-        device: adapters::by_fields(modes),
+        answer,
+        device: next,
     }
 }
 
@@ -193,11 +203,7 @@ pub fn play_list(
     list: &[u8],
 ) -> Played
     requires { ⌜ (room ≤ slotCount) × (0 < places) × (places ≤ imageSize) × Held (now order) (now counts) ⌝ }
-    ensures answer { λ r. ⌜ ((L : Limits) (s : State) → L .places ≡ places → L .room ≡ room → s .ais ≡ ais → Answers L s (now (list .entry)) (plays L s (now (list .entry))) (r .answer) (choose (eqb (r .restored) 0) s (stateOf ais places (r .image) (after order counts slots singles) (r .device))) (now (list .entry))) ⌝ }
-    ensures held { λ r. ⌜ HeldAfter order counts × AllCanonical (take places (r .image)) ⌝ }
-    ensures restored { λ r. ⌜ ((r .restored ≡ 0 → ⊥) → r .restored ≡ places) ⌝ }
-    ensures form { λ r. ⌜ ((L : Limits) (s : State) → s .ais ≡ ais → (code count : ℕ) → plays L s (now (list .entry)) ≡ refuseWith code count → r .restored ≡ 0) ⌝ }
-    ensures kept { λ r. ⌜ (r .restored ≡ 0 → Stays slots × Stays order × Stays counts × Stays singles) ⌝ }
+    ensures { λ r. ⌜ ((L : Limits) (s : State) → L .places ≡ places → L .room ≡ room → s .ais ≡ ais → Answers L s (now (list .entry)) (plays L s (now (list .entry))) (r .answer) (choose (eqb (r .restored) 0) s (stateOf ais places (r .image) (after order counts slots singles) (r .device))) (now (list .entry))) × ((HeldAfter order counts × AllCanonical (take places (r .image))) × (((r .restored ≡ 0 → ⊥) → r .restored ≡ places) × (((L : Limits) (s : State) → s .ais ≡ ais → (code count : ℕ) → plays L s (now (list .entry)) ≡ refuseWith code count → r .restored ≡ 0) × ((r .restored ≡ 0 → Stays slots × Stays order × Stays counts × Stays singles))))) ⌝ }
 {
     let code = list_form::form(list, ais);
     if code != 0 {

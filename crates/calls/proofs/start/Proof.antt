@@ -1,8 +1,6 @@
--- `calls::start` meets its contract. Assumes nothing.
+-- `calls::start` meets its contract.
 use borrow.Author.Needs.{needs}
 use Rattle.list_image.specs.Image.{imageSize}
-use Rattle.calls.proofs.Laws.{started-with}
-use Rattle.calls.proofs.Limits.{limits-sized}
 use Rattle.calls.proofs.start.Statement.{statement}
 use Rattle.calls.proofs.start.Tie as tie
 
@@ -11,16 +9,8 @@ returns c =
     let f = c .before .before in
     let e = f .before .before .before .before in
     record {
-      started =
-          started-with _ _ (limits-sized _ .places) _ _ _ _
-          (λ i. record {
-            answer = c .before .accept .ensures i;
-            ais = e .before .args .ais;
-            device = c .fresh-device .ensures i;
-            restored = imageSize;
-            image = e .empty .ensures i;
-          });
-      pending = f .fresh .ensures .1 _;
+      started = λ i. record { answer = c .before .accept .ensures i; device = c .fresh-device .ensures i; restored = imageSize; image = e .empty .ensures i };
+      pending = f .fresh .ensures .1;
       held = f .fresh .ensures .0;
     }
 

@@ -29,7 +29,7 @@ use Rattle.calls.proofs.Controller as C
 use Rattle.flic.proofs.Promises.{get-promises, wrong-promises}
 use Rattle.lent_table.proofs.Locals.{Content, blank, holds, since, locals, frees-all, swaps, holds-false, not-not}
 use Rattle.flic.proofs.Opened.{Has, Cells, looks-ctl, shuts-ctl}
-use Rattle.flic.proofs.Four.{shared, at-array, Loan, Toks, Lent, lent-lfts, lent-shares, lent-args, lent-vals, calls-four}
+use Rattle.flic.proofs.Four.{all, shared, at-array, Loan, Toks, Lent, lent-lfts, lent-shares, lent-args, lent-vals, calls-four}
 use Rattle.flic.proofs.Calls.{gives-up, reads-passed}
 use Rattle.lent_table.proofs.Count.{taken}
 use Rattle.lent_requests.proofs.Answered.{refused, Refuse, refuses}
@@ -104,11 +104,11 @@ module _ {M : Type 1} (𝓤 : URA M) (H : Heap 𝓤) (A : Atoms 𝓤) (W : Given
   abbrev Leaves : Y → Fml
   Leaves y = fsep ftrue (fsep ftrue (fsep ftrue (fsep ftrue (fsep (fsep (finally u8 γo (last y)) (feq ℕ (length (last y)) (length bytes))) ftrue))))
 
-  abbrev to-answer-get : Loan → AnswerGet 𝓤 H A mem′ run .Ghost
-  to-answer-get n = ((lent-lfts n (κo, tt), lent-shares (qo, tt), tt, lent-args n c bc oc (c .ais, (d, (group, (attr, (at-array bo oo γo bytes, tt))))), lent-vals bc oc (vbool (c .ais) ∷ [], (D′.lowered d ∷ [], (vint w32 group ∷ [], (vint w64 attr ∷ [], (out ∷ [], tt)))))), tt)
+  abbrev to-answer-get : Share → Loan → AnswerGet 𝓤 H A mem′ run .Ghost
+  to-answer-get sh n = ((lent-lfts (all (shared sh)) n (κo, tt), lent-shares (all (shared sh)) (qo, tt), tt, lent-args (all (shared sh)) n c bc oc (c .ais, (d, (group, (attr, (at-array bo oo γo bytes, tt))))), lent-vals (all (shared sh)) bc oc (vbool (c .ais) ∷ [], (D′.lowered d ∷ [], (vint w32 group ∷ [], (vint w64 attr ∷ [], (out ∷ [], tt)))))), tt)
 
-  goes : length ys ≡ limitsOf c .places → (sh : Share) (n : Loan) → ent 𝓤 (⋆ 𝓤 H A (Toks n T ∷ ‵ (Lent (shared sh) n c bc oc O) ∷ [])) (AnswerGet 𝓤 H A mem′ run .pre (to-answer-get n))
-  goes right sh n = qed W (Toks n T ∷ ‵ (Lent (shared sh) n c bc oc O) ∷ []) ∵ says ! (valid right .ready) $ done !
+  goes : length ys ≡ limitsOf c .places → (sh : Share) (n : Loan) → ent 𝓤 (⋆ 𝓤 H A (Toks (all (shared sh)) n T ∷ ‵ (Lent (all (shared sh)) n c bc oc O) ∷ [])) (AnswerGet 𝓤 H A mem′ run .pre (to-answer-get sh n))
+  goes right sh n = qed W (Toks (all (shared sh)) n T ∷ ‵ (Lent (all (shared sh)) n c bc oc O) ∷ []) ∵ says ! (valid right .ready) $ done !
 
   module _ (C′ : Calls 𝓤 H) (Λ : Loops 𝓤 H) (fm : FmC 𝓤 H (W .laws) C′) (known-refuse : Triple 𝓤 (C′ refuse-def.name) (Refuse 𝓤 H A mem′ run)) (known-read : Triple 𝓤 (C′ read-device-def.name) (ReadDevice 𝓤 H A mem′ run)) (known : Triple 𝓤 (C′ answer-get-def.name) (AnswerGet 𝓤 H A mem′ run)) (l₀ l₁ l₂ l₃ l₄ l₅ l₆ l₇ l₈ l₉ l₁₀ l₁₁ l₁₂ l₁₃ l₁₄ l₁₅ : ℕ) where
     abbrev E : Env 𝓤 H
@@ -140,7 +140,7 @@ module _ {M : Type 1} (𝓤 : URA M) (H : Heap 𝓤) (A : Atoms 𝓤) (W : Given
       calls-it sh g gd =
           nothing ! $ move ! (9 ∷ 0 ∷ []) $ fjoin ! $ owned ! u64 (Is u64) (uint-makes 𝓤 H A W w64) attr _ (refl, attr-fits) $ fjoin ! $ owned ! u32 (Is u32) (uint-makes 𝓤 H A W w32) group _ (refl, group-fits) $ fjoin ! $ owned ! D.the-row (Is D.the-row) (LL.makes D.the-type D′.the-plain 𝓤 H A) d _ gd $ fjoin ! $
           owned ! bool (Is bool) (bool-makes 𝓤 H A W) (c .ais) _ refl $ fjoin ! $ nothing ! $ move ! (10 ∷ 0 ∷ []) $ join ! $ move ! (2 ∷ 3 ∷ 4 ∷ 5 ∷ 0 ∷ 1 ∷ []) $
-          calls-four ! fm (AnswerGet 𝓤 H A mem′ run) known (shared sh) to-answer-get c g bc oc An.the-row T O Leaves (λ z w. Got group attr c d bytes (last (w .1 .1 .1 .1)) z) (goes right sh) (λ n v. id⊢ 𝓤 _) (λ n i.
+          calls-four (all (shared sh)) ! fm (AnswerGet 𝓤 H A mem′ run) known (to-answer-get sh) c g bc oc An.the-row T O Leaves (λ z w. Got group attr c d bytes (last (w .1 .1 .1 .1)) z) (goes right sh) (λ n v. id⊢ 𝓤 _) (λ n i.
           (and-then ! (load ! (from ! (stop !)) (look ! 30 refl)) (and-then ! (load ! (from ! (stop !)) (look ! 32 refl)) (and-then ! (load ! (from ! (stop !)) (look ! 34 refl)) (and-then ! (load ! (from ! (stop !)) (look ! 36 refl)) (and-then ! (load ! (from ! (stop !)) (look ! 28 refl)) (and-then ! (load ! (from ! (stop !)) (look ! 24 refl)) (and-then ! (load ! (from ! (stop !)) (look ! 18 refl)) (and-then ! (load ! (from ! (stop !)) (look ! 20 refl)) (and-then ! (load ! (from ! (stop !)) (look ! 40 refl)) (no-more !))))))))))) (λ z v w got g′ is.
           land ! (from ! (stop !)) (init ! 11 refl (LL.lawful An.the-type An′.the-laws 𝓤 H A W .typed z _ is .0)) $ move ! (0 ∷ 1 ∷ 2 ∷ 3 ∷ 6 ∷ 7 ∷ 8 ∷ []) $ ends sh g z v (w .1 .1 .1 .1) got is)
 

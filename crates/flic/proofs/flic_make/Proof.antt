@@ -1,5 +1,5 @@
 -- `flic_make`: what it shares with `flic_play_list` is in Fresh.antt. In between `start` is called, and the capability is stored.
-use Rattle.flic.proofs.Walk.{_≡_, refl, ap, subst, ℕ, Bool, [], _∷_, List, length, URA, fullShare, named, tyBool, Val, vbool, vptr, SProp, ent, emp, via, id⊢, Fml, ftrue, fsep, fat, Memory, Routine, Heap, Env, Calls, Loops, WpFn, Tables, Atoms, Fun, Given, Sq, runs, atRet, ‵, ⋆, _$_, _∵_, !, qed, move, keep, drop, rewrite, fjoin, suffices, frame, done, look, store, init, stop, hop, fld, from, load, of-opd, and-then, no-more, assigns, land, enter, alloc1, alloc0, params1, pass1, pass0, whole, sub, look-in, FmC, fmOf, WpFn-mono, owns, Is, bool-vals, bool-tells, bool-makes, RefT, ptr-vals, mut-tells, Room, slice-vals, mut-slice-tells, plain, only, owned, nothing, onEntry, Meets, tripleOf, Contract, Triple, entered, cited, says, Stays, stay-ref, stay-slice, walkOf, goes-ref, goes-slice, Walks, ends-at, walked, walk-meets, yes, givenOf, tables, tablesOf, bool, stay-dropped, goes-dropped, fst∗}
+use Rattle.flic.proofs.Walk.{_≡_, refl, ap, subst, ℕ, Bool, [], _∷_, List, length, URA, fullShare, named, tyBool, Val, vbool, vptr, SProp, ent, emp, via, id⊢, ftrue, fat, Memory, Routine, Heap, Env, Calls, Loops, WpFn, Tables, Atoms, Fun, Given, Sq, runs, atRet, ‵, ⋆, _$_, _∵_, !, qed, move, keep, drop, rewrite, fjoin, suffices, frame, done, look, store, init, stop, hop, fld, from, load, of-opd, and-then, no-more, assigns, land, enter, alloc1, alloc0, params1, pass1, pass0, FmC, fmOf, WpFn-mono, owns, Is, bool-vals, bool-tells, RefT, ptr-vals, mut-tells, Room, slice-vals, mut-slice-tells, plain, only, owned, nothing, onEntry, Meets, tripleOf, Contract, Triple, entered, cited, says, Stays, stay-ref, stay-slice, walkOf, goes-ref, goes-slice, Walks, ends-at, walked, walk-meets, yes, givenOf, tables, tablesOf, bool, stay-dropped, goes-dropped, fst∗}
 use denote.Struct.Laws as LL
 use mathlib.Core.Path.{sym, _∙_}
 use Rattle.rules.specs.State.{paperLimits}
@@ -15,18 +15,18 @@ use Rattle.adapters.proofs.Place as P
 use Rattle.lent_table.proofs.Record.{StoreDevice}
 use Rattle.lent_table.proofs.Calls.{Restore}
 use Rattle.calls.specs.declared.Controller.{Controller}
-use Rattle.calls.specs.declared.Started.{Started}
+use Rattle.list_play.specs.declared.Played.{Played}
 use Rattle.flic.specs.Surface.{Made}
 use Rattle.calls.specs.Inner.{controller, Began}
 use Rattle.calls.proofs.Controller as C
-use Rattle.calls.proofs.Started as St
-use Rattle.calls.proofs.Started.Laws as St′
+use Rattle.list_play.proofs.Played as St
+use Rattle.list_play.proofs.Played.Laws as St′
 use Rattle.flic.proofs.Promises.{make-promises, wrong-makes}
 use Rattle.lent_table.proofs.Locals.{Content, blank, holds, locals}
 use Rattle.flic.proofs.Opened.{Has}
 use Rattle.lent_table.proofs.Called.{asks-nothing}
 use Rattle.flic.proofs.All.{Refs, refs, at-ctl, at-dev, at-tab, table, Owned, Tokens, Open, Closed, takes-all, gives-all}
-use Rattle.flic.proofs.Four.{mutably, Loan, left-by, lent-lfts, lent-shares, lent-args, lent-vals, calls-four}
+use Rattle.flic.proofs.Four.{all, mutably, Loan, left-by, lent-lfts, lent-shares, lent-args, lent-vals, calls-four}
 use Rattle.flic.proofs.Fresh as Fresh
 use Rattle.flic.proofs.Fresh.{Known, starts, finishes}
 use Rattle.answers.proofs.refuse.Symbol as refuse-def
@@ -70,15 +70,9 @@ module _ {M : Type 1} (𝓤 : URA M) (H : Heap 𝓤) (A : Atoms 𝓤) (W : Given
       qed W (Closed a zs m c′ []) ∵ suffices ! _ (ends-at 𝓤 H A f.ended stayed (f.clauses 𝓤 H A mem′ run) W bound (An′.lowered z) z (c′, (m, (zs, (tt, tt)))) (tt, (tt, (e, (tt, tt))))) $ says ! made $
       nothing ! $ nothing ! $ fjoin ! $ nothing ! $ move ! (2 ∷ 3 ∷ 4 ∷ 5 ∷ 6 ∷ 7 ∷ 8 ∷ 9 ∷ 10 ∷ []) $ gives-all ! a zs m c′ e room $ frame ! $ frame ! $ owned ! An.the-row (Is An.the-row) (LL.makes An.the-type An′.the-plain 𝓤 H A) z _ g $ done !
 
-  -- ---- the call of `start`: after the arrays it takes the capability
-  abbrev O : Fml
-  O = fsep (bool .own ais (vbool ais ∷ [])) ftrue
-
-  abbrev Leaves : Unit {0} × Unit {0} → Fml
-  Leaves y = fsep ftrue ftrue
-
+  -- ---- the call of `start`, which takes nothing but the arrays
   abbrev to-start : Loan → Start 𝓤 H A mem′ run .Ghost
-  to-start n = ((lent-lfts n tt, lent-shares tt, tt, lent-args n (a .c) (a .bc) (a .oc) (ais, tt), lent-vals (a .bc) (a .oc) (vbool ais ∷ [], tt)), tt)
+  to-start n = ((lent-lfts (all mutably) n tt, lent-shares (all mutably) tt, tt, lent-args (all mutably) n (a .c) (a .bc) (a .oc) tt, lent-vals (all mutably) (a .bc) (a .oc) tt), tt)
 
   module _ (C′ : Calls 𝓤 H) (Λ : Loops 𝓤 H) (fm : FmC 𝓤 H (W .laws) C′) (known : Known 𝓤 H A mem′ run C′) (known-start : Triple 𝓤 (C′ start-def.name) (Start 𝓤 H A mem′ run)) (l₀ l₁ l₂ l₃ l₄ l₅ l₆ l₇ l₈ l₉ l₁₀ l₁₁ l₁₂ l₁₃ l₁₄ l₁₅ : ℕ) where
     abbrev E : Env 𝓤 H
@@ -89,23 +83,24 @@ module _ {M : Type 1} (𝓤 : URA M) (H : Heap 𝓤) (A : Atoms 𝓤) (W : Given
 
     module _ (right : length (a .t) ≡ paperLimits .places) where
       -- the capability is stored
-      stores-it : (z : Started) (c₁ : Controller) → Has c₁ → Is D.the-row (a .d) (D′.lowered (a .d) ∷ []) → Is St.the-row z (St′.lowered z ∷ []) → Began ais (controller (c₁ .slots) (c₁ .order) (c₁ .counts) (c₁ .singles) (z .ais)) z
+      stores-it : (z : Played) (c₁ : Controller) → Has c₁ → Is D.the-row (a .d) (D′.lowered (a .d) ∷ []) → Is St.the-row z (St′.lowered z ∷ []) → Began (c₁ .order) (c₁ .counts) (c₁ .singles) z
           → Sq W (Open H a (a .t) (a .d) c₁ (locals E (held (holds (St′.lowered z)) 5) [])) (runs C′ Λ E mir.t-9 (atRet E Post))
       stores-it z c₁ g gd gz began =
-          assigns ! (of-opd ! (load ! (from ! (fld ! refl (stop !))) (look-in ! 27 (sub ! 1 refl (whole !))))) (from ! (hop ! (look ! 19 refl) (fld ! refl (stop !)))) (store ! 12 refl (tt, tt)) $
-          finishes 𝓤 H A W mem′ run a room tyBool (vbool ais) Post C′ Λ fm known [] l₀ l₁ l₂ l₃ l₄ l₅ l₆ l₇ l₈ l₉ l₁₀ l₁₁ l₁₂ l₁₃ l₁₄ l₁₅ z (controller (c₁ .slots) (c₁ .order) (c₁ .counts) (c₁ .singles) (z .ais)) (Fresh.wrong a) gd g gz (λ e is. exits _ (z .device) _ (z .answer) (make-promises ais (a .c) _ (a .d) (a .t) z refl right began) e is)
+          let c′ = controller (c₁ .slots) (c₁ .order) (c₁ .counts) (c₁ .singles) ais in
+          assigns ! (of-opd ! (load ! (from ! (stop !)) (look ! 25 refl))) (from ! (hop ! (look ! 19 refl) (fld ! refl (stop !)))) (store ! 12 refl (tt, tt)) $
+          finishes 𝓤 H A W mem′ run a room tyBool (vbool ais) Post C′ Λ fm known [] l₀ l₁ l₂ l₃ l₄ l₅ l₆ l₇ l₈ l₉ l₁₀ l₁₁ l₁₂ l₁₃ l₁₄ l₁₅ z c′ (Fresh.wrong a) gd g gz (λ e is. exits c′ (z .device) _ (z .answer) (make-promises (a .c) c′ (a .d) (a .t) z right began) e is)
 
       calls-it : Has (a .c) → Is D.the-row (a .d) (D′.lowered (a .d) ∷ []) → Sq W (Open H a (a .t) (a .d) (a .c) (locals E (held blank 5) [])) (runs C′ Λ E mir.t-8 (atRet E Post))
       calls-it gc gd =
-          nothing ! $ owned ! bool (Is bool) (bool-makes 𝓤 H A W) ais _ refl $ fjoin ! $ nothing ! $
-          -- [true; O; the table; the device record; what closes each; the arrays from 10; …]
+          nothing ! $ nothing ! $
+          -- [true; true; the table; the device record; what closes each; the arrays from 10; …]
           move ! (10 ∷ 11 ∷ 12 ∷ 13 ∷ 0 ∷ 1 ∷ []) $
-          calls-four ! fm (Start 𝓤 H A mem′ run) known-start mutably to-start (a .c) gc (a .bc) (a .oc) St.the-row (‵ ftrue) O Leaves (λ z w. Began ais (controller (w .0) (w .1 .0) (w .1 .1 .0) (w .1 .1 .1 .0) (z .ais)) z) (λ n. asks-nothing 𝓤 _) (λ n v. id⊢ 𝓤 _) (λ n i.
-          (and-then ! (load ! (from ! (stop !)) (look ! 34 refl)) (and-then ! (load ! (from ! (stop !)) (look ! 36 refl)) (and-then ! (load ! (from ! (stop !)) (look ! 38 refl)) (and-then ! (load ! (from ! (stop !)) (look ! 40 refl)) (and-then ! (load ! (from ! (stop !)) (look ! 26 refl)) (no-more !))))))) (λ z v w φ g′ is.
+          calls-four (all mutably) ! fm (Start 𝓤 H A mem′ run) known-start to-start (a .c) gc (a .bc) (a .oc) St.the-row (‵ ftrue) ftrue {Y = Unit {0}} (λ y. ftrue) (λ z w. Began (w .1 .0) (w .1 .1 .0) (w .1 .1 .1 .0) z) (λ n. asks-nothing 𝓤 _) (λ n v. id⊢ 𝓤 _) (λ n i.
+          (and-then ! (load ! (from ! (stop !)) (look ! 34 refl)) (and-then ! (load ! (from ! (stop !)) (look ! 36 refl)) (and-then ! (load ! (from ! (stop !)) (look ! 38 refl)) (and-then ! (load ! (from ! (stop !)) (look ! 40 refl)) (no-more !)))))) (λ z v w φ g′ is.
           land ! (from ! (stop !)) (init ! 29 refl (LL.lawful St.the-type St′.the-laws 𝓤 H A W .typed z _ is .0)) $ rewrite ! 29 (λ (u : Val). ‵ (fat fullShare St′.mir l₅ 0 u)) (ap only (St′.lowers .val-is z (v ∷ []) is)) refl $
           -- [the arrays; true; the rest's last values; the table; …]
           move ! (5 ∷ []) $ drop ! $ move ! (4 ∷ []) $ drop ! $ move ! (4 ∷ 5 ∷ 6 ∷ 7 ∷ 8 ∷ 9 ∷ 10 ∷ 11 ∷ 0 ∷ 1 ∷ 2 ∷ 3 ∷ []) $
-          stores-it z (left-by mutably (a .c) w) g′ gd (subst (Is St.the-row z) (St′.lowers .val-is z (v ∷ []) is) is) φ)
+          stores-it z (left-by (all mutably) (Unit {0}) (a .c) w) g′ gd (subst (Is St.the-row z) (St′.lowers .val-is z (v ∷ []) is) is) φ)
 
   walk : (C′ : Calls 𝓤 H) (Λ : Loops 𝓤 H) (fm : FmC 𝓤 H (W .laws) C′) → Known 𝓤 H A mem′ run C′ → Triple 𝓤 (C′ start-def.name) (Start 𝓤 H A mem′ run) → ent 𝓤 (onEntry 𝓤 H A f.signature (bound .0 .0) (bound .0 .1) x at) (WpFn 𝓤 H C′ Λ code.function (vptr (a .bc) (a .oc) ∷ vptr (a .bd) (a .od) ∷ table a ∷ vbool ais ∷ []) Post)
   walk C′ Λ fm known known-start =

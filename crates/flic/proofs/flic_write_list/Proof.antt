@@ -33,7 +33,7 @@ use Rattle.flic.proofs.Promises.{write-promises, wrong-promises}
 use Rattle.lent_table.proofs.Locals.{Content, blank, holds, since, locals, frees-all, swaps, holds-false, not-not}
 use Rattle.flic.proofs.Opened.{Has, Cells, looks-ctl, shuts-ctl}
 use Rattle.flic.proofs.All.{Refs, refs, at-ctl, at-dev, at-tab, table, Tokens}
-use Rattle.flic.proofs.Four.{shared, at-array, Loan, Toks, Lent, lent-lfts, lent-shares, lent-args, lent-vals, calls-four}
+use Rattle.flic.proofs.Four.{all, shared, at-array, Loan, Toks, Lent, lent-lfts, lent-shares, lent-args, lent-vals, calls-four}
 use Rattle.flic.proofs.Calls.{gives-up, reads-passed}
 use Rattle.lent_table.proofs.Count.{taken}
 use Rattle.lent_requests.proofs.Answered.{refused, Refuse, refuses}
@@ -113,11 +113,11 @@ module _ {M : Type 1} (𝓤 : URA M) (H : Heap 𝓤) (A : Atoms 𝓤) (W : Given
   abbrev Leaves : Y → Fml
   Leaves y = fsep ftrue (fsep ftrue (fsep ftrue (fsep (fsep (finally u8 γo (last y)) (feq ℕ (length (last y)) (length bytes))) ftrue)))
 
-  abbrev to-write : Loan → WriteList 𝓤 H A mem′ run .Ghost
-  to-write n = ((lent-lfts n (κo, tt), lent-shares (qo, tt), tt, lent-args n (a .c) (a .bc) (a .oc) (a .c .ais, (a .d, (snapTo (a .t) imageSize, (at-array bo oo γo bytes, tt)))), lent-vals (a .bc) (a .oc) (vbool (a .c .ais) ∷ [], (D′.lowered (a .d) ∷ [], (low-image (snapTo (a .t) imageSize) ∷ [], (out ∷ [], tt))))), tt)
+  abbrev to-write : Share → Loan → WriteList 𝓤 H A mem′ run .Ghost
+  to-write sh n = ((lent-lfts (all (shared sh)) n (κo, tt), lent-shares (all (shared sh)) (qo, tt), tt, lent-args (all (shared sh)) n (a .c) (a .bc) (a .oc) (a .c .ais, (a .d, (snapTo (a .t) imageSize, (at-array bo oo γo bytes, tt)))), lent-vals (all (shared sh)) (a .bc) (a .oc) (vbool (a .c .ais) ∷ [], (D′.lowered (a .d) ∷ [], (low-image (snapTo (a .t) imageSize) ∷ [], (out ∷ [], tt))))), tt)
 
-  goes : length (a .t) ≡ limitsOf (a .c) .places → (sh : Share) (n : Loan) → ent 𝓤 (⋆ 𝓤 H A (Toks n T ∷ ‵ (Lent (shared sh) n (a .c) (a .bc) (a .oc) O) ∷ [])) (WriteList 𝓤 H A mem′ run .pre (to-write n))
-  goes right sh n = qed W (Toks n T ∷ ‵ (Lent (shared sh) n (a .c) (a .bc) (a .oc) O) ∷ []) ∵ says ! (valid right .ready) $ done !
+  goes : length (a .t) ≡ limitsOf (a .c) .places → (sh : Share) (n : Loan) → ent 𝓤 (⋆ 𝓤 H A (Toks (all (shared sh)) n T ∷ ‵ (Lent (all (shared sh)) n (a .c) (a .bc) (a .oc) O) ∷ [])) (WriteList 𝓤 H A mem′ run .pre (to-write sh n))
+  goes right sh n = qed W (Toks (all (shared sh)) n T ∷ ‵ (Lent (all (shared sh)) n (a .c) (a .bc) (a .oc) O) ∷ []) ∵ says ! (valid right .ready) $ done !
 
   module _ (C′ : Calls 𝓤 H) (Λ : Loops 𝓤 H) (fm : FmC 𝓤 H (W .laws) C′) (known : Known 𝓤 H A mem′ run C′) (l₀ l₁ l₂ l₃ l₄ l₅ l₆ l₇ l₈ l₉ l₁₀ l₁₁ l₁₂ l₁₃ l₁₄ : ℕ) where
     abbrev E : Env 𝓤 H
@@ -149,7 +149,7 @@ module _ {M : Type 1} (𝓤 : URA M) (H : Heap 𝓤) (A : Atoms 𝓤) (W : Given
       calls-it sh g gd gi =
           nothing ! $ move ! (9 ∷ 0 ∷ []) $ fjoin ! $ owned ! Image (Is Image) (image-makes 𝓤 H A W) (snapTo (a .t) imageSize) _ gi $ fjoin ! $ owned ! D.the-row (Is D.the-row) (LL.makes D.the-type D′.the-plain 𝓤 H A) (a .d) _ gd $ fjoin ! $
           owned ! bool (Is bool) (bool-makes 𝓤 H A W) (a .c .ais) _ refl $ fjoin ! $ nothing ! $ move ! (10 ∷ 0 ∷ []) $ join ! $ move ! (2 ∷ 3 ∷ 4 ∷ 5 ∷ 0 ∷ 1 ∷ []) $
-          calls-four ! fm (WriteList 𝓤 H A mem′ run) (known .write-list) (shared sh) to-write (a .c) g (a .bc) (a .oc) An.the-row T O Leaves (λ z w. Written (a .c .ais) (a .d) (snapTo (a .t) imageSize) (pendingIn (a .c)) bytes (last (w .1 .1 .1 .1)) z) (goes right sh) (λ n v. id⊢ 𝓤 _) (λ n i.
+          calls-four (all (shared sh)) ! fm (WriteList 𝓤 H A mem′ run) (known .write-list) (to-write sh) (a .c) g (a .bc) (a .oc) An.the-row T O Leaves (λ z w. Written (a .c .ais) (a .d) (snapTo (a .t) imageSize) (pendingIn (a .c)) bytes (last (w .1 .1 .1 .1)) z) (goes right sh) (λ n v. id⊢ 𝓤 _) (λ n i.
           (and-then ! (load ! (from ! (stop !)) (look ! 28 refl)) (and-then ! (load ! (from ! (stop !)) (look ! 30 refl)) (and-then ! (load ! (from ! (stop !)) (look ! 32 refl)) (and-then ! (load ! (from ! (stop !)) (look ! 34 refl)) (and-then ! (load ! (from ! (stop !)) (look ! 26 refl)) (and-then ! (load ! (from ! (stop !)) (look ! 20 refl)) (and-then ! (load ! (from ! (stop !)) (look ! 22 refl)) (and-then ! (load ! (from ! (stop !)) (look ! 38 refl)) (no-more !)))))))))) (λ z v w wrote g′ is.
           land ! (from ! (stop !)) (init ! 11 refl (LL.lawful An.the-type An′.the-laws 𝓤 H A W .typed z _ is .0)) $ move ! (0 ∷ 1 ∷ 2 ∷ 3 ∷ 6 ∷ 7 ∷ 8 ∷ []) $ ends sh g z v (w .1 .1 .1 .1) wrote is)
 

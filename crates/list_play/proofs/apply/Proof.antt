@@ -1,12 +1,14 @@
--- `list_play::apply` meets its contract: an answer about pending records, or a reply about one place, is one about the state of the image.
+-- `list_play::apply` meets its contract: an ENQUEUE, a request about a place of the image, or one about the device record.
 use mathlib.Core.Path.{refl, sym, ap, _∙_}
 use mathlib.Core.Bool.{true≢false}
 use borrow.Author.Needs.{needs}
 use Rattle.rules.specs.Requests.{request}
 use Rattle.rules.specs.MoveList.{movable}
+use Rattle.rules.specs.Outcome.{tell}
+use Rattle.adapters.specs.Values.{deviceOf}
+use Rattle.store.specs.Memory.{pendingOf}
 use Rattle.answers.proofs.Laws.{as-answer}
 use Rattle.list_play.specs.Play.{limitsFrom}
-use Rattle.list_play.proofs.Laws.{as-state}
 use Rattle.list_play.proofs.apply.Statement.{statement}
 use Rattle.list_play.proofs.apply.Tie as tie
 
@@ -19,31 +21,41 @@ returns c =
       (e .1 .0, f .pre .3),
     )
 
-set-values-requires : tie.Need-set-values-requires
-set-values-requires c κs =
-    let m = c .before .before .before .before .before .pre .4 in
-    (c .before .before .before .if1 .left, λ z. true≢false (sym m ∙ ap movable z), λ z. true≢false (sym m ∙ ap movable z), λ z. true≢false (sym m ∙ ap movable z))
+set-place-requires : tie.Need-set-place-requires
+set-place-requires c κs = let t = c .before .before .before in sym (t .before .on-place .ensures) ∙ t .if2 .taken
 
 put-requires : tie.Need-put-requires
 put-requires c κs =
-    let f = c .before .before .before .before .before .before .before .before .before in
-    (f .pre .1, f .pre .3, c .before .before .before .set-values .ensures (f .args .room) .canonical (c .before .before .before .before .look-up .ensures .1))
+    let l = c .before .before in
+    let f = l .before .before .before .before .before .before .before in
+    (f .pre .1, f .pre .3, c .before .set-place .ensures .canonical (l .look-up .ensures .1))
 
+-- the place at the payload's id is looked up in the image and put there
 returns-2 : tie.Need-returns-2
 returns-2 c =
-    let v = c .before .before .before .before .before .before in
+    let v = c .before .before in
     let l = v .before in
-    let f = l .before .before .before .before .before in
-    let a = f .args in
-    let e = l .before .before .about .ensures in
-    let p = c .before .before .put .ensures in (
-      as-state (a .places) (a .room) (a .ais) (a .device) _ _ _ _ (a .payload .now) _ _ _ (v .set-values .result) _ _ (v .set-values .ensures (a .room) .answer _) (c .before .by-fields2 .ensures) (c .by-fields3 .ensures)
-          (rw e at (l .look-up .ensures .0)) (rw e at (p .0)),
-      (f .pre .2, p .1),
+    let i = l .before .before in
+    let f = i .before .before .before .before .before in
+    let a = f .args in (
+      v .set-place .ensures .answer (limitsFrom (a .places) (a .room)) _ refl (sym (rw (i .payload-id .ensures) at (l .look-up .ensures .0)))
+          ∙ (λ j. tell (v .set-place .result .code) 0 (record { ais = a .ais; adapters = sym (rw (i .payload-id .ensures) at (c .put .ensures .0)) j; pending = pendingOf (a .order .now) (a .counts .now) (a .slots .now) (a .singles .now); device = deviceOf (a .device) }) (a .payload .now)),
+      (f .pre .2, c .put .ensures .1),
     )
+
+set-modes-requires : tie.Need-set-modes-requires
+set-modes-requires c κs =
+    let e = c .before .before in
+    let m = e .before .before .pre .4 in
+    (e .if1 .left, λ z. true≢false (sym m ∙ ap movable z), λ z. true≢false (sym m ∙ ap movable z), λ z. true≢false (sym m ∙ ap movable z), sym (c .before .on-place .ensures) ∙ c .if2 .left)
+
+returns-3 : tie.Need-returns-3
+returns-3 c =
+    let v = c .before in
+    let f = v .before .before .before .before .before in
+    (v .set-modes .ensures .answer _ _ refl refl, (f .pre .2, f .pre .3))
 
 pub apply-spec : {M : Type 1} → statement M
 apply-spec =
     tie.close
-    (tie.spec (λ c κs. search needs) (λ c κs. search needs) returns (λ c κs. search needs) (λ c κs. search needs) set-values-requires
-    put-requires (λ c κs. search needs) (λ c κs. search needs) returns-2)
+    (tie.spec (λ c κs. search needs) (λ c κs. search needs) returns (λ c κs. search needs) (λ c κs. search needs) (λ c κs. search needs) set-place-requires put-requires returns-2 set-modes-requires returns-3)

@@ -3,7 +3,6 @@ use Prim.Native.Nat.{ℕ, zero, suc, _≤_, _<_}
 use mathlib.Core.Path.{_≡_, refl, ap, sym, _∙_}
 use mathlib.Core.Bool.{Bool, true, false, true≢false}
 use mathlib.Core.List.{List, [], _∷_}
-use mathlib.Core.Logic.{_⊎_, inl, inr}
 use native.Mathlib.Omega.{arith}
 use lib.ListN.{length, getD, set, drop}
 use lib.Seq.{set-getD}
@@ -20,7 +19,7 @@ use Rattle.adapters.specs.declared.Device.{Device}
 use Rattle.adapters.specs.declared.Place.{Place}
 use Rattle.adapters.specs.Values.{placeOf, deviceOf, Canonical, modeSet}
 use Rattle.answers.specs.Answers.{answered}
-use Rattle.adapter_requests.specs.States.{payloadId, onPlace, withPlace, PlaceSet, ModesSet}
+use Rattle.adapter_requests.specs.States.{payloadId, onPlace, FlagSet, withPlace, PlaceSet, ModesSet}
 
 -- ---- a request about a place
 -- a state with the place that it has at an id
@@ -87,11 +86,11 @@ module _ {attr n len : ℕ} {ais : Bool} (rest : Outcome State) (z : attr ≡ 0)
   pub opened-ais : n ≤ len → (need eqb attr 0 else 22 ⨾ need ais else 95 ⨾ need leb n len else 14 ⨾ rest) ≡ rest
   opened-ais h = passes _ _ _ (eq-eqb attr 0 z) ∙ passes _ _ _ a ∙ passes _ _ _ (le-leb n len h)
 
--- ---- groups 4 and 5, by what the group number is
-pub flags : (L : Limits) (s : State) (group attr : ℕ) (b : List ℕ) → (group ≡ 5) ⊎ (group ≡ 4) → request L s (setRequest group) attr b ≡ (need eqb attr 0 else 22 ⨾ setsApf s (eqb group 4))
+-- ---- groups 4 and 5
+pub flagged : (L : Limits) (s : State) (group attr : ℕ) (b : List ℕ) (on : Bool) → FlagSet group on → request L s (setRequest group) attr b ≡ (need eqb attr 0 else 22 ⨾ setsApf s on)
 unfolding request
-flags L s group attr b (inl e) = rw e
-flags L s group attr b (inr e) = rw e
+flagged L s group attr b true e = rw e
+flagged L s group attr b false e = rw e
 
 -- the payload's id, where there is one
 pub id-there : (b : List ℕ) → 4 ≤ length b → payloadId b ≡ field 0 4 b

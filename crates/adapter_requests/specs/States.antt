@@ -1,7 +1,7 @@
 -- What a set request about an adapter's place, or about the device record, promises on the values.
 use Prim.Native.Nat.{ℕ, _^_}
 use mathlib.Core.Path.{_≡_}
-use mathlib.Core.Bool.{Bool, false, _||_}
+use mathlib.Core.Bool.{Bool, true, false, _||_}
 use mathlib.Core.List.{List}
 use lib.ListN.{length, getD, set}
 use lib.Dec.{leb, eqb}
@@ -30,6 +30,11 @@ onPlace group = eqb group 6 || eqb group 7
 -- A group about the device record, or one that is no set request at all: it is neither about pending records, nor INJECT, nor about a place.
 abbrev pub OfModes : ℕ → Type 0
 OfModes group = (group ≡ 2 → ⊥) × (group ≡ 3 → ⊥) × (group ≡ 8 → ⊥) × (group ≡ 10 → ⊥) × (onPlace group ≡ false)
+
+-- 01, groups 4 and 5: the group that sets the page-fault flag on, and the one that sets it off
+abbrev pub FlagSet : ℕ → Bool → Type 0
+FlagSet group true = group ≡ 4
+FlagSet group false = group ≡ 5
 
 -- a state with another place at an id
 abbrev pub withPlace : ℕ → rules.Place → State → State

@@ -1,11 +1,13 @@
 // Inner crate: the requests that touch no pending record, on the device record or on one adapter's place, by value.
 ghost use mathlib.Core.Path.{_≡_};
-ghost use mathlib.Core.Bool.{true};
+ghost use mathlib.Core.Bool.{Bool, true};
+ghost use mathlib.Core.List.{List};
+ghost use Prim.Native.Nat.{ℕ};
 ghost use Rattle.rules.specs.State.{Limits, State};
 ghost use Rattle.rules.specs.Requests.{getAismAll, request};
 ghost use Rattle.answers.specs.Answers.{Answers, answered};
 ghost use Rattle.adapters.specs.Values.{deviceOf};
-ghost use Rattle.adapter_requests.specs.States.{payloadId, onPlace, OfModes, PlaceSet, ModesSet};
+ghost use Rattle.adapter_requests.specs.States.{payloadId, onPlace, OfModes, FlagSet, PlaceSet, ModesSet};
 use adapters::Device;
 use adapters::Place;
 use answers::Answer;
@@ -213,7 +215,7 @@ fn set_mode(ais: bool, device: Device, attr: u64, payload: &[u8]) -> ModesReply
 }
 
 // Group 11, set: both masks.
-fn set_masks(ais: bool, device: Device, attr: u64, payload: &[u8]) -> ModesReply
+pub fn set_masks(ais: bool, device: Device, attr: u64, payload: &[u8]) -> ModesReply
     ensures { λ r. ⌜ ModesSet ais 11 attr device (r .device) (now (payload .entry)) (answered (r .code) 0) ⌝ }
 {
     if attr != 0 {
@@ -241,26 +243,10 @@ fn set_masks(ais: bool, device: Device, attr: u64, payload: &[u8]) -> ModesReply
     }
 }
 
-// A set request about the device record. A group that is no request at all is refused here.
-pub fn set_modes(ais: bool, device: Device, group: u32, attr: u64, payload: &[u8]) -> ModesReply
-    requires { ⌜ OfModes group ⌝ }
-    ensures { λ r. ⌜ ModesSet ais group attr device (r .device) (now (payload .entry)) (answered (r .code) 0) ⌝ }
+// Groups 4 and 5: the page-fault flag is on, or off.
+pub fn set_flag(device: Device, attr: u64, on: bool) -> ModesReply
+    ensures { λ r. ⌜ ((ais : Bool) (group : ℕ) (b : List ℕ) → FlagSet group on → ModesSet ais group attr device (r .device) b (answered (r .code) 0)) ⌝ }
 {
-    if group == AISM {
-        return set_mode(ais, device, attr, payload);
-    }
-    if group == AISM_ALL {
-        return set_masks(ais, device, attr, payload);
-    }
-    let on = group == APF_ENABLE;
-    if !on {
-        if group != APF_DISABLE_WAIT {
-            return ModesReply {
-                code: EINVAL,
-                device,
-            };
-        }
-    }
     if attr != 0 {
         return ModesReply {
             code: EINVAL,
@@ -271,6 +257,29 @@ pub fn set_modes(ais: bool, device: Device, group: u32, attr: u64, payload: &[u8
     ModesReply {
         code: 0,
         device: next,
+    }
+}
+
+// A set request about the device record. A group that is no request at all is refused here.
+pub fn set_modes(ais: bool, device: Device, group: u32, attr: u64, payload: &[u8]) -> ModesReply
+    requires { ⌜ OfModes group ⌝ }
+    ensures { λ r. ⌜ ModesSet ais group attr device (r .device) (now (payload .entry)) (answered (r .code) 0) ⌝ }
+{
+    if group == APF_ENABLE {
+        return set_flag(device, attr, true);
+    }
+    if group == APF_DISABLE_WAIT {
+        return set_flag(device, attr, false);
+    }
+    if group == AISM {
+        return set_mode(ais, device, attr, payload);
+    }
+    if group == AISM_ALL {
+        return set_masks(ais, device, attr, payload);
+    }
+    ModesReply {
+        code: EINVAL,
+        device,
     }
 }
 

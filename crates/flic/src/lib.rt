@@ -55,15 +55,17 @@ pub extern "C" fn flic_set(
         return answers::refuse(EFAULT);
     }
     if group == ENQUEUE {
-        return record_add::enqueue_irqs(
+        let records = payload;
+        let r = record_add::enqueue_irqs(
             &mut c.slots,
             &mut c.order,
             &mut c.counts,
             &mut c.singles,
             ROOM,
             attr,
-            payload,
+            records,
         );
+        return answers::by_fields(r);
     }
     if group == CLEAR_IRQS {
         return record_take::clear_irqs(&mut c.order, &mut c.counts, &mut c.singles, attr);
@@ -87,7 +89,8 @@ pub extern "C" fn flic_set(
         if r.count != 1 {
             return r; // refused, or dropped
         }
-        let next = adapters::after_injection(c.ais, device, place);
+        let again = lent_table::read_device(d);
+        let next = adapters::after_injection(c.ais, again, place);
         lent_table::store_device(d, next);
         return r;
     }

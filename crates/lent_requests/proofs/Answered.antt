@@ -1,4 +1,4 @@
--- The calls of `answers::refuse` and of `answers::accept`, each as one step of a walk: Γ ⟶ Γ, and the result is the answer.
+-- The calls of `answers::refuse`, `answers::accept` and `answers::by_fields`, each as one step of a walk: Γ ⟶ Γ, and the result is the answer.
 use Rattle.lent_table.proofs.Walk.{refl, ℕ, _<_, _^_, [], _∷_, List, URA, w32, w64, vint, SProp, ent, emp, id⊢, exE, snd∗, Memory, Routine, Heap, Env, Calls, Loops, Atoms, sem, Fun, Given, Item, Seq, runs, lands, _$_, _∵_, !, qed, join, fjoin, frame, done, Opds, FmC, Is, uint-makes, u32, u64, owned, nothing, tripleOf, Contract, Triple, ensured, lasts}
 use types.Kit as Kit
 use mir.Syntax.{Place as Where, Body as Code, Opd as Operand, seq, call}
@@ -10,6 +10,8 @@ use Rattle.answers.proofs.refuse as refuse
 use Rattle.answers.proofs.refuse.Symbol.{name as #refuse}
 use Rattle.answers.proofs.accept as accept
 use Rattle.answers.proofs.accept.Symbol.{name as #accept}
+use Rattle.answers.proofs.by_fields as by-fields
+use Rattle.answers.proofs.by_fields.Symbol.{name as #by-fields}
 use Rattle.lent_table.proofs.Gives.{gives}
 use Rattle.answers.specs.Answers.{answered}
 
@@ -28,6 +30,16 @@ module _ {M : Type 1} (𝓤 : URA M) (H : Heap 𝓤) (A : Atoms 𝓤) (mem′ : 
 
   abbrev pub Accept : Contract 𝓤
   Accept = tripleOf 𝓤 H A accept.signature (accept.spec 𝓤 H A mem′ run)
+
+  abbrev pub ByFields : Contract 𝓤
+  ByFields = tripleOf 𝓤 H A by-fields.signature (by-fields.spec 𝓤 H A mem′ run)
+
+  module _ (W : Given 𝓤 H A) (r : Answer) where
+    abbrev to-copy : ByFields .Ghost
+    to-copy = ((tt, tt, tt, (r, tt), (An′.lowered r ∷ [], tt)), tt)
+
+    goes-copy : FitsAnswer r → ent 𝓤 (emp 𝓤) (ByFields .pre to-copy)
+    goes-copy g = qed W [] ∵ nothing ! $ owned ! An.the-row (Is An.the-row) (LL.makes An.the-type An′.the-plain 𝓤 H A) r _ g $ fjoin ! $ nothing ! $ join ! $ frame ! $ done !
 
   module _ (W : Given 𝓤 H A) (n : ℕ) where
     abbrev to-refuse : Refuse .Ghost
@@ -64,3 +76,14 @@ module _ {M : Type 1} {𝓤 : URA M} {H : Heap 𝓤} {A : Atoms 𝓤} {K : Type 
         shape = λ w. id⊢ 𝓤 _;
         told = λ r. exE 𝓤 _ (λ ws. snd∗ 𝓤 (sem 𝓤 H A (lasts accept.ended tt (count, tt) ws)) _);
       }) os k
+
+  pub copies : K → (mem′ : Memory → SProp 𝓤) (run : Routine → Fun 𝓤) → FmC 𝓤 H (W .laws) C → Triple 𝓤 (C #by-fields) (ByFields 𝓤 H A mem′ run) → (r : Answer) → FitsAnswer r
+      → ((i : Item 𝓤) → Opds K W (i ∷ Γ) E xs (An′.lowered r ∷ [])) → Seq K W Γ (lands C Λ E d (An′.lowered r) rest p) → Seq K W Γ (runs C Λ E (seq (call #by-fields xs d) rest) p)
+  copies t mem′ run fm known r g os k =
+      gives t fm (ByFields 𝓤 H A mem′ run) known (to-copy 𝓤 H A mem′ run W r) (goes-copy 𝓤 H A mem′ run W r g) An.the-row (LL.vals An.the-type An′.the-laws) r
+      (record {
+        tells = LL.tells An.the-type An′.the-laws;
+        Said = ensured 𝓤 H A by-fields.ended (by-fields.clauses 𝓤 H A mem′ run) tt (r, tt) tt;
+        shape = λ w. id⊢ 𝓤 _;
+        told = λ _. exE 𝓤 _ (λ ws. snd∗ 𝓤 (sem 𝓤 H A (lasts by-fields.ended tt (r, tt) ws)) _);
+      }) os (λ _. k)

@@ -1,21 +1,21 @@
 -- Laws of playing: the requests of a table in turn.
 use Prim.Native.Nat.{ℕ, zero, suc, _+_, _-_, _≤_, _<_}
 use mathlib.Core.Path.{_≡_, refl, ap, sym, _∙_, subst}
-use mathlib.Core.Bool.{Bool, false}
+use mathlib.Core.Bool.{Bool, true, false, _||_, true≢false}
 use mathlib.Core.List.{List, [], _∷_}
 use native.Mathlib.Nat.{not-suc-le-zero, le-of-suc-le-suc}
 use native.Mathlib.Numerals.{add-one}
 use native.Mathlib.Omega.{arith}
 use lib.ListN.{take, drop, replicate}
 use lib.Dec.{eqb}
-use borrow.Author.Tests.{eq-eqb, ne-eqb}
+use borrow.Author.Tests.{eq-eqb, ne-eqb, eqb-true}
 use Rattle.rules.specs.Bytes.{choose, part}
 use Rattle.rules.specs.State as rules
 use Rattle.rules.specs.State.{Limits, Pending, State, nothing, fresh}
 use Rattle.rules.specs.Outcome.{Outcome, refuseWith, accept, resetWith, refuse, reset, result, tell}
 use Rattle.rules.specs.Outcome as told
 use Rattle.rules.specs.Requests.{setRequest, request}
-use Rattle.rules.specs.MoveList.{ListRequest, TableEntry, onward, applies, requestsIn, plays}
+use Rattle.rules.specs.MoveList.{ListRequest, TableEntry, movable, onward, applies, requestsIn, plays}
 use Rattle.rules.specs.Machine.{answerOf}
 use Rattle.rules.proofs.Checks.{chosen, passed, Comes}
 use Rattle.rules.proofs.Outcomes.{Known, known-request, never-zero}
@@ -23,11 +23,21 @@ use Rattle.answers.specs.declared.Answer.{Answer}
 use Rattle.answers.specs.Answers.{Answers, answered}
 use Rattle.adapters.specs.declared.Device.{Device}
 use Rattle.adapters.specs.Values.{deviceOf}
+use Rattle.adapter_requests.specs.States.{onPlace}
+use Rattle.adapter_requests.proofs.Laws.{not-on-place}
 use Rattle.list_image.proofs.Laws.{places-none}
 use Rattle.list_form.specs.Form.{slotAt}
 use Rattle.list_form.proofs.Laws.{slotsFrom, next-slot, last-slot}
 use Rattle.list_play.specs.Play.{limitsFrom, stateOf, requestIn, ranTo}
 use Rattle.list_image.specs.Image.{imageSize}
+
+-- the groups of a list: the one that is left
+pub last-movable : (g : ℕ) → movable g ≡ true → (g ≡ 2 → ⊥) → onPlace g ≡ false → (g ≡ 11 → ⊥) → g ≡ 4
+last-movable g m n₂ o n₁₁ = let n = not-on-place g o in go (eqb g 4) refl (rw (ne-eqb g 2 n₂, ne-eqb g 6 (n .0), ne-eqb g 7 (n .1), ne-eqb g 11 n₁₁) at m)
+  where
+    go : (t : Bool) → eqb g 4 ≡ t → (t || false) ≡ true → g ≡ 4
+    go true e k = eqb-true g 4 e
+    go false e k = absurd (true≢false (sym k))
 
 -- the request of a table entry, by the numbers that were read of it
 pub as-slot : (L : Limits) (s t : State) (b : List ℕ) (e : TableEntry) (a : Answer) (at size group attr : ℕ) → at ≡ e .at → size ≡ e .size → group ≡ e .group

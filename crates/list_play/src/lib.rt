@@ -17,8 +17,10 @@ ghost use Rattle.list_play.specs.Play.{limitsFrom, stateOf, requestIn, r
 ghost use Rattle.list_image.specs.Image.{imageSize};
 ghost use Rattle.store_queues.specs.Slots.{slotCount};
 ghost use Rattle.store.specs.Lent.{before, after, HeldAfter, Stays};
+use adapter_requests::ModesReply;
 use adapters::Device;
 use answers::Answer;
+use numbers::AISM_ALL;
 use numbers::COUNTS;
 use numbers::ENQUEUE;
 use numbers::ORDER_BYTES;
@@ -31,6 +33,18 @@ use numbers::SLOT_BYTES;
 struct Ran {
     answer: Answer,
     device: Device,
+}
+
+// A request about the device record has come to this.
+fn modes_ran(r: ModesReply) -> Ran
+    ensures { λ z. ⌜ z ≡ record { answer = answered (r .code) 0; device = r .device } ⌝ }
+{
+    let answer = Answer {
+        code: r.code,
+        count: 0,
+    };
+    let device = r.device;
+    Ran { answer, device }
 }
 
 // A set request of a list, by the functions that answer a single request of its group.
@@ -68,16 +82,12 @@ fn apply(
         };
         return Ran { answer, device };
     }
-    let r = adapter_requests::set_modes(ais, device, group, attr, payload);
-    let answer = Answer {
-        code: r.code,
-        count: 0,
-    };
-    let next = r.device;
-    Ran {
-        answer,
-        device: next,
+    if group == AISM_ALL {
+        let r = adapter_requests::set_masks(ais, device, attr, payload);
+        return modes_ran(r);
     }
+    let r = adapter_requests::set_flag(device, attr, true); // APF_ENABLE
+    modes_ran(r)
 }
 
 // The request of the table entry at a place.

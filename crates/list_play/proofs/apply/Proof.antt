@@ -1,14 +1,13 @@
 -- `list_play::apply` meets its contract: an ENQUEUE, a request about a place of the image, or one about the device record.
 use mathlib.Core.Path.{refl, sym, ap, _∙_}
-use mathlib.Core.Bool.{true≢false}
 use borrow.Author.Needs.{needs}
 use Rattle.rules.specs.Requests.{request}
-use Rattle.rules.specs.MoveList.{movable}
 use Rattle.rules.specs.Outcome.{tell}
 use Rattle.adapters.specs.Values.{deviceOf}
 use Rattle.store.specs.Memory.{pendingOf}
 use Rattle.answers.proofs.Laws.{as-answer}
 use Rattle.list_play.specs.Play.{limitsFrom}
+use Rattle.list_play.proofs.Laws.{last-movable}
 use Rattle.list_play.proofs.apply.Statement.{statement}
 use Rattle.list_play.proofs.apply.Tie as tie
 
@@ -43,19 +42,23 @@ returns-2 c =
       (f .pre .2, c .put .ensures .1),
     )
 
-set-modes-requires : tie.Need-set-modes-requires
-set-modes-requires c κs =
-    let e = c .before .before in
-    let m = e .before .before .pre .4 in
-    (e .if1 .left, λ z. true≢false (sym m ∙ ap movable z), λ z. true≢false (sym m ∙ ap movable z), λ z. true≢false (sym m ∙ ap movable z), sym (c .before .on-place .ensures) ∙ c .if2 .left)
-
 returns-3 : tie.Need-returns-3
 returns-3 c =
     let v = c .before in
-    let f = v .before .before .before .before .before in
-    (v .set-modes .ensures .answer _ _ refl refl, (f .pre .2, f .pre .3))
+    let f = v .before .before .before .before .before .before in
+    rw (c .modes-ran .ensures, v .before .if3 .taken) (v .set-masks .ensures .answer _ _ refl refl, (f .pre .2, f .pre .3))
+
+returns-4 : tie.Need-returns-4
+returns-4 c =
+    let v = c .before in
+    let e = v .before in
+    let p = e .before .before in
+    let f = p .before .before .before in
+    let g = last-movable (f .args .group) (f .pre .4) (p .before .if1 .left) (sym (p .on-place .ensures) ∙ e .before .if2 .left) (e .if3 .left) in
+    rw (c .modes-ran2 .ensures) (v .set-flag .ensures _ _ _ g .answer _ _ refl refl, (f .pre .2, f .pre .3))
 
 pub apply-spec : {M : Type 1} → statement M
 apply-spec =
     tie.close
-    (tie.spec (λ c κs. search needs) (λ c κs. search needs) returns (λ c κs. search needs) (λ c κs. search needs) (λ c κs. search needs) set-place-requires put-requires returns-2 set-modes-requires returns-3)
+    (tie.spec (λ c κs. search needs) (λ c κs. search needs) returns (λ c κs. search needs) (λ c κs. search needs) (λ c κs. search needs) set-place-requires put-requires returns-2 (λ c κs. search needs)
+    (λ c κs. search needs) returns-3 (λ c κs. search needs) (λ c κs. search needs) returns-4)

@@ -193,24 +193,12 @@ fn free_all(o: &mut [u8])
     }
 }
 
-// All counts are 0.
-fn zero(c: &mut [usize])
-    requires { ⌜ length (now c) ≡ 11 ⌝ }
-    ensures { λ _. ⌜ now (c .exit) ≡ replicate 11 0 ⌝ }
-{
-    let mut i = 0;
-    while i < COUNTS {
-        c[i] = 0;
-        i += 1;
-    }
-}
-
 // No record is left, and every slot is free, whatever was there before.
 pub fn reset(o: &mut [u8; ORDER_BYTES], c: &mut [usize; COUNTS])
     ensures { λ _. ⌜ Emptied (now (o .exit)) (now (c .exit)) ⌝ }
 {
     free_all(o);
-    zero(c);
+    *c = [0usize; COUNTS];
 }
 
 // No record is left.

@@ -19,23 +19,11 @@ Inv-loop list count at₀ i₀ at i =
 abbrev μ-loop : tie.MeasureT-loop
 μ-loop list count at₀ i₀ at i = count - i
 
-loop-holds : tie.Need-loop-holds Inv-loop μ-loop
-loop-holds c = (omega arith, omega arith, rw slots-all)
-
-slot-formed-requires : tie.Need-slot-formed-requires Inv-loop μ-loop
-slot-formed-requires c κs = (omega arith, omega arith)
-
 returns : tie.Need-returns Inv-loop μ-loop
 returns c =
     let a = c .before .before .before .before .before .args in
     let l = c .before .before .before .loop in
     sym (l .inv .2 ∙ formed-stops (length (a .list .now)) (l .at) (l .i) (a .count) (a .list .now) (c .before .before .loop-test .taken) (sym (c .before .slot-formed .ensures) ∙ not-true _ (c .if1 .taken)))
-
-read-be-requires : tie.Need-read-be-requires Inv-loop μ-loop
-read-be-requires c κs = (omega arith, omega arith)
-
-add-at-2 : tie.Need-add-at-2 Inv-loop μ-loop
-add-at-2 c = omega (arith, c .read-be .ensures .1)
 
 loop-again : tie.Need-loop-again Inv-loop μ-loop
 loop-again c =
@@ -58,5 +46,7 @@ returns-2 c =
 pub slots-formed-spec : {M : Type 1} → statement M
 slots-formed-spec =
     tie.close
-    (tie.spec Inv-loop μ-loop (λ c. search needs) (λ c. search needs) loop-holds slot-formed-requires returns (λ c. search needs)
-    (λ c. search needs) read-be-requires add-at-2 (λ c. search needs) (λ c. search needs) loop-again returns-2)
+    (tie.spec Inv-loop μ-loop (λ c. search needs) (λ c. search needs) (λ c. (omega arith, omega arith, rw slots-all))
+    (λ c κs. (omega arith, omega arith)) returns (λ c. search needs) (λ c. search needs)
+    (λ c κs. (omega arith, omega arith)) (λ c. omega (arith, c .read-be .ensures .1)) (λ c. search needs)
+    (λ c. search needs) loop-again returns-2)

@@ -27,9 +27,6 @@ module _ (c : tie.Else1) where
   room : (start .args .at + 8 ≤ length (now (start .args .out))) × (start .args .modify ≡ true → start .args .at + 16 ≤ length (now (start .args .out)))
   room = payload-room (start .args .on) (start .args .modify) _ _ (start .pre .1) wanted
 
-write-be-requires : tie.Need-write-be-requires
-write-be-requires c κs = let r = room (c .before) .0 in (omega arith, omega arith)
-
 write-be-requires-2 : tie.Need-write-be-requires-2
 write-be-requires-2 c κs = let r = room (c .before .before .before .before .before .before) .0 in (omega arith, omega arith)
 
@@ -71,7 +68,8 @@ returns-3 c =
 pub put-payload-spec : {M : Type 1} → statement M
 put-payload-spec =
     tie.close
-    (tie.spec returns write-be-requires (λ c. search needs) write-be-requires-2 (λ c. search needs) write-be-requires-3 (λ c. search needs)
-    returns-2 (λ c κs. search needs) (λ c. search needs) (λ c κs. search needs) (λ c. search needs) (λ c. search needs)
-    (λ c κs. search needs) (λ c. search needs) (λ c. search needs) (λ c κs. search needs) (λ c. search needs) (λ c. search needs)
+    (tie.spec returns (λ c κs. let r = room (c .before) .0 in (omega arith, omega arith)) (λ c. search needs)
+    write-be-requires-2 (λ c. search needs) write-be-requires-3 (λ c. search needs) returns-2 (λ c κs. search needs)
+    (λ c. search needs) (λ c κs. search needs) (λ c. search needs) (λ c. search needs) (λ c κs. search needs)
+    (λ c. search needs) (λ c. search needs) (λ c κs. search needs) (λ c. search needs) (λ c. search needs)
     write-be-requires-4 (λ c. search needs) returns-3)

@@ -13,9 +13,7 @@ returns : tie.Need-returns
 unfolding choose
 returns c = rw (c .before .before .before .before .if1 .taken) (c .before .before .put-five .ensures)
 
-returns-2 : tie.Need-returns-2
-unfolding choose
-returns-2 c = rw (c .if1 .left) (put-none _ _)
-
 pub put-slot-spec : {M : Type 1} → statement M
-put-slot-spec = tie.close (tie.spec put-five-requires (λ c. search needs) returns returns-2)
+put-slot-spec =
+    tie.close
+    (tie.spec put-five-requires (λ c. search needs) returns (λ c. unfold choose in rw (c .if1 .left) (put-none _ _)))

@@ -30,18 +30,6 @@ room c =
     let l = c .before .before .before .loop in
     room-turn (c .before .before .before .before .before .before .before .args .modify) (l .i) (c .before .before .before .before .before .before .before .args .t4) (search needs) (c .is-written .result) (on-is c) (l .out) (l .out) (l .a) 24 _ (l .inv .3)
 
-loop-holds : tie.Need-loop-holds Inv-loop μ-loop
-loop-holds c = let s = c .before .before .before in (omega arith, refl, omega arith, s .pre .1, refl)
-
-put-slot-requires : tie.Need-put-slot-requires Inv-loop μ-loop
-put-slot-requires c κs = omega (arith, room (c .before))
-
-add-a : tie.Need-add-a Inv-loop μ-loop
-add-a c = omega (arith, room (c .before .before .before .before .before), c .flag-of .ensures .0)
-
-add-p : tie.Need-add-p Inv-loop μ-loop
-add-p c = omega (arith, c .size-if .ensures .1, c .before .before .before .before .before .before .before .before .before .loop .inv .2, c .before .before .before .before .before .before .before .before .before .before .before .before .before .pre .0, c .before .before .before .before .before .before .before .before .loop-test .taken)
-
 loop-again : tie.Need-loop-again Inv-loop μ-loop
 loop-again c =
     let a = c .before .before .before .before .before .before .before .before .before .before .before .before .before .args in
@@ -57,9 +45,6 @@ loop-again c =
           (rw (c .before .before .before .before .before .before .before .before .before .before .before .group-of .ensures, c .before .before .before .before .before .before .before .before .before .before .size-of .ensures .0) at (c .before .before .before .before .put-slot .ensures))),
     )
 
-same-length : tie.Need-same-length Inv-loop μ-loop
-same-length c = c .before .loop .inv .1
-
 returns : tie.Need-returns Inv-loop μ-loop
 unfolding writtenTable
 returns c =
@@ -71,6 +56,7 @@ returns c =
 pub put-slots-spec : {M : Type 1} → statement M
 put-slots-spec =
     tie.close
-    (tie.spec Inv-loop μ-loop (λ c κs. search needs) (λ c κs. search needs) loop-holds (λ c. search needs) (λ c κs. search needs)
-    (λ c κs. search needs) put-slot-requires (λ c κs. search needs) (λ c. search needs) add-a (λ c κs. search needs) add-p
-    (λ c. search needs) (λ c. search needs) loop-again same-length returns)
+    (tie.spec Inv-loop μ-loop (λ c κs. search needs) (λ c κs. search needs) (λ c. search needs) (λ c. search needs)
+    (λ c κs. search needs) (λ c κs. search needs) (λ c κs. omega (arith, room (c .before))) (λ c κs. search needs)
+    (λ c. search needs) (λ c. search needs) (λ c κs. search needs) (λ c. search needs) (λ c. search needs)
+    (λ c. search needs) loop-again (λ c. c .before .loop .inv .1) returns)

@@ -7,8 +7,5 @@ use Rattle.list_write.proofs.size_if.Tie as tie
 returns : tie.Need-returns
 returns c = rw (c .before .if1 .taken) (omega (arith, c .size-of .ensures .0), c .size-of .ensures .1)
 
-returns-2 : tie.Need-returns-2
-returns-2 c = rw (c .if1 .left) (omega arith, omega arith)
-
 pub size-if-spec : {M : Type 1} → statement M
-size-if-spec = tie.close (tie.spec (λ c κs. search needs) returns returns-2)
+size-if-spec = tie.close (tie.spec (λ c κs. search needs) returns (λ c. rw (c .if1 .left) (omega arith, omega arith)))

@@ -25,9 +25,6 @@ loop-holds c =
     let e : a .n - a .n ≡ 0 = omega arith in
     (omega arith, refl, rw (e, pow-zero, div-one), paste-none (a .out .now) (a .at + a .n) (digits (a .base) (a .n - a .n) (a .v)) (a .n - a .n) e)
 
-letter-requires : tie.Need-letter-requires Inv-loop μ-loop
-letter-requires c κs = lt-of-lt-of-le (mod-lt _ (omega arith)) (omega arith)
-
 loop-again : tie.Need-loop-again Inv-loop μ-loop
 loop-again c =
     let d = c .before .before .before .before in
@@ -48,5 +45,6 @@ returns c =
 pub spell-spec : {M : Type 1} → statement M
 spell-spec =
     tie.close
-    (tie.spec Inv-loop μ-loop loop-holds (λ c. search needs) (λ c. search needs) letter-requires (λ c. search needs) (λ c. search needs)
+    (tie.spec Inv-loop μ-loop loop-holds (λ c. search needs) (λ c. search needs)
+    (λ c κs. lt-of-lt-of-le (mod-lt _ (omega arith)) (omega arith)) (λ c. search needs) (λ c. search needs)
     (λ c. search needs) (λ c. search needs) loop-again (λ c. search needs) (λ c. search needs) returns)

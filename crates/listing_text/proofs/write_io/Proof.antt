@@ -11,9 +11,6 @@ use Rattle.listing_text.proofs.write_io.Tie as tie
 one : (c : tie.After-subclass-byte) → digitCount (c .subclass-byte .result) (c .subclass-byte .result) ≡ 1
 one c = size-one (c .subclass-byte .result) (c .subclass-byte .result) (omega arith)
 
-write-decimal-requires : tie.Need-write-decimal-requires
-write-decimal-requires c κs = omega (arith, one (c .before))
-
 write-hex8-requires : tie.Need-write-hex8-requires
 write-hex8-requires c κs =
     omega (arith, one (c .before .before .before .before .before .before))
@@ -38,5 +35,6 @@ returns c =
 pub write-io-spec : {M : Type 1} → statement M
 write-io-spec =
     tie.close
-    (tie.spec (λ c. search needs) (λ c κs. search needs) (λ c κs. search needs) (λ c. search needs) write-decimal-requires
-    (λ c. search needs) write-hex8-requires (λ c. search needs) write-hex8-requires-2 (λ c. search needs) returns)
+    (tie.spec (λ c. search needs) (λ c κs. search needs) (λ c κs. search needs) (λ c. search needs)
+    (λ c κs. omega (arith, one (c .before))) (λ c. search needs) write-hex8-requires (λ c. search needs)
+    write-hex8-requires-2 (λ c. search needs) returns)

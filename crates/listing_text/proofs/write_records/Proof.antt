@@ -26,9 +26,6 @@ loop-holds c =
     let a = c .before .before .args in
     (omega arith, omega arith, refl, record { ends = omega arith; fits = omega arith; now = paste-zero (a .out .now) (a .at) [] })
 
-write-record-requires : tie.Need-write-record-requires Inv-loop μ-loop
-write-record-requires c κs = (size-most 2 _ _ (omega arith), omega arith, omega arith)
-
 loop-again : tie.Need-loop-again Inv-loop μ-loop
 loop-again c =
     let d = c .before .before .before .before .before in
@@ -49,5 +46,6 @@ returns c =
 pub write-records-spec : {M : Type 1} → statement M
 write-records-spec =
     tie.close
-    (tie.spec Inv-loop μ-loop loop-holds (λ c. search needs) write-record-requires (λ c. search needs) (λ c. search needs) loop-again
-    (λ c. search needs) returns)
+    (tie.spec Inv-loop μ-loop loop-holds (λ c. search needs)
+    (λ c κs. (size-most 2 _ _ (omega arith), omega arith, omega arith)) (λ c. search needs) (λ c. search needs)
+    loop-again (λ c. search needs) returns)

@@ -15,9 +15,6 @@ Inv-loop src from r₀ i₀ r i = (i ≤ 72) × (length r ≡ 72) × (length r�
 abbrev μ-loop : tie.MeasureT-loop
 μ-loop src from r₀ i₀ r i = 72 - i
 
-loop-holds : tie.Need-loop-holds Inv-loop μ-loop
-loop-holds c = (omega arith, refl, refl, refl)
-
 loop-again : tie.Need-loop-again Inv-loop μ-loop
 loop-again c =
     let a = c .before .before .before .args in
@@ -37,5 +34,5 @@ returns c =
 pub load-spec : {M : Type 1} → statement M
 load-spec =
     tie.close
-    (tie.spec Inv-loop μ-loop loop-holds (λ c. search needs) (λ c. search needs) (λ c. search needs) (λ c. search needs) (λ c. search needs)
-    loop-again returns)
+    (tie.spec Inv-loop μ-loop (λ c. (omega arith, refl, refl, refl)) (λ c. search needs) (λ c. search needs)
+    (λ c. search needs) (λ c. search needs) (λ c. search needs) loop-again returns)

@@ -15,10 +15,6 @@ Inv-loop b at n v₀ i₀ v i = (i ≤ n) × (v ≡ number (take i (drop at b)))
 abbrev μ-loop : tie.MeasureT-loop
 μ-loop b at n v₀ i₀ v i = n - i
 
-loop-holds : tie.Need-loop-holds Inv-loop μ-loop
-unfolding number
-loop-holds c = (omega arith, refl, omega arith)
-
 mul-v : tie.Need-mul-v Inv-loop μ-loop
 mul-v c =
     let l = c .before .loop in
@@ -45,5 +41,5 @@ returns c =
 pub read-be-spec : {M : Type 1} → statement M
 read-be-spec =
     tie.close
-    (tie.spec Inv-loop μ-loop loop-holds mul-v (λ c. search needs) (λ c. search needs) (λ c κs. search needs) add-v (λ c. search needs)
-    (λ c. search needs) loop-again returns)
+    (tie.spec Inv-loop μ-loop (λ c. unfold number in (omega arith, refl, omega arith)) mul-v (λ c. search needs)
+    (λ c. search needs) (λ c κs. search needs) add-v (λ c. search needs) (λ c. search needs) loop-again returns)

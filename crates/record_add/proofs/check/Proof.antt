@@ -22,9 +22,6 @@ Inv-loop b n wanted₀ place₀ wanted place =
 abbrev μ-loop : tie.MeasureT-loop
 μ-loop b n wanted₀ place₀ wanted place = n - place
 
-loop-holds : tie.Need-loop-holds Inv-loop μ-loop
-loop-holds c = (omega arith, omega arith, rw records-all)
-
 returns : tie.Need-returns Inv-loop μ-loop
 unfolding kindAccepted
 returns c =
@@ -55,5 +52,6 @@ returns-2 c =
 pub check-spec : {M : Type 1} → statement M
 check-spec =
     tie.close
-    (tie.spec Inv-loop μ-loop loop-holds (λ c. search needs) (λ c κs. search needs) (λ c. search needs) (λ c. search needs) returns
-    (λ c. search needs) (λ c. search needs) loop-again returns-2)
+    (tie.spec Inv-loop μ-loop (λ c. (omega arith, omega arith, rw records-all)) (λ c. search needs)
+    (λ c κs. search needs) (λ c. search needs) (λ c. search needs) returns (λ c. search needs) (λ c. search needs)
+    loop-again returns-2)

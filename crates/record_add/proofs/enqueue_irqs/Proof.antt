@@ -60,11 +60,6 @@ returns-4 c =
       (f .pre .1, λ k. (refl, refl, refl, refl)),
     )
 
-answer-to-requires : tie.Need-answer-to-requires
-answer-to-requires c κs =
-    let f = c .before .before .before .before .before .before .before in
-    (omega arith, omega arith, omega (arith, c .queued .ensures, f .pre .1 .counted .few))
-
 -- what is known once it is decided how many records are added
 abbrev start : tie.Joined5 → tie.Start
 start j = j .before .before .before .before .before .before .before .before .before .before
@@ -123,5 +118,5 @@ returns-5 c =
 pub enqueue-irqs-spec : {M : Type 1} → statement M
 enqueue-irqs-spec =
     tie.close
-    (tie.spec (λ c κs. search needs) returns (λ c κs. search needs) returns-2 (λ c κs. search needs) returns-3 (λ c κs. search needs)
-    returns-4 (λ c κs. search needs) answer-to-requires add-all-requires returns-5)
+    (tie.spec (λ c κs. search needs) returns (λ c κs. search needs) returns-2 (λ c κs. search needs) returns-3
+    (λ c κs. search needs) returns-4 (λ c κs. search needs) (λ c κs. search needs) add-all-requires returns-5)

@@ -36,9 +36,6 @@ returns-3 c =
     let f = d .before .before .before in
     (λ L s e. refused L s _ _ _ 12 _ refl (passes _ _ _ (ap not (ne-eqb _ 0 (d .before .if1 .left))) ∙ passes _ _ _ (le-leb _ _ (d .if2 .left)) ∙ lists-none s _ _ _ e (c .before .before .pending .ensures .0 (f .args .order .now) (f .args .slots .now) (f .pre)) (c .before .if3 .taken)) (c .refuse3 .ensures), λ k. refl)
 
-list-all-requires : tie.Need-list-all-requires
-list-all-requires c κs = (c .before .before .before .before .before .before .pre, room c)
-
 returns-4 : tie.Need-returns-4
 unfolding request
 returns-4 c =
@@ -58,5 +55,7 @@ returns-4 c =
 pub get-all-spec : {M : Type 1} → statement M
 get-all-spec =
     tie.close
-    (tie.spec (λ c κs. search needs) returns (λ c κs. search needs) returns-2 (λ c κs. search needs) (λ c. search needs)
-    (λ c κs. search needs) returns-3 list-all-requires (λ c κs. search needs) (λ c. search needs) returns-4)
+    (tie.spec (λ c κs. search needs) returns (λ c κs. search needs) returns-2 (λ c κs. search needs)
+    (λ c. search needs) (λ c κs. search needs) returns-3
+    (λ c κs. (c .before .before .before .before .before .before .pre, room c)) (λ c κs. search needs)
+    (λ c. search needs) returns-4)

@@ -14,9 +14,6 @@ use Rattle.record_take.proofs.Laws.{next-done, no-done, next-none, next
 use Rattle.record_take.proofs.next_queued.Statement.{statement}
 use Rattle.record_take.proofs.next_queued.Tie as tie
 
-count-requires : tie.Need-count-requires
-count-requires c κs = rw (c .done .ensures) (omega arith)
-
 -- the count of finished page faults
 counted : (c : tie.After-count) → c .count .result ≡ getD (c .before .before .before .args .counts .now) 8 0
 counted c = rw (c .before .done .ensures) at (c .count .ensures)
@@ -69,5 +66,6 @@ returns-3 c =
 pub next-queued-spec : {M : Type 1} → statement M
 next-queued-spec =
     tie.close
-    (tie.spec (λ c κs. search needs) count-requires (λ c κs. search needs) returns (λ c κs. search needs) (λ c κs. search needs) (λ c. search needs) (λ c. search needs)
-    returns-2 (λ c κs. search needs) returns-3)
+    (tie.spec (λ c κs. search needs) (λ c κs. rw (c .done .ensures) (omega arith)) (λ c κs. search needs) returns
+    (λ c κs. search needs) (λ c κs. search needs) (λ c. search needs) (λ c. search needs) returns-2
+    (λ c κs. search needs) returns-3)

@@ -5,11 +5,8 @@ use Rattle.rules.proofs.Checks.{chosen, passed}
 use Rattle.record_take.proofs.one_if.Statement.{statement}
 use Rattle.record_take.proofs.one_if.Tie as tie
 
-returns : tie.Need-returns
-returns c = (sym (chosen _ 1 0 (c .if1 .taken)), omega arith)
-
-returns-2 : tie.Need-returns-2
-returns-2 c = (sym (passed _ 1 0 (c .if1 .left)), omega arith)
-
 pub one-if-spec : {M : Type 1} → statement M
-one-if-spec = tie.close (tie.spec returns returns-2)
+one-if-spec =
+    tie.close
+    (tie.spec (λ c. (sym (chosen _ 1 0 (c .if1 .taken)), omega arith))
+    (λ c. (sym (passed _ 1 0 (c .if1 .left)), omega arith)))

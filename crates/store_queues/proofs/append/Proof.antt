@@ -19,15 +19,6 @@ room c =
     let f = start c in
     omega (arith, count-small (f .args .c .now) (f .pre .3 .counted) (f .args .q .0) (f .pre .0), f .pre .1, f .pre .2)
 
-add-o : tie.Need-add-o
-add-o c = omega (arith, room c)
-
-element-write-o : tie.Need-element-write-o
-element-write-o c = omega (arith, room c)
-
-add-c : tie.Need-add-c
-add-c c = omega (arith, room c)
-
 add-c-3 : tie.Need-add-c-3
 add-c-3 c =
     let f = start (c .before) in
@@ -54,6 +45,7 @@ returns-2 c =
 pub append-spec : {M : Type 1} → statement M
 append-spec =
     tie.close
-    (tie.spec (λ c. search needs) (λ c. search needs) (λ c. search needs) (λ c κs. search needs) (λ c. search needs) (λ c. search needs)
-    (λ c. search needs) (λ c. search needs) add-o element-write-o add-c (λ c. search needs) (λ c. search needs) (λ c. search needs) (λ c. search needs)
-    (λ c. search needs) add-c-3 (λ c. search needs) returns returns-2)
+    (tie.spec (λ c. search needs) (λ c. search needs) (λ c. search needs) (λ c κs. search needs) (λ c. search needs)
+    (λ c. search needs) (λ c. search needs) (λ c. search needs) (λ c. omega (arith, room c))
+    (λ c. omega (arith, room c)) (λ c. omega (arith, room c)) (λ c. search needs) (λ c. search needs)
+    (λ c. search needs) (λ c. search needs) (λ c. search needs) add-c-3 (λ c. search needs) returns returns-2)

@@ -73,12 +73,6 @@ turn c x e =
     let a = l .before .before .before .before .before .before .args in
     search-record (queues (a .o .now) (a .c .now) (a .b .now)) _ _ _ (l .loop .k) _ _ x (l .loop .inv .2) (c .before .loop-test .taken) (omega (arith, ltb-true, z .0)) e
 
-search-holds : tie.Need-search-holds Inv-loop μ-loop Inv-search μ-search
-search-holds c = (omega arith, refl, refl)
-
-count-requires : tie.Need-count-requires Inv-loop μ-loop Inv-search μ-search
-count-requires c κs = rw (c .of .ensures) (omega arith)
-
 loop-holds : tie.Need-loop-holds Inv-loop μ-loop Inv-search μ-search
 loop-holds c =
     let i = c .before .before .before in
@@ -162,5 +156,7 @@ returns-2 c =
 pub find-spec : {M : Type 1} → statement M
 find-spec =
     tie.close
-    (tie.spec Inv-loop μ-loop Inv-search μ-search search-holds (λ c κs. search needs) count-requires (λ c κs. search needs) loop-holds slot-of-requires
-    (λ c κs. search needs) add-k (λ c. omega (arith, ltb-true)) loop-again (λ c. search needs) (λ c. search needs) search-again returns returns-2)
+    (tie.spec Inv-loop μ-loop Inv-search μ-search (λ c. (omega arith, refl, refl)) (λ c κs. search needs)
+    (λ c κs. rw (c .of .ensures) (omega arith)) (λ c κs. search needs) loop-holds slot-of-requires
+    (λ c κs. search needs) add-k (λ c. omega (arith, ltb-true)) loop-again (λ c. search needs) (λ c. search needs)
+    search-again returns returns-2)

@@ -1,4 +1,4 @@
--- Laws of text that is written piece by piece, and of digits. Assumes nothing.
+-- Laws of text that is written piece by piece, and of digits.
 use mathlib.Core.Path.{_≡_, refl, sym, ap, _∙_}
 use mathlib.Core.Bool.{Bool, true, false}
 use mathlib.Core.List.{List, [], _∷_, _++_, flatten, append-assoc, append-nil}
@@ -16,7 +16,7 @@ use Rattle.rules.specs.Requests.{recordsIn}
 use Rattle.rules.specs.Listing.{ascii, digit, digits, digitCount, decimal, hex8, line, name, ofIo, recordLine, linesFrom}
 use Rattle.rules.specs.Invariant.{All}
 use Rattle.rules.proofs.Lists.{all-append}
-use Rattle.numbers.proofs.Laws.{paste-front}
+use Rattle.numbers.proofs.Laws.{field-part}
 use Rattle.store_queues.specs.Slots.{slot}
 use Rattle.store_queues.specs.Queues.{queues, Held}
 use Rattle.store_queues.proofs.Laws.{all-queued}
@@ -24,7 +24,7 @@ use Rattle.store_singles.specs.Singles.{ifThere, serviceOf, mchkOf}
 use Rattle.store.specs.Memory.{pendingOf}
 use Rattle.record_add.specs.declared.Kind.{Kind as Case}
 use Rattle.record_add.specs.Cases.{asCase}
-use Rattle.record_add.proofs.Laws.{field-part, kind-known, kindFor}
+use Rattle.record_add.proofs.Laws.{kind-known, kindFor}
 use Rattle.record_take.proofs.Laws.{listing-is}
 use Rattle.listing_text.specs.Wrote.{Wrote}
 
@@ -51,18 +51,6 @@ pub length-digits : (base n v : ℕ) → length (digits base n v) ≡ n
 unfolding digits
 length-digits base zero v = refl
 length-digits base (suc n) v = ap suc (length-digits base n v)
-
--- a turn of spell
-pub spell-turn : (b d : List ℕ) (at base n i v w : ℕ) → 0 < i → i ≤ n → at + n ≤ length d → w ≡ v / base ^ (n - i)
-    → b ≡ paste d (at + i) (digits base (n - i) v) (n - i)
-    → (w / base ≡ v / base ^ (n - (i - 1))) × (set b (at + (i - 1)) (digit (w % base)) ≡ paste d (at + (i - 1)) (digits base (n - (i - 1)) v) (n - (i - 1)))
-unfolding digits
-spell-turn b d at base n i v w h k f ew eb =
-    let p : at + i ≡ at + (i - 1) + 1 = omega arith in
-    let q : n - (i - 1) ≡ suc (n - i) = omega arith in (
-      rw (ew, q, pow-suc) (div-div-eq-div-mul v (base ^ (n - i)) base),
-      rw (eb, ew, p, q) (paste-front d (at + (i - 1)) (digits base (n - i) v) (n - i) _ 0 (omega arith)),
-    )
 
 -- sizes
 pub size-one : (n v : ℕ) → v < 10 → digitCount n v ≡ 1
@@ -110,12 +98,12 @@ other-text n t = simp append-assoc
 -- the line of a record within bytes, with what the code has read of it
 module _ (place from t : ℕ) (b : List ℕ) (et : t ≡ field from 8 b) where
   type-is : field 0 8 (part from 72 b) ≡ t
-  type-is = field-part 0 8 from b (omega arith) ∙ rw (add-zero, et)
+  type-is = field-part 0 8 72 from b (omega arith) ∙ rw (add-zero, et)
 
   pub io-line : (isc w : ℕ) → kind (part from 72 b) ≡ Kind.io → isc ≡ subclass (part from 72 b) → w ≡ field (from + 16) 4 b
       → decimal place ++ ascii " " ++ line (ascii "io" ∷ decimal isc ∷ hex8 t ∷ hex8 w ∷ []) ≡ recordLine place (part from 72 b)
   unfolding recordLine line name ofIo
-  io-line isc w k ei ew = rw (k, type-is, field-part 16 4 from b (omega arith), ← ew, ← ei) (append-assoc (decimal place) (ascii " ") _)
+  io-line isc w k ei ew = rw (k, type-is, field-part 16 4 72 from b (omega arith), ← ew, ← ei) (append-assoc (decimal place) (ascii " ") _)
 
   pub other-line : (x y : Case) → x ≡ asCase (kind (part from 72 b)) (subclass (part from 72 b)) → x ≡ y → ((w : List ℕ) → ofIo (kindFor y) w ≡ ascii "-")
       → decimal place ++ ascii " " ++ line (name (kindFor y) ∷ ascii "-" ∷ hex8 t ∷ ascii "-" ∷ []) ≡ recordLine place (part from 72 b)

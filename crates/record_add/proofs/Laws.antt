@@ -1,10 +1,11 @@
--- Laws of the records in given bytes, of the lent memory that they join, and of their check. Assumes nothing.
+-- Laws of the records in given bytes, of the lent memory that they join, and of their check.
 use mathlib.Core.Path.{_≡_, refl, sym, ap, _∙_}
 use mathlib.Core.Bool.{Bool, true, false, _&&_}
 use mathlib.Core.Logic.{_⊎_, ⊎-elim}
 use mathlib.Core.Option.{some}
 use mathlib.Core.List.{List, [], _∷_, _++_, flatten, append-nil}
 use Prim.Native.Nat.{ℕ, zero, suc, _+_, _-_, _*_, _/_, _%_, _^_, _≤_, _<_}
+use native.Mathlib.Nat.{add-zero}
 use native.Mathlib.Numerals.{add-one}
 use native.Mathlib.Omega.{arith}
 use lib.ListN.{length, take, drop, getD, set, replicate, length-append}
@@ -19,7 +20,7 @@ use Rattle.rules.specs.Outcome.{refuse, need_else_⨾_}
 use Rattle.rules.specs.Requests.{recordsIn, kindAccepted, allAccepted, wants, allWant, enqueueBytes, enqueue, enqueues, adapterInterrupt, request}
 use Rattle.rules.proofs.Checks.{passes, fails, both}
 use Rattle.rules.proofs.Lists.{flatten-append}
-use Rattle.numbers.proofs.Laws.{drop-take}
+use Rattle.numbers.proofs.Laws.{field-part}
 use Rattle.store_queues.specs.Queues.{total, queues, Held}
 use Rattle.store_queues.proofs.Laws.{length-queues, length-flatten-queues}
 use Rattle.store_singles.specs.Singles.{serviceOf, mchkOf}
@@ -36,18 +37,9 @@ use Rattle.store.specs.Memory.{pendingOf}
 use Rattle.record_add.specs.Cases.{asCase, kindOf, checkFrom, answerTo}
 
 -- ---- a record within bytes
-pub field-part : (at n from : ℕ) (b : List ℕ) → at + n ≤ 72 → field at n (part from 72 b) ≡ field (from + at) n b
-field-part at n from b h =
-    let e : 72 ≡ at + (72 - at) = omega arith in
-    ap (λ (k : ℕ). number (take n (drop at (take k (drop from b))))) e
-    ∙ ap (λ (l : List ℕ). number (take n l)) (drop-take at (72 - at) (drop from b))
-    ∙ ap number (take-take n (72 - at) (drop at (drop from b)) (omega arith) ∙ ap (λ (l : List ℕ). take n l) (drop-drop at from b))
-
 pub kind-at-is : (at t : ℕ) (b : List ℕ) → t ≡ field at 8 b → kind (part at 72 b) ≡ rules.kindOf t
 unfolding kind
-kind-at-is at t b e =
-    let z : at + 0 ≡ at = omega arith in
-    ap rules.kindOf (field-part 0 8 at b (omega arith) ∙ ap (λ (k : ℕ). field k 8 b) z ∙ sym e)
+kind-at-is at t b e = rw (field-part 0 8 72 at b (omega arith), add-zero, e)
 
 -- the rules' kind that a case stands for
 abbrev pub kindFor : Kind → rules.Kind

@@ -1,4 +1,4 @@
--- Laws of the queues: what the order and the counts say of them, and what a record more and a record less leave. Assumes nothing.
+-- Laws of the queues: what the order and the counts say of them, and what a record more and a record less leave.
 use mathlib.Core.Path.{_≡_, refl, sym, ap, _∙_, subst}
 use mathlib.Core.Bool.{Bool, true, false}
 use mathlib.Core.List.{List, [], _∷_, _++_, flatten, map, map-append, append-assoc, append-nil}
@@ -14,11 +14,11 @@ use Rattle.rules.specs.Bytes.{choose}
 use Rattle.rules.specs.State.{Record}
 use Rattle.rules.specs.Invariant.{All}
 use Rattle.rules.proofs.Lists.{all-append, flatten-append}
-use Rattle.numbers.proofs.Laws.{part-same, drop-past}
+use Rattle.numbers.proofs.Laws.{map-set, getD-map, part-same, drop-past}
 use Rattle.store_queues.specs.Slots.{slotCount, removeAt, slot, occurs, Apart, Stored}
 use Rattle.store_queues.proofs.Slots.{map-removeAt, occurs-append, occurs-out, occurs-self, occurs-set, maps-lack}
 use Rattle.store_queues.specs.Queues.{row, rows, each, total, waiting, used, spare, listed, queues, withoutAt, sum, some, bits, upFrom, Held, Appended, Removed, Emptied}
-use Rattle.store_queues.proofs.Rows.{length-row, row-at, row-more, row-stored, row-down, row-beside, row-past, length-rows, rows-at, rows-changed, map-set, getD-map}
+use Rattle.store_queues.proofs.Rows.{length-row, row-at, row-more, row-stored, row-down, row-beside, row-past, length-rows, rows-at, rows-changed}
 use Rattle.store_queues.proofs.Counts.{sum-next, length-each, count-small, Changed, counted-again, some-one, all-zero}
 
 -- ---- the queues

@@ -1,4 +1,4 @@
--- Laws of slots and of lists of slot numbers. Assumes nothing.
+-- Laws of slots and of lists of slot numbers.
 use mathlib.Core.Path.{_≡_, refl, sym, ap, _∙_}
 use mathlib.Core.Bool.{Bool, true, false}
 use mathlib.Core.List.{List, [], _∷_, _++_, map, map-append, flatten}
@@ -8,21 +8,15 @@ use native.Mathlib.Numerals.{add-one}
 use native.Mathlib.Decide.{decLt}
 use native.Mathlib.Omega.{arith}
 use lib.Dec.{eqb}
-use lib.ListN.{length, take, drop, getD, set, length-drop, length-append}
+use lib.ListN.{length, take, drop, getD, set, length-drop}
 use lib.Seq.{split-at, getD-drop, length-take-le, paste}
 use borrow.Author.Tests.{eqb-false, eq-eqb}
 use Rattle.rules.specs.Bytes.{choose}
-use Rattle.numbers.proofs.Laws.{paste-more, drop-past, part-same, part-before}
+use Rattle.numbers.proofs.Laws.{map-take, map-drop, paste-more, drop-past, getD-past, part-same, part-before}
 use Rattle.store_queues.specs.Slots.{removeAt, slot, occurs}
 
 -- ---- a turn of move_down
 module _ {ℓ} {A : Type ℓ} where
-  -- what lies past a copy is as it was
-  getD-past : (d : List A) (at : ℕ) (s : List A) (n k : ℕ) (z : A) → at + n ≤ k → at ≤ length d → n ≤ length s → getD (paste d at s n) k z ≡ getD d k z
-  getD-past d at s n k z h f g =
-      let e : k + 0 ≡ k = omega arith in
-      rw (← e) (sym (getD-drop k (paste d at s n) 0 z) ∙ ap (λ (l : List A). getD l 0 z) (drop-past d at s n k h f g) ∙ getD-drop k d 0 z)
-
   pub down-turn : (b d : List A) (lo end i : ℕ) (z : A) → lo ≤ i → i < end → end + 1 ≤ length d
       → b ≡ paste d lo (drop (lo + 1) d) (i - lo) → set b i (getD b (i + 1) z) ≡ paste d lo (drop (lo + 1) d) (i + 1 - lo)
   down-turn b d lo end i z h k f e =
@@ -37,19 +31,9 @@ module _ {ℓ} {A : Type ℓ} where
 
 -- ---- one less
 module _ {A B : Type 0} (f : A → B) where
-  map-take : (k : ℕ) (l : List A) → map f (take k l) ≡ take k (map f l)
-  map-take zero l = refl
-  map-take (suc k) [] = refl
-  map-take (suc k) (x ∷ l) = ap (λ (t : List B). f x ∷ t) (map-take k l)
-
-  map-drop : (k : ℕ) (l : List A) → map f (drop k l) ≡ drop k (map f l)
-  map-drop zero l = refl
-  map-drop (suc k) [] = refl
-  map-drop (suc k) (x ∷ l) = map-drop k l
-
   pub map-removeAt : (k : ℕ) (l : List A) → map f (removeAt k l) ≡ removeAt k (map f l)
   unfolding removeAt
-  map-removeAt k l = map-append f (take k l) (drop (k + 1) l) ∙ (λ i. map-take k l i ++ map-drop (k + 1) l i)
+  map-removeAt k l = map-append f (take k l) (drop (k + 1) l) ∙ (λ i. map-take f k l i ++ map-drop f (k + 1) l i)
 
 -- ---- how often an entry stands
 choose-add : (t : Bool) (m n : ℕ) → choose t (suc (m + n)) (m + n) ≡ choose t (suc m) m + n

@@ -1,22 +1,21 @@
--- Laws of the search over queues, and of what the rules do at the place that it finds. Assumes nothing.
+-- Laws of the search over queues, and of what the rules do at the place that it finds.
 use mathlib.Core.Path.{_≡_, refl, sym, ap, _∙_}
 use mathlib.Core.Bool.{Bool, true, false, _&&_}
 use mathlib.Core.Option.{none, some}
-use mathlib.Core.List.{List, [], _∷_, _++_}
+use mathlib.Core.List.{List, [], _∷_}
 use Prim.Native.Nat.{ℕ, zero, suc, _+_, _-_, _*_, _/_, _%_, _^_, _≤_, _<_, min}
-use native.Mathlib.Nat.{not-suc-le-zero}
 use native.Mathlib.Numerals.{add-one}
 use native.Mathlib.Omega.{arith}
 use borrow.Author.Tests.{eqb-true, eqb-false, eq-eqb, ne-eqb}
 use lib.Bits.{bitAnd, and-step}
 use lib.Dec.{eqb}
-use lib.ListN.{length, take, drop, getD, set, length-take, drop-of-length-le}
-use lib.Seq.{drop-cons, drop-drop, take-take, getD-take}
+use lib.ListN.{length, take, drop, getD, length-take, drop-of-length-le}
+use lib.Seq.{drop-cons, getD-take}
 use Rattle.rules.specs.Bytes.{choose, field}
 use Rattle.rules.specs.State.{Record, bit, hasBit}
-use Rattle.rules.specs.Requests.{isFor, consTo, without, orIn, withoutFirst}
+use Rattle.rules.specs.Requests.{consTo, without, orIn, withoutFirst}
 use Rattle.rules.specs.Take.{firstAllowed, keep}
-use Rattle.numbers.proofs.Laws.{drop-take}
+use Rattle.numbers.proofs.Laws.{field-part, each-subclass}
 use Rattle.store_queues.specs.Slots.{removeAt, slot}
 use Rattle.store_queues.specs.Queues.{withoutAt}
 use Rattle.store_queues.proofs.Counts.{halves}
@@ -25,13 +24,6 @@ use Rattle.store_search.specs.declared.Found.the-variants.{At, None}
 use Rattle.store_search.specs.Search.{isForWord, wanted, searchQueue, searchQueues, leftAt, handedAt}
 
 -- ---- a record is for a subchannel by one word of its slot, which is two halves
-field-slot : (at n w : ℕ) (b : List ℕ) (s : ℕ) → at + n ≤ w → field at n (slot w b s) ≡ field (s * w + at) n b
-unfolding slot
-field-slot at n w b s h =
-    let e : at + (w - at) ≡ w = omega arith in
-    let d : drop at (take w (drop (s * w) b)) ≡ take (w - at) (drop at (drop (s * w) b)) = rw e at (drop-take at (w - at) (drop (s * w) b)) in
-    rw (d, take-take n (w - at) (drop at (drop (s * w) b)) (omega arith), drop-drop)
-
 -- two words are equal where their halves are
 word-halves : (x y w : ℕ) (s t : Bool) → y < 65536 → eqb x (w / 65536) ≡ s → eqb y (w % 65536) ≡ t → eqb (x * 65536 + y) w ≡ (s && t)
 word-halves x y w true true h e f = eq-eqb (x * 65536 + y) w (omega (arith, h, eqb-true x (w / 65536) e, eqb-true y (w % 65536) f))
@@ -39,11 +31,10 @@ word-halves x y w true false h e f = ne-eqb (x * 65536 + y) w (λ k. eqb-false y
 word-halves x y w false t h e f = ne-eqb (x * 65536 + y) w (λ k. eqb-false x (w / 65536) e (omega (arith, h, k)))
 
 pub is-for-at : (b : List ℕ) (s w p v : ℕ) → p ≡ s * 72 + 8 → v ≡ field p 2 b * 65536 + field (p + 2) 2 b → field (p + 2) 2 b < 65536 → eqb v w ≡ isForWord w (slot 72 b s)
+unfolding slot
 is-for-at b s w p v ep ev h =
-    let x : field 8 2 (slot 72 b s) ≡ field p 2 b = rw ep (field-slot 8 2 72 b s (omega arith)) in
-    let y : field 10 2 (slot 72 b s) ≡ field (p + 2) 2 b =
-    field-slot 10 2 72 b s (omega arith) ∙ ap (λ (j : ℕ). field j 2 b) (let z : s * 72 + 10 ≡ p + 2 = omega arith in z) in
-    rw (ev, x, y) (word-halves (field p 2 b) (field (p + 2) 2 b) w _ _ h refl refl)
+    let z : s * 72 + 10 ≡ p + 2 = omega arith in
+    rw (ev, field-part 8 2 72 (s * 72) b (omega arith), field-part 10 2 72 (s * 72) b (omega arith), z, ← ep) (word-halves _ _ w _ _ h refl refl)
 
 -- ---- the search of the first eight, turn by turn
 module _ (qs : List (List Record)) (f : Record → Bool) (mask i : ℕ) where
@@ -153,15 +144,7 @@ look f (r ∷ q) = look-on f r q (f r) refl (look f q)
 
 every-bit : (n : ℕ) → n ≤ 7 → hasBit n 255 ≡ true
 unfolding hasBit
-every-bit zero h = refl
-every-bit (suc zero) h = refl
-every-bit (suc (suc zero)) h = refl
-every-bit (suc (suc (suc zero))) h = refl
-every-bit (suc (suc (suc (suc zero)))) h = refl
-every-bit (suc (suc (suc (suc (suc zero))))) h = refl
-every-bit (suc (suc (suc (suc (suc (suc zero)))))) h = refl
-every-bit (suc (suc (suc (suc (suc (suc (suc zero))))))) h = refl
-every-bit (suc (suc (suc (suc (suc (suc (suc (suc n)))))))) h = absurd (omega arith)
+every-bit = each-subclass (λ n. hasBit n 255 ≡ true) refl refl refl refl refl refl refl refl
 
 cons-next : (n : ℕ) (q : List Record) (qs : List (List Record)) (v : Found) → From (suc n) v → consTo q (leftAt (past (suc n) v) qs) ≡ leftAt (past n v) (q ∷ qs)
 unfolding withoutAt
@@ -208,22 +191,16 @@ digit-and (suc k) a b =
     let e : bitAnd a b / 2 ≡ bitAnd (a / 2) (b / 2) = omega (arith, and-step a b, one-digit a b) in
     rw (← halves (bitAnd a b) k, ← halves a k, ← halves b k, e) (digit-and k (a / 2) (b / 2))
 
-bit-and : (i a b : ℕ) → i ≤ 7 → bitAnd a b / bit i % 2 ≡ min (a / bit i % 2) (b / bit i % 2)
-bit-and zero a b h = digit-and 7 a b
-bit-and (suc zero) a b h = digit-and 6 a b
-bit-and (suc (suc zero)) a b h = digit-and 5 a b
-bit-and (suc (suc (suc zero))) a b h = digit-and 4 a b
-bit-and (suc (suc (suc (suc zero)))) a b h = digit-and 3 a b
-bit-and (suc (suc (suc (suc (suc zero))))) a b h = digit-and 2 a b
-bit-and (suc (suc (suc (suc (suc (suc zero)))))) a b h = digit-and 1 a b
-bit-and (suc (suc (suc (suc (suc (suc (suc zero))))))) a b h = digit-and 0 a b
-bit-and (suc (suc (suc (suc (suc (suc (suc (suc i)))))))) a b h = absurd (omega arith)
+bit-and : (a b i : ℕ) → i ≤ 7 → bitAnd a b / bit i % 2 ≡ min (a / bit i % 2) (b / bit i % 2)
+bit-and a b =
+    each-subclass (λ i. bitAnd a b / bit i % 2 ≡ min (a / bit i % 2) (b / bit i % 2))
+    (digit-and 7 a b) (digit-and 6 a b) (digit-and 5 a b) (digit-and 4 a b) (digit-and 3 a b) (digit-and 2 a b) (digit-and 1 a b) (digit-and 0 a b)
 
 -- a bit of two masks is that of the one where the other has it
 pub has-both : (i a b : ℕ) → i ≤ 7 → hasBit i b ≡ true → hasBit i (bitAnd a b) ≡ hasBit i a
 unfolding hasBit
 has-both i a b h k =
-    let e : bitAnd a b / bit i % 2 ≡ a / bit i % 2 = omega (arith, bit-and i a b h, eqb-true (b / bit i % 2) 1 k) in
+    let e : bitAnd a b / bit i % 2 ≡ a / bit i % 2 = omega (arith, bit-and a b i h, eqb-true (b / bit i % 2) 1 k) in
     rw e
 
 -- masks that agree on the subclasses that have records

@@ -6,9 +6,9 @@ use native.Mathlib.Omega.{arith}
 use lib.ListN.{length, length-set}
 use lib.Seq.{paste}
 use borrow.Author.Needs.{needs}
-use Rattle.rules.specs.Listing.{digits}
-use Rattle.numbers.proofs.Laws.{paste-none}
-use Rattle.listing_text.proofs.Text.{spell-turn, length-digits}
+use Rattle.rules.specs.Listing.{digit, digits}
+use Rattle.numbers.proofs.Laws.{paste-none, write-turn}
+use Rattle.listing_text.proofs.Text.{length-digits}
 use Rattle.listing_text.proofs.spell.Statement.{statement}
 use Rattle.listing_text.proofs.spell.Tie as tie
 
@@ -30,7 +30,7 @@ loop-again c =
     let d = c .before .before .before .before in
     let a = d .args in
     let l = c .before .before .loop in
-    let t = spell-turn (l .out) (a .out .now) (a .at) (a .base) (a .n) (l .i) (a .v) (l .w) (omega arith) (omega arith) (omega arith) (l .inv .2) (l .inv .3) in
+    let t = write-turn digit (λ k. digits (a .base) k (a .v)) (a .base) (a .v) (λ k. unfold digits in refl) (l .out) (a .out .now) (a .at) (a .n) (l .i) (l .w) (omega arith) (omega arith) (omega arith) (l .inv .2) (l .inv .3) in
     (omega arith, simp length-set (l .inv .1), t .0, rw (c .letter .ensures) (t .1))
 
 returns : tie.Need-returns Inv-loop μ-loop

@@ -27,7 +27,7 @@ loop-again : tie.Need-loop-again Inv-loop μ-loop
 loop-again c =
     let a = c .before .before .args in
     let l = c .before .loop in
-    let t = write-turn (l .b) (a .b .now) (a .at) (a .n) (l .i) (a .v) (l .w) (omega arith) (omega arith) (omega arith) (l .inv .2) (l .inv .3) in
+    let t = write-turn (λ x. x) (λ k. bytes k (a .v)) 256 (a .v) (λ k. unfold bytes in refl) (l .b) (a .b .now) (a .at) (a .n) (l .i) (l .w) (omega arith) (omega arith) (omega arith) (l .inv .2) (l .inv .3) in
     (omega arith, simp length-set (l .inv .1), t .0, t .1)
 
 returns : tie.Need-returns Inv-loop μ-loop

@@ -8,7 +8,8 @@ use lib.ListN.{length, take, getD, length-map}
 use lib.Seq.{paste, paste-zero, take-all}
 use Rattle.store_queues.specs.Slots.{slotCount, slot}
 use Rattle.store_queues.specs.Queues.{row, listed}
-use Rattle.store_queues.proofs.Rows.{length-row, row-at, getD-map}
+use Rattle.numbers.proofs.Laws.{getD-map}
+use Rattle.store_queues.proofs.Rows.{length-row, row-at}
 use Rattle.store_queues.proofs.Laws.{list-turn}
 use Rattle.store_queues.proofs.list_queue.Statement.{statement}
 use Rattle.store_queues.proofs.list_queue.Tie as tie

@@ -1,5 +1,5 @@
 -- One word of the slot is the subchannel's id and number.
-use mathlib.Core.Path.{ap, _∙_}
+use mathlib.Core.Path.{ap}
 use Prim.Native.Nat.{ℕ, _+_, _*_}
 use borrow.Author.Needs.{needs}
 use Rattle.store_search.proofs.Laws.{is-for-at}

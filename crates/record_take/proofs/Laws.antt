@@ -1,4 +1,4 @@
--- Laws of the pending records in lent memory: the listing, what a removal leaves, and the four cases of the take. Assumes nothing.
+-- Laws of the pending records in lent memory: the listing, what a removal leaves, and the four cases of the take.
 use mathlib.Core.Path.{_≡_, refl, sym, ap, _∙_}
 use mathlib.Core.Bool.{Bool, true, false, not, _&&_, true≢false}
 use mathlib.Core.Logic.{_⊎_, inl, inr}
@@ -24,7 +24,7 @@ use Rattle.answers.proofs.Laws.{same-state, accepted}
 use Rattle.answers.specs.declared.Answer.{Answer}
 use Rattle.store_queues.specs.Slots.{removeAt}
 use Rattle.store_queues.specs.Queues.{total, waiting, queues, withoutAt, Held}
-use Rattle.store_queues.proofs.Laws.{length-queues, length-queue, length-flatten-queues}
+use Rattle.store_queues.proofs.Laws.{length-queues, length-queue, flatten-queues, length-flatten-queues}
 use Rattle.store_queues.proofs.Counts.{waiting-bit}
 use Rattle.store_singles.specs.Singles.{ifThere, serviceOf, mchkOf}
 use Rattle.store_singles.proofs.Laws.{absent-if, there-if}
@@ -38,18 +38,12 @@ use Rattle.record_take.specs.declared.Next.the-variants as next
 use Rattle.record_take.specs.Next.{withQueues, handsQueued, handedNext}
 
 -- ---- the listing of nine queues and two records
-whole : (qs : List (List Record)) → length qs ≡ 9 → flatten (take 8 qs) ++ getD qs 8 [] ≡ flatten qs
-unfolding flatten
-whole qs h =
-    sym (ap flatten (sym (take-all 9 qs (omega arith)) ∙ take-suc qs 8 [] (omega arith)) ∙ flatten-append (take 8 qs) (getD qs 8 [] ∷ [])
-    ∙ ap (λ (l : List Record). flatten (take 8 qs) ++ l) (append-nil (getD qs 8 [])))
-
 module _ (o c b g : List ℕ) (h : Held o c) where
   pub listing-is : listing (pendingOf o c b g) ≡ (flatten (queues o c b) ++ single (serviceOf g)) ++ single (mchkOf g)
   unfolding listing pendingOf
   listing-is =
       sym (append-assoc (flatten (take 8 (queues o c b))) (getD (queues o c b) 8 []) _)
-      ∙ rw (whole (queues o c b) (length-queues o c h b)) (sym (append-assoc (flatten (queues o c b)) (single (serviceOf g)) (single (mchkOf g))))
+      ∙ rw (flatten-queues o c h b) (sym (append-assoc (flatten (queues o c b)) (single (serviceOf g)) (single (mchkOf g))))
 
   pub length-listing : length (listing (pendingOf o c b g)) ≡ total c + length (single (serviceOf g)) + length (single (mchkOf g))
   length-listing = rw (listing-is, length-append, length-append, length-flatten-queues o c h b)

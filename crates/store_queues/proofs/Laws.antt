@@ -22,6 +22,9 @@ use Rattle.store_queues.proofs.Rows.{length-row, row-at, row-more, row-
 use Rattle.store_queues.proofs.Counts.{sum-next, length-each, count-small, Changed, counted-again, some-one, all-zero}
 
 -- ---- the queues
+flatten-next : {A : Type 0} (l : List (List A)) (k : ℕ) → k < length l → flatten (take (k + 1) l) ≡ flatten (take k l) ++ getD l k []
+flatten-next l k h = rw (add-one, take-suc l k [] h, flatten-append) (unfold flatten in rw append-nil)
+
 length-listed : (b o : List ℕ) (q : ℕ) (ns : List ℕ) → q * slotCount + length ns * slotCount ≤ length o → sum ns ≤ slotCount
     → length (flatten (map (listed b) (rows o q ns))) ≡ sum ns
 unfolding rows sum flatten
@@ -51,6 +54,11 @@ module _ (o c : List ℕ) (h : Held o c) where
     pub length-queues : length (queues o c b) ≡ 9
     unfolding queues
     length-queues = length-map (used o c) (listed b) ∙ length-used
+
+    -- those of the subclasses, then the ninth
+    pub flatten-queues : flatten (take 8 (queues o c b)) ++ getD (queues o c b) 8 [] ≡ flatten (queues o c b)
+    flatten-queues =
+        sym (flatten-next (queues o c b) 8 (omega (arith, length-queues))) ∙ ap flatten (take-all 9 (queues o c b) (omega (arith, length-queues)))
 
     queue-is : (q : ℕ) → q < 9 → getD (queues o c b) q [] ≡ listed b (row o q (getD c q 0))
     unfolding queues
@@ -305,9 +313,6 @@ reset-leaves o u c l eu ec =
     })
 
 -- ---- the listing
-flatten-next : {A : Type 0} (l : List (List A)) (k : ℕ) → k < length l → flatten (take (k + 1) l) ≡ flatten (take k l) ++ getD l k []
-flatten-next l k h = rw (add-one, take-suc l k [] h, flatten-append) (unfold flatten in rw append-nil)
-
 -- a copy, and behind it another
 paste-on : (d g r : List ℕ) (at m w : ℕ) → length g ≡ m → length r ≡ w → at + m + w ≤ length d → paste (paste d at g m) (at + m) r w ≡ paste d at (g ++ r) (m + w)
 paste-on d g r at m w lg lr h =

@@ -8,14 +8,14 @@ use Prim.Native.Nat.{ℕ, zero, suc, _+_, _*_, _/_, _%_, _≤_, _<_}
 use native.Mathlib.Nat.{not-suc-le-zero}
 use native.Mathlib.Omega.{arith}
 use borrow.Author.Tests.{le-leb, lt-leb, ne-eqb}
-use lib.ListN.{length, take, drop, getD, set, replicate, length-append, length-take, length-drop}
+use lib.ListN.{length, take, drop, getD, length-append, length-take, length-drop}
 use lib.Bits.{bitAnd}
 use lib.Dec.{eqb}
 use lib.Seq.{take-all, take-suc, take-at, drop-at, drop-drop, take-set-le, take-set-lt, getD-take, getD-set-same, getD-set-other, paste, length-paste}
 use Rattle.rules.specs.Bytes.{choose, byte, part, field}
 use Rattle.rules.specs.State.{Limits, State, Record, Pending, nothing, withPending, single, listing}
 use Rattle.rules.specs.Outcome.{refuse, accept}
-use Rattle.rules.specs.Requests.{isZero, isFor, withoutFirst, request, clearIoIrq, clearsIo, removes, clears, getsAll}
+use Rattle.rules.specs.Requests.{isZero, withoutFirst, request, clearIoIrq, clearsIo, removes, clears, getsAll}
 use Rattle.rules.specs.Take.{firstAllowed, orElse, handMchk, handService, handDone, handIo, handed, handsOut, takes}
 use Rattle.rules.proofs.Checks.{passes, fails}
 use Rattle.rules.proofs.Lists.{flatten-append}
@@ -138,19 +138,6 @@ pub queues-left : (o c u v b g : List ℕ) (qs : List (List Record)) → queues 
 unfolding pendingOf
 queues-left o c u v b g qs e = rw e
 
-module _ (o c b g d : List ℕ) where
-  pub mchk-left : mchkOf d ≡ none → serviceOf d ≡ serviceOf g
-      → let p = pendingOf o c b g in
-      pendingOf o c b d ≡ record { io = p .io; done = p .done; service = p .service; mchk = none }
-  unfolding pendingOf
-  mchk-left e f = rw (e, f)
-
-  pub service-left : serviceOf d ≡ none → mchkOf d ≡ mchkOf g
-      → let p = pendingOf o c b g in
-      pendingOf o c b d ≡ record { io = p .io; done = p .done; service = none; mchk = p .mchk }
-  unfolding pendingOf
-  service-left e f = rw (e, f)
-
 -- ---- CLEAR_IO_IRQ: the word is the subchannel's id and number
 module _ (b : List ℕ) (w : ℕ) (e : w ≡ field 0 2 b * 65536 + field 2 2 b) where
   pub word-zero : w ≡ 0 → not (isZero (field 0 2 b) && isZero (field 2 2 b)) ≡ false
@@ -264,18 +251,14 @@ module _ (o c b g : List ℕ) (h : Held o c) where
 module _ (o c b g : List ℕ) (m : ℕ) (e k : Bool) where
   pub hands-mchk : (d r : List ℕ) → k ≡ true → mchkOf g ≡ some r → mchkOf d ≡ none → serviceOf d ≡ serviceOf g
       → handed (pendingOf o c b g) m e k ≡ some (record { given = r; left = pendingOf o c b d })
-  unfolding handed orElse choose
-  hands-mchk d r f u x y =
-      let v : pendingOf o c b g .mchk ≡ some r = unfold pendingOf in u in
-      rw (mchk-left o c b g d x y, f, v)
+  unfolding handed orElse choose pendingOf
+  hands-mchk d r f u x y = rw (f, u, x, y)
 
   module _ (n₁ : NoMchk (pendingOf o c b g) k) where
     pub hands-service : (d r : List ℕ) → e ≡ true → serviceOf g ≡ some r → serviceOf d ≡ none → mchkOf d ≡ mchkOf g
         → handed (pendingOf o c b g) m e k ≡ some (record { given = r; left = pendingOf o c b d })
-    unfolding handed orElse choose
-    hands-service d r f u x y =
-        let v : pendingOf o c b g .service ≡ some r = unfold pendingOf in u in
-        rw (service-left o c b g d x y, n₁, f, v)
+    unfolding handed orElse choose pendingOf
+    hands-service d r f u x y = rw (f, x, y, n₁, u)
 
     module _ (n₂ : NoService (pendingOf o c b g) e) (v : Next) (t : handsQueued (pendingOf o c b g) m e ≡ handedNext v (queues o c b) (pendingOf o c b g)) where
       by-next : handed (pendingOf o c b g) m e k ≡ handedNext v (queues o c b) (pendingOf o c b g)
@@ -317,10 +300,7 @@ module _ (s : State) (p : Pending) (n attr : ℕ) (e : s .pending ≡ p) (f : n 
   unfolding getsAll
   lists-all h = passes _ _ _ (le-leb (72 * length (listing (s .pending))) attr (rw e (omega arith))) ∙ rw (e, f)
 
--- what was written is as long as the place where the old bytes go on
-pub wrote-long : (p : Pending) (b d : List ℕ) → 72 * length (listing p) ≤ length b → length d ≡ length b → d ≡ flatten (listing p) ++ drop (72 * length (listing p)) b
-    → d ≡ flatten (listing p) ++ drop (length (flatten (listing p))) b
-wrote-long p b d h l e =
-    let n : ℕ = 72 * length (listing p) in
-    let k : length (flatten (listing p)) ≡ n = omega (arith, ap length e, length-append (flatten (listing p)) (drop n b), length-drop n b) in
-    rw k e
+-- what is written fills the place up to where the old bytes go on
+pub records-size : (rs : List Record) (b d : List ℕ) → 72 * length rs ≤ length b → length d ≡ length b → d ≡ flatten rs ++ drop (72 * length rs) b
+    → length (flatten rs) ≡ 72 * length rs
+records-size rs b d h l e = omega (arith, ap length e, length-append (flatten rs) (drop (72 * length rs) b), length-drop (72 * length rs) b)

@@ -164,17 +164,17 @@ fn next_queued(
     slots: &[u8; SLOT_BYTES],
     order: &[u8; ORDER_BYTES],
     counts: &[usize; COUNTS],
-    mask: u8,
+    subclasses: u8,
     external: bool,
 ) -> Next
     requires { ⌜ Held (now order) (now counts) ⌝ }
     ensures place { λ r. ⌜ NextIn (now (counts .entry)) r ⌝ }
-    ensures hands { λ r. ⌜ ((singles : List ℕ) → handsQueued (pendingOf (now (order .entry)) (now (counts .entry)) (now (slots .entry)) singles) mask external ≡ handedNext r (queues (now (order .entry)) (now (counts .entry)) (now (slots .entry))) (pendingOf (now (order .entry)) (now (counts .entry)) (now (slots .entry)) singles)) ⌝ }
+    ensures hands { λ r. ⌜ ((singles : List ℕ) → handsQueued (pendingOf (now (order .entry)) (now (counts .entry)) (now (slots .entry)) singles) subclasses external ≡ handedNext r (queues (now (order .entry)) (now (counts .entry)) (now (slots .entry))) (pendingOf (now (order .entry)) (now (counts .entry)) (now (slots .entry)) singles)) ⌝ }
 {
     if external && 0 < store_queues::count(counts, store_queues::done()) {
         return Next::At(store_queues::done(), 0);
     }
-    let allowed = mask & store_queues::nonempty(counts);
+    let allowed = subclasses & store_queues::nonempty(counts);
     let Found::At(isc, at) = store_search::find(slots, order, counts, allowed, true, Subchannel(0))
     else {
         return Next::None;
@@ -188,13 +188,13 @@ pub fn take(
     order: &mut [u8; ORDER_BYTES],
     counts: &mut [usize; COUNTS],
     singles: &mut [u8; SINGLES_BYTES],
-    mask: u8,
+    subclasses: u8,
     external: bool,
     mcheck: bool,
     out: &mut [u8],
 ) -> Answer
     requires { ⌜ Held (now order) (now counts) ⌝ }
-    ensures answer { λ r. ⌜ ((L : Limits) (s : State) → s .pending ≡ before order counts slots singles → Answers L s (now (out .entry)) (takes s mask external mcheck (now (out .entry))) r (withPending (pendingOf (now (order .exit)) (now (counts .exit)) (now (slots .entry)) (now (singles .exit))) s) (now (out .exit))) ⌝ }
+    ensures answer { λ r. ⌜ ((L : Limits) (s : State) → s .pending ≡ before order counts slots singles → Answers L s (now (out .entry)) (takes s subclasses external mcheck (now (out .entry))) r (withPending (pendingOf (now (order .exit)) (now (counts .exit)) (now (slots .entry)) (now (singles .exit))) s) (now (out .exit))) ⌝ }
     ensures held { λ _. ⌜ HeldAfter order counts ⌝ }
     ensures kept { λ r. ⌜ ((r .code ≡ 0 → ⊥) → Stays order × Stays counts × Stays singles × Stays out) ⌝ }
 {
@@ -211,7 +211,7 @@ pub fn take(
         store_singles::drop_service(singles);
         return a;
     }
-    let Next::At(q, at) = next_queued(slots, order, counts, mask, external) else {
+    let Next::At(q, at) = next_queued(slots, order, counts, subclasses, external) else {
         return answers::accept(0); // the buffer is not touched
     };
     let a = hand(out, store_queues::read(slots, order, counts, q, at));

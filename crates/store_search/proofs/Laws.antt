@@ -37,15 +37,15 @@ is-for-at b s w p v ep ev h =
     rw (ev, field-part 8 2 72 (s * 72) b (omega arith), field-part 10 2 72 (s * 72) b (omega arith), z, ← ep) (word-halves _ _ w _ _ h refl refl)
 
 -- ---- the search of the first eight, turn by turn
-module _ (qs : List (List Record)) (f : Record → Bool) (mask i : ℕ) where
-  pub search-over : 8 ≤ i → searchQueues f mask i (drop i (take 8 qs)) ≡ None
+module _ (qs : List (List Record)) (f : Record → Bool) (subclasses i : ℕ) where
+  pub search-over : 8 ≤ i → searchQueues f subclasses i (drop i (take 8 qs)) ≡ None
   unfolding searchQueues
   search-over h = rw (drop-of-length-le (take 8 qs) {i = i} (rw length-take (omega arith)))
 
   abbrev pub later : Found
-  later = searchQueues f mask (i + 1) (drop (i + 1) (take 8 qs))
+  later = searchQueues f subclasses (i + 1) (drop (i + 1) (take 8 qs))
 
-  pub search-queue : i < 8 → length qs ≡ 9 → searchQueues f mask i (drop i (take 8 qs)) ≡ choose (hasBit i mask) (searchQueue f i 0 (getD qs i []) later) later
+  pub search-queue : i < 8 → length qs ≡ 9 → searchQueues f subclasses i (drop i (take 8 qs)) ≡ choose (hasBit i subclasses) (searchQueue f i 0 (getD qs i []) later) later
   unfolding searchQueues
   search-queue h nine =
       let n : i < length (take 8 qs) = rw length-take (omega arith) in
@@ -81,13 +81,13 @@ unfolding searchQueue
 from-queue f n k [] later h = h
 from-queue f n k (r ∷ q) later h = from-choose n (f r) _ _ (omega arith) (from-queue f n (suc k) q later h)
 
-from : (f : Record → Bool) (mask n : ℕ) (qs : List (List Record)) → From n (searchQueues f mask n qs)
+from : (f : Record → Bool) (subclasses n : ℕ) (qs : List (List Record)) → From n (searchQueues f subclasses n qs)
 unfolding searchQueues
-from f mask n [] = tt
-from f mask n (q ∷ qs) =
-    let v = searchQueues f mask (suc n) qs in
-    let l = from-less n v (from f mask (suc n) qs) in
-    from-choose n (hasBit n mask) (searchQueue f n 0 q v) v (from-queue f n 0 q v l) l
+from f subclasses n [] = tt
+from f subclasses n (q ∷ qs) =
+    let v = searchQueues f subclasses (suc n) qs in
+    let l = from-less n v (from f subclasses (suc n) qs) in
+    from-choose n (hasBit n subclasses) (searchQueue f n 0 q v) v (from-queue f n 0 q v l) l
 
 -- the subclass counted from n on
 abbrev past : ℕ → Found → Found
@@ -116,13 +116,13 @@ unfolding choose
 choose-same true a = refl
 choose-same false a = refl
 
-take-from : (n mask : ℕ) (qs : List (List Record)) → firstAllowed n mask qs ≡ handedAt (past n (searchQueues (λ r. true) mask n qs)) qs
+take-from : (n subclasses : ℕ) (qs : List (List Record)) → firstAllowed n subclasses qs ≡ handedAt (past n (searchQueues (λ r. true) subclasses n qs)) qs
 unfolding firstAllowed searchQueue searchQueues choose
-take-from n mask [] = refl
-take-from n mask ([] ∷ qs) =
-    rw (choose-same, take-from (suc n) mask qs) (keep-next n [] qs (searchQueues (λ r. true) mask (suc n) qs) (from (λ r. true) mask (suc n) qs))
-take-from n mask ((r ∷ q) ∷ qs) =
-    rw (take-from (suc n) mask qs) (take-here (hasBit n mask) n r q qs (searchQueues (λ r. true) mask (suc n) qs) (from (λ r. true) mask (suc n) qs))
+take-from n subclasses [] = refl
+take-from n subclasses ([] ∷ qs) =
+    rw (choose-same, take-from (suc n) subclasses qs) (keep-next n [] qs (searchQueues (λ r. true) subclasses (suc n) qs) (from (λ r. true) subclasses (suc n) qs))
+take-from n subclasses ((r ∷ q) ∷ qs) =
+    rw (take-from (suc n) subclasses qs) (take-here (hasBit n subclasses) n r q qs (searchQueues (λ r. true) subclasses (suc n) qs) (from (λ r. true) subclasses (suc n) qs))
 
 -- ---- the clear
 data Look (f : Record → Bool) (q : List Record) : Type 0 where
@@ -168,16 +168,16 @@ clear-from f n (q ∷ qs) h =
     (clear-here f n q qs (searchQueues f 255 (suc n) qs) (from f 255 (suc n) qs) (look f q))
 
 -- what the rules do at what the search answers: the subchannel's first record, and any record of an allowed subclass
-module _ (any : Bool) (word mask : ℕ) (qs : List (List Record)) (v : Found) (e : v ≡ searchQueues (wanted any word) mask 0 (take 8 qs)) where
-  pub cleared : any ≡ false → mask ≡ 255 → withoutFirst (isForWord word) (take 8 qs) ≡ leftAt v (take 8 qs)
+module _ (any : Bool) (word subclasses : ℕ) (qs : List (List Record)) (v : Found) (e : v ≡ searchQueues (wanted any word) subclasses 0 (take 8 qs)) where
+  pub cleared : any ≡ false → subclasses ≡ 255 → withoutFirst (isForWord word) (take 8 qs) ≡ leftAt v (take 8 qs)
   cleared a m =
       clear-from (isForWord word) 0 (take 8 qs) (omega (arith, length-take 8 qs))
       ∙ ap (λ (u : Found). leftAt u (take 8 qs)) (past-none _ ∙ sym (e ∙ (λ i. searchQueues (wanted (a i) word) (m i) 0 (take 8 qs))))
 
-  pub handed-out : any ≡ true → firstAllowed 0 mask (take 8 qs) ≡ handedAt v (take 8 qs)
+  pub handed-out : any ≡ true → firstAllowed 0 subclasses (take 8 qs) ≡ handedAt v (take 8 qs)
   handed-out a =
-      take-from 0 mask (take 8 qs)
-      ∙ ap (λ (u : Found). handedAt u (take 8 qs)) (past-none _ ∙ sym (e ∙ (λ i. searchQueues (wanted (a i) word) mask 0 (take 8 qs))))
+      take-from 0 subclasses (take 8 qs)
+      ∙ ap (λ (u : Found). handedAt u (take 8 qs)) (past-none _ ∙ sym (e ∙ (λ i. searchQueues (wanted (a i) word) subclasses 0 (take 8 qs))))
 
 -- ---- a mask without the subclasses that have no records
 one-digit : (a b : ℕ) → min (a % 2) (b % 2) < 2

@@ -11,7 +11,7 @@ use Rattle.rules.specs.Requests.{request}
 use Rattle.rules.proofs.Checks.{passes, fails}
 use Rattle.store.specs.Memory.{pendingOf}
 use Rattle.answers.proofs.Laws.{refused, accepted, not-refused}
-use Rattle.record_take.proofs.Laws.{lists-none, lists-all, wrote-long}
+use Rattle.record_take.proofs.Laws.{lists-none, lists-all, records-size}
 use Rattle.record_take.proofs.get_all.Statement.{statement}
 use Rattle.record_take.proofs.get_all.Tie as tie
 
@@ -48,7 +48,7 @@ returns-4 c =
           accepted L s _ _ _ _ s _ _
           (passes _ _ _ (ap not (ne-eqb _ 0 (t .if1 .left))) ∙ passes _ _ _ (le-leb _ _ (f .before .if2 .left)) ∙ lists-all s _ _ _ e n (d .before .before .if3 .left))
           (c .accept .ensures)
-          (wrote-long _ (t .before .before .args .out .now) _ (room (d .before)) l (d .list-all .ensures)),
+          (rw (records-size _ (t .before .before .args .out .now) _ (room (d .before)) l (d .list-all .ensures)) (d .list-all .ensures)),
       not-refused _ _ (c .accept .ensures),
     )
 

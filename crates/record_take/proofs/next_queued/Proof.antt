@@ -43,7 +43,7 @@ returns-2 c =
     let j = n .before in
     let f = j .before in
     let a = f .args in
-    (tt, λ g. next-none (a .order .now) (a .counts .now) (a .slots .now) g (f .pre) (a .mask) _ (a .external) (ap (bitAnd (a .mask)) (n .nonempty .ensures)) (no-done (a .order .now) (a .counts .now) (a .slots .now) g (f .pre) (a .external) (passed j)) _ (d .find .ensures .1 .0 refl) _ refl (c .enum-told .given .1))
+    (tt, λ g. next-none (a .order .now) (a .counts .now) (a .slots .now) g (f .pre) (a .subclasses) _ (a .external) (ap (bitAnd (a .subclasses)) (n .nonempty .ensures)) (no-done (a .order .now) (a .counts .now) (a .slots .now) g (f .pre) (a .external) (passed j)) _ (d .find .ensures .1 .0 refl) _ refl (c .enum-told .given .1))
 
 -- the place that was found
 found : (c : tie.After-isc) → let a = c .before .before .before .before .before .args in
@@ -60,7 +60,7 @@ returns-3 c =
     let a = f .args in
     let p = found i in (
       rw (c .of .ensures) (omega (arith, p .0), p .1),
-      λ g. next-io (a .order .now) (a .counts .now) (a .slots .now) g (f .pre) (a .mask) _ (a .external) (ap (bitAnd (a .mask)) (n .nonempty .ensures)) (no-done (a .order .now) (a .counts .now) (a .slots .now) g (f .pre) (a .external) (passed j)) _ (d .find .ensures .1 .0 refl) _ _ _ (ap (λ (q : Queue). At q (i .isc .given .0 .1 .0)) (c .of .ensures)) (i .isc .given .1) (p .0),
+      λ g. next-io (a .order .now) (a .counts .now) (a .slots .now) g (f .pre) (a .subclasses) _ (a .external) (ap (bitAnd (a .subclasses)) (n .nonempty .ensures)) (no-done (a .order .now) (a .counts .now) (a .slots .now) g (f .pre) (a .external) (passed j)) _ (d .find .ensures .1 .0 refl) _ _ _ (ap (λ (q : Queue). At q (i .isc .given .0 .1 .0)) (c .of .ensures)) (i .isc .given .1) (p .0),
     )
 
 pub next-queued-spec : {M : Type 1} → statement M

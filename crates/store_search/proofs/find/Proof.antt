@@ -19,23 +19,23 @@ use Rattle.store_search.proofs.find.Statement.{statement}
 use Rattle.store_search.proofs.find.Tie as tie
 
 abbrev Inv-loop : tie.InvT-loop
-Inv-loop b o c mask any word found₀ isc q n allowed k₀ found k =
+Inv-loop b o c subclasses any word found₀ isc q n allowed k₀ found k =
     let f = wanted any (word .0) in
     let qs = queues o c b in
     (k ≤ n) × (found ≡ None)
-    × (searchQueues f mask 0 (take 8 qs) ≡ choose allowed (searchQueue f isc k (drop k (getD qs isc [])) (later qs f mask isc)) (later qs f mask isc))
+    × (searchQueues f subclasses 0 (take 8 qs) ≡ choose allowed (searchQueue f isc k (drop k (getD qs isc [])) (later qs f subclasses isc)) (later qs f subclasses isc))
 
 abbrev μ-loop : tie.MeasureT-loop
-μ-loop b o c mask any word found₀ isc q n allowed k₀ found k = n - k
+μ-loop b o c subclasses any word found₀ isc q n allowed k₀ found k = n - k
 
 abbrev Inv-search : tie.InvT-search
-Inv-search b o c mask any word found₀ isc₀ found isc =
+Inv-search b o c subclasses any word found₀ isc₀ found isc =
     let f = wanted any (word .0) in
     let qs = take 8 (queues o c b) in
-    (isc ≤ 8) × (found ≡ None) × (searchQueues f mask 0 qs ≡ searchQueues f mask isc (drop isc qs))
+    (isc ≤ 8) × (found ≡ None) × (searchQueues f subclasses 0 qs ≡ searchQueues f subclasses isc (drop isc qs))
 
 abbrev μ-search : tie.MeasureT-search
-μ-search b o c mask any word found₀ isc₀ found isc = 8 - isc
+μ-search b o c subclasses any word found₀ isc₀ found isc = 8 - isc
 
 -- the queue's records are as many as counted, and no more than a row has
 size : (c : tie.After-count Inv-loop μ-loop Inv-search μ-search)
@@ -65,8 +65,8 @@ turn : (c : tie.Then1 Inv-loop μ-loop Inv-search μ-search)
     let qs = queues (a .o .now) (a .c .now) (a .b .now) in
     let q = getD qs (s .search .isc) [] in
     (x : Bool) → f (getD q (l .loop .k) []) ≡ x
-    → searchQueues f (a .mask) 0 (take 8 qs)
-    ≡ choose x (At (record { 0 = s .search .isc }) (l .loop .k)) (searchQueue f (s .search .isc) (l .loop .k + 1) (drop (l .loop .k + 1) q) (later qs f (a .mask) (s .search .isc)))
+    → searchQueues f (a .subclasses) 0 (take 8 qs)
+    ≡ choose x (At (record { 0 = s .search .isc }) (l .loop .k)) (searchQueue f (s .search .isc) (l .loop .k + 1) (drop (l .loop .k + 1) q) (later qs f (a .subclasses) (s .search .isc)))
 turn c x e =
     let l = c .before .before in
     let z = size (l .before .before) in

@@ -5,31 +5,20 @@ use mathlib.Core.Bool.{Bool, true, false, _&&_, _||_}
 use mathlib.Core.List.{List, [], _∷_, _++_, flatten, append-assoc, append-nil}
 use native.Mathlib.Nat.{zero-add}
 use native.Mathlib.Omega.{arith}
-use lib.ListN.{length, getD, take, drop, length-append, length-take, length-drop, drop-of-length-le}
+use lib.ListN.{length, take, drop, length-append, length-drop, drop-of-length-le}
 use lib.Seq.{take-all, drop-drop}
 use lib.Dec.{ltb}
 use borrow.Author.Tests.{lt-ltb, le-leb, lt-leb}
-use Rattle.rules.specs.Bytes.{choose, bytes, byte, part}
-use Rattle.rules.specs.State.{Limits, State, Pending, Record, single, listing}
+use Rattle.rules.specs.Bytes.{choose, bytes}
+use Rattle.rules.specs.State.{Limits, State, Pending, Record, listing}
 use Rattle.rules.specs.Outcome.{result}
 use Rattle.rules.specs.Requests.{nonZero}
 use Rattle.rules.specs.MoveList.{ListRequest, oneIf, byRisingId, registerRequest, modifyRequest, enqueueRequest, aismAllRequest, apfRequest, listRequests, payloads, writtenTable, total, moveList, writes}
 use Rattle.rules.proofs.Checks.{passes, fails}
-use Rattle.rules.specs.Invariant.{All}
 use Rattle.rules.specs.Machine.{answerOf}
-use Rattle.rules.proofs.Lists.{all-append}
 use Rattle.rules.proofs.Decode.{length-table}
-use Rattle.rules.proofs.Reachable.{length-records}
-use Rattle.rules.specs.Invariant as invariant
 use Rattle.answers.specs.declared.Answer.{Answer}
 use Rattle.answers.specs.Answers.{Answers, answered}
-use Rattle.store_queues.specs.Slots.{slotCount}
-use Rattle.store_queues.proofs.Slots.{length-slot}
-use Rattle.store_queues.specs.Queues.{queues, Held}
-use Rattle.store_queues.proofs.Laws.{all-queued}
-use Rattle.store_singles.specs.Singles.{ifThere, serviceOf, mchkOf}
-use Rattle.store.specs.Memory.{pendingOf}
-use Rattle.record_take.proofs.Laws.{listing-is}
 use Rattle.adapters.specs.declared.Device.{Device}
 use Rattle.adapters.specs.Values.{deviceOf}
 use Rattle.list_image.specs.Places.{placesOf}
@@ -147,26 +136,7 @@ module _ (image : List ℕ) (p : Parts) (k : Counted image p) where
     entries-size =
         rw (payloads-append (adapterEntries image) (otherEntries rs (p .masks) simm nimm (p .apf)), length-append, adapters-size, others-size) (omega arith)
 
--- ---- the listing: its records are whole, and where it is put
-one-whole : (n : ℕ) (r : Record) → length r ≡ 72 → All invariant.Whole (single (ifThere n r))
-unfolding ifThere
-one-whole zero r h = tt
-one-whole (suc n) r h = (h, tt)
-
-length-part : (at : ℕ) (g : List ℕ) → at + 72 ≤ length g → length (part at 72 g) ≡ 72
-length-part at g h = simp (length-take, length-drop) (omega arith)
-
-pub whole-listing : (o c b g : List ℕ) (n : ℕ) → Held o c → ((k : ℕ) → getD o k 0 < slotCount) → slotCount * 72 ≤ length b → length g ≡ 146
-    → n ≡ length (listing (pendingOf o c b g)) → Whole (listing (pendingOf o c b g)) n
-unfolding serviceOf mchkOf
-whole-listing o c b g n h f m q e =
-    let every : All invariant.Whole (listing (pendingOf o c b g)) =
-    rw (listing-is o c b g h)
-    (all-append invariant.Whole (flatten (queues o c b) ++ single (serviceOf g)) (single (mchkOf g))
-    (all-append invariant.Whole (flatten (queues o c b)) (single (serviceOf g)) (all-queued invariant.Whole b o c (λ k. length-slot 72 slotCount b (getD o k 0) (f k) m)) (one-whole (byte 144 g) (part 0 72 g) (length-part 0 g (omega arith))))
-    (one-whole (byte 145 g) (part 72 72 g) (length-part 72 g (omega arith)))) in
-    record { count = sym e; size = length-records _ every ∙ ap (λ (x : ℕ). 72 * x) (sym e) }
-
+-- ---- where the listing is put
 pub listing-put : (b ys fs : List ℕ) (at n : ℕ) → at + n ≤ length b → length fs ≡ n → ys ≡ fs ++ drop n (take (length b - at) (drop at b))
     → take at b ++ (ys ++ drop (length b - at) (drop at b)) ≡ put b at fs
 unfolding put

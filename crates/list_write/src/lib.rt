@@ -175,21 +175,6 @@ fn has_masks(ais: bool, device: Device) -> bool
     device.nimm != 0
 }
 
-// How many records are pending; all are whole.
-fn records_pending(
-    slots: &[u8],
-    order: &[u8],
-    counts: &[usize; COUNTS],
-    singles: &[u8; SINGLES_BYTES],
-) -> usize
-    requires { ⌜ Held (now order) (now counts) × (length (now slots) ≡ slotCount * 72) ⌝ }
-    ensures { λ r. ⌜ Whole (listing (before order counts slots singles)) r × (r ≤ mostPending) ⌝ }
-{
-    // as a slice: what makes one of an array says its length
-    let _g: &[u8] = singles;
-    record_take::pending(counts, singles)
-}
-
 fn entry_count(p: Parts) -> usize
     requires { ⌜ (p .registers ≤ imageSize) × (p .modifies ≤ imageSize) ⌝ }
     ensures { λ r. ⌜ (r ≡ countOf p) × (r ≤ mostEntries) ⌝ }
@@ -311,7 +296,7 @@ pub fn write_list(
     let p = Parts {
         registers: count(image, false),
         modifies: count(image, true),
-        records: records_pending(slots, order, counts, singles),
+        records: record_take::pending_whole(slots, order, counts, singles),
         masks: has_masks(ais, device),
         apf: device.apf,
     };

@@ -7,25 +7,18 @@ use native.Mathlib.Nat.{zero-add, add-zero, add-assoc, pow-suc, div-div-eq-div-m
 use native.Mathlib.Numerals.{add-one}
 use native.Mathlib.Omega.{arith}
 use borrow.Author.Tests.{lt-ltb, le-ltb}
-use lib.ListN.{length, take, drop, set, length-append, length-take, length-drop, getD}
+use lib.ListN.{length, take, drop, length-append}
 use lib.Dec.{ltb}
 use lib.Seq.{take-all, take-at, drop-at, take-paste, drop-paste, drop-drop, paste, length-paste}
-use Rattle.rules.specs.Bytes.{choose, byte, part, field}
-use Rattle.rules.specs.State.{Record, Kind, kind, subclass, interruptionWord, single, listing}
+use Rattle.rules.specs.Bytes.{choose, part, field}
+use Rattle.rules.specs.State.{Record, Kind, kind, subclass, interruptionWord}
 use Rattle.rules.specs.Requests.{recordsIn}
 use Rattle.rules.specs.Listing.{ascii, digit, digits, digitCount, decimal, hex8, line, name, ofIo, recordLine, linesFrom}
-use Rattle.rules.specs.Invariant.{All}
-use Rattle.rules.proofs.Lists.{all-append}
+use Rattle.rules.specs.Invariant.{All, Whole}
 use Rattle.numbers.proofs.Laws.{field-part}
-use Rattle.store_queues.specs.Slots.{slot}
-use Rattle.store_queues.specs.Queues.{queues, Held}
-use Rattle.store_queues.proofs.Laws.{all-queued}
-use Rattle.store_singles.specs.Singles.{ifThere, serviceOf, mchkOf}
-use Rattle.store.specs.Memory.{pendingOf}
 use Rattle.record_add.specs.declared.Kind.{Kind as Case}
 use Rattle.record_add.specs.Cases.{asCase}
 use Rattle.record_add.proofs.Laws.{kind-known, kindFor}
-use Rattle.record_take.proofs.Laws.{listing-is}
 use Rattle.listing_text.specs.Wrote.{Wrote}
 
 -- the buffer is as long as it was
@@ -126,54 +119,8 @@ pub lines-next : (i : ℕ) (b : List ℕ) → linesFrom 0 (recordsIn i b) ++ rec
 lines-next i b = rw add-one (rw zero-add at (lines-more 0 i b))
 
 -- ---- the listing as bytes, and back
-abbrev Whole : Record → Type 0
-Whole r = length r ≡ 72
-
-records-listed : (rs : List Record) (d : List ℕ) (n : ℕ) → n ≡ length rs → All Whole rs → recordsIn n (flatten rs ++ d) ≡ rs
+pub records-listed : (rs : List Record) (d : List ℕ) (n : ℕ) → n ≡ length rs → All Whole rs → recordsIn n (flatten rs ++ d) ≡ rs
 unfolding flatten recordsIn
 records-listed [] d n e h = rw e
 records-listed (r ∷ rs) d n e h =
     rw (e, append-assoc r (flatten rs) d, take-at r (flatten rs ++ d) 72 (h .0), drop-at r (flatten rs ++ d) 72 (h .0), records-listed rs d (length rs) refl (h .1))
-
--- no record is longer, and together they are as long as they can be
-abbrev Short : Record → Type 0
-Short r = length r ≤ 72
-
-short-flatten : (rs : List Record) → All Short rs → length (flatten rs) ≤ 72 * length rs
-unfolding flatten
-short-flatten [] h = omega arith
-short-flatten (r ∷ rs) h = omega (arith, length-append r (flatten rs), short-flatten rs (h .1), h .0)
-
-short-whole : (rs : List Record) → All Short rs → length (flatten rs) ≡ 72 * length rs → All Whole rs
-unfolding flatten
-short-whole [] h e = tt
-short-whole (r ∷ rs) h e =
-    let n = length-append r (flatten rs) in
-    let m = short-flatten rs (h .1) in
-    (omega (arith, h .0), short-whole rs (h .1) (omega (arith, h .0)))
-
-short-take : (l : List ℕ) → Short (take 72 l)
-short-take l = omega (arith, length-take 72 l)
-
-short-single : (n : ℕ) (l : List ℕ) → All Short (single (ifThere n (take 72 l)))
-unfolding ifThere
-short-single zero l = tt
-short-single (suc n) l = (short-take l, tt)
-
-short-listing : (o c b g : List ℕ) → Held o c → All Short (listing (pendingOf o c b g))
-unfolding serviceOf mchkOf slot
-short-listing o c b g h =
-    rw (listing-is o c b g h)
-    (all-append Short (flatten (queues o c b) ++ single (serviceOf g)) (single (mchkOf g))
-    (all-append Short (flatten (queues o c b)) (single (serviceOf g)) (all-queued Short b o c (λ k. short-take (drop (getD o k 0 * 72) b))) (short-single (byte 144 g) (drop 0 g)))
-    (short-single (byte 145 g) (drop 72 g)))
-
--- the records that list_all has written
-pub listing-back : (o c b g d e : List ℕ) (n : ℕ) → Held o c → length e ≡ length d → 72 * n ≤ length d
-    → let rs = listing (pendingOf o c b g) in
-    n ≡ length rs → e ≡ flatten rs ++ drop (72 * length rs) d → recordsIn n e ≡ rs
-listing-back o c b g d e n h l f en w =
-    let rs = listing (pendingOf o c b g) in
-    let m : length (flatten rs) ≡ 72 * length rs =
-    omega (arith, ap length w, length-append (flatten rs) (drop (72 * length rs) d), length-drop (72 * length rs) d) in
-    rw w (records-listed rs _ n en (short-whole rs (short-listing o c b g h) m))

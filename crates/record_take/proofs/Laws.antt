@@ -18,13 +18,15 @@ use Rattle.rules.specs.Outcome.{refuse, accept}
 use Rattle.rules.specs.Requests.{isZero, withoutFirst, request, clearIoIrq, clearsIo, removes, clears, getsAll}
 use Rattle.rules.specs.Take.{firstAllowed, orElse, handMchk, handService, handDone, handIo, handed, handsOut, takes}
 use Rattle.rules.proofs.Checks.{passes, fails}
-use Rattle.rules.proofs.Lists.{flatten-append}
+use Rattle.rules.specs.Invariant.{All, Whole}
+use Rattle.rules.proofs.Lists.{all-append, flatten-append}
 use Rattle.answers.specs.Answers.{Answers, answered}
 use Rattle.answers.proofs.Laws.{same-state, accepted}
 use Rattle.answers.specs.declared.Answer.{Answer}
-use Rattle.store_queues.specs.Slots.{removeAt}
+use Rattle.store_queues.specs.Slots.{slotCount, removeAt}
+use Rattle.store_queues.proofs.Slots.{length-slot}
 use Rattle.store_queues.specs.Queues.{total, waiting, queues, withoutAt, Held}
-use Rattle.store_queues.proofs.Laws.{length-queues, length-queue, flatten-queues, length-flatten-queues}
+use Rattle.store_queues.proofs.Laws.{length-queues, length-queue, flatten-queues, length-flatten-queues, all-queued}
 use Rattle.store_queues.proofs.Counts.{waiting-bit}
 use Rattle.store_singles.specs.Singles.{ifThere, serviceOf, mchkOf}
 use Rattle.store_singles.proofs.Laws.{absent-if, there-if}
@@ -77,6 +79,19 @@ pub count-is : (o c b g : List ℕ) (q x y : ℕ) (t u : Bool) → Held o c → 
 unfolding serviceOf mchkOf
 count-is o c b g q x y t u h eq et eu ex ey =
     rw (eq, ex, ey, one-there (byte 144 g) (part 0 72 g) t et, one-there (byte 145 g) (part 72 72 g) u eu) (sym (length-listing o c b g h))
+
+-- every record of the listing is whole
+one-whole : (n at : ℕ) (g : List ℕ) → at + 72 ≤ length g → All Whole (single (ifThere n (part at 72 g)))
+unfolding ifThere
+one-whole zero at g h = tt
+one-whole (suc n) at g h = (simp (length-take, length-drop) (omega arith), tt)
+
+pub whole-listing : (o c b g : List ℕ) → Held o c → ((k : ℕ) → getD o k 0 < slotCount) → slotCount * 72 ≤ length b → length g ≡ 146
+    → All Whole (listing (pendingOf o c b g))
+unfolding serviceOf mchkOf
+whole-listing o c b g h f m q =
+    let both = all-append Whole (flatten (queues o c b)) (single (serviceOf g)) (all-queued Whole b o c (λ k. length-slot 72 slotCount b (getD o k 0) (f k) m)) (one-whole (byte 144 g) 0 g (omega arith)) in
+    rw (listing-is o c b g h) (all-append Whole (flatten (queues o c b) ++ single (serviceOf g)) (single (mchkOf g)) both (one-whole (byte 145 g) 72 g (omega arith)))
 
 -- ---- what stands in out: the records l, and out's own bytes from n on
 pub record Wrote (out d : List ℕ) (l : List Record) (n : ℕ) : Type 0 where

@@ -7,7 +7,8 @@ ghost use Rattle.rules.specs.Bytes.{choose};
 ghost use Rattle.rules.specs.State.{Limits, State, withPending, listing};
 ghost use Rattle.rules.specs.Requests.{clearIrqs, getAllIrqs, clearIoIrq, request};
 ghost use Rattle.rules.specs.Take.{takes};
-ghost use Rattle.store_queues.specs.Slots.{mostPending};
+ghost use Rattle.rules.specs.Invariant.{All, Whole};
+ghost use Rattle.store_queues.specs.Slots.{slotCount, mostPending};
 ghost use Rattle.store_queues.specs.Queues.{queues, Counted, Held};
 ghost use Rattle.answers.specs.Answers.{Answers, answered};
 ghost use Rattle.store.specs.Memory.{pendingOf};
@@ -39,6 +40,22 @@ pub fn pending(counts: &[usize; COUNTS], singles: &[u8; SINGLES_BYTES]) -> usize
     store_queues::queued(counts)
         + one_if(store_singles::has_service(singles))
         + one_if(store_singles::has_mchk(singles))
+}
+
+// How many records are pending, every one of 72 bytes. The slots and their order come as slices: of a slice it is known
+// that each byte is below 256, so that it names a slot.
+pub fn pending_whole(
+    slots: &[u8],
+    order: &[u8],
+    counts: &[usize; COUNTS],
+    singles: &[u8; SINGLES_BYTES],
+) -> usize
+    requires { ⌜ Held (now order) (now counts) × (length (now slots) ≡ slotCount * 72) ⌝ }
+    ensures { λ r. ⌜ (r ≡ length (listing (before order counts slots singles))) × All Whole (listing (before order counts slots singles)) × (r ≤ mostPending) ⌝ }
+{
+    // as a slice: what makes one of an array says its length
+    let _g: &[u8] = singles;
+    pending(counts, singles)
 }
 
 // Group 3: nothing is pending any more.

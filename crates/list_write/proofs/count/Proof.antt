@@ -22,7 +22,7 @@ loop-again c =
     let a = c .before .before .before .before .before .args in
     let l = c .before .before .before .before .loop in
     let t : c .before .is-written .result ≡ isWritten (a .modify) (unpacked (getD (a .t1) (l .i) 0)) = rw (c .before .before .unpack .ensures) at (c .before .is-written .ensures) in
-    (omega arith, omega arith, omega (arith, l .inv .2, c .flag-of .ensures .0, count-turn (a .modify) (l .i) (a .t1) (search needs) (c .before .is-written .result) t [] [] 0))
+    (omega arith, omega arith, omega (arith, l .inv .2, c .flag-of .ensures .0, count-turn (a .modify) (l .i) (a .t1) (search needs) (c .before .is-written .result) t))
 
 returns : tie.Need-returns Inv-loop μ-loop
 returns c =

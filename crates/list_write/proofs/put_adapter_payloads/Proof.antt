@@ -29,7 +29,7 @@ room : (c : tie.After-is-written Inv-loop μ-loop) → let l = c .before .before
     l .a + sizeOf m * oneIf (c .is-written .result) + sizeOf m * length (eachFrom m (l .i + 1) (c .before .before .before .before .before .args .t3)) ≤ length (l .out)
 room c =
     let l = c .before .before .before .loop in
-    room-turn (c .before .before .before .before .before .args .modify) (l .i) (c .before .before .before .before .before .args .t3) (search needs) (c .is-written .result) (on-is c) (l .out) (l .out) (l .a) _ _ (l .inv .2)
+    room-turn (c .before .before .before .before .before .args .modify) (l .i) (c .before .before .before .before .before .args .t3) (search needs) _ (on-is c) (l .a) _ _ (l .inv .2)
 
 put-payload-requires : tie.Need-put-payload-requires Inv-loop μ-loop
 put-payload-requires c κs = (rw (c .before .before .unpack .ensures) (unpacked-isc (getD (c .before .before .before .before .before .before .args .t3) (c .before .before .before .before .loop .i) 0)), omega (arith, room (c .before)))

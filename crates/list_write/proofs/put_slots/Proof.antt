@@ -28,7 +28,7 @@ room : (c : tie.After-is-written Inv-loop μ-loop) → let l = c .before .before
     l .a + 24 * oneIf (c .is-written .result) + 24 * length (eachFrom (c .before .before .before .before .before .before .before .args .modify) (l .i + 1) (c .before .before .before .before .before .before .before .args .t4)) ≤ length (l .out)
 room c =
     let l = c .before .before .before .loop in
-    room-turn (c .before .before .before .before .before .before .before .args .modify) (l .i) (c .before .before .before .before .before .before .before .args .t4) (search needs) (c .is-written .result) (on-is c) (l .out) (l .out) (l .a) 24 _ (l .inv .3)
+    room-turn (c .before .before .before .before .before .before .before .args .modify) (l .i) (c .before .before .before .before .before .before .before .args .t4) (search needs) _ (on-is c) (l .a) 24 _ (l .inv .3)
 
 loop-again : tie.Need-loop-again Inv-loop μ-loop
 loop-again c =

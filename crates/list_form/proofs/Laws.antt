@@ -1,14 +1,7 @@
 -- Laws of a list's table: one entry more, where it stops, and that every payload lies within the list.
-use Prim.Native.Nat.{ℕ, zero, suc, _+_, _-_, _*_, _≤_, _<_}
-use mathlib.Core.Path.{_≡_, refl}
-use mathlib.Core.Bool.{Bool, true, false, _&&_}
-use mathlib.Core.List.{List, [], _∷_}
-use native.Mathlib.Nat.{not-suc-le-zero, le-of-suc-le-suc}
-use native.Mathlib.Omega.{arith}
-use lib.ListN.{length, drop}
-use lib.Seq.{drop-drop}
-use lib.Dec.{leb, eqb}
-use borrow.Author.Tests.{eqb-true, leb-true}
+use Rattle.numbers.proofs.Basics.{_≡_, refl, Bool, true, false, _&&_, List, [], _∷_, ℕ, zero, suc, _+_, _-_, _*_, _≤_}
+use Rattle.numbers.proofs.Basics.{_<_, not-suc-le-zero, le-of-suc-le-suc, arith, length, drop, drop-drop, leb, eqb}
+use Rattle.numbers.proofs.Basics.{eqb-true, leb-true}
 use Rattle.rules.specs.Bytes.{field}
 use Rattle.rules.specs.Requests.{isZero}
 use Rattle.rules.specs.State.{Limits, State, fresh}

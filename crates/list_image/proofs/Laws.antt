@@ -1,10 +1,7 @@
 -- Reading and writing one byte of an image is reading and writing one of its places.
-use Prim.Native.Nat.{ℕ, zero, suc, _≤_, _<_}
-use mathlib.Core.Path.{_≡_, refl, sym, _∙_}
-use mathlib.Core.List.{List, [], _∷_, map}
-use native.Mathlib.Omega.{arith}
-use lib.ListN.{getD, set, take, replicate, length-take, List·getD-map, List·getD-eq-default}
-use lib.Seq.{set-out, take-set-lt, getD-take}
+use Rattle.numbers.proofs.Basics.{_≡_, refl, sym, _∙_, List, [], _∷_, map, ℕ, zero, suc, _≤_, _<_, arith, getD, set}
+use Rattle.numbers.proofs.Basics.{take, replicate, length-take, List·getD-map, List·getD-eq-default, set-out}
+use Rattle.numbers.proofs.Basics.{take-set-lt, getD-take}
 use Rattle.rules.specs.Bytes.{choose}
 use Rattle.rules.specs.State as rules
 use Rattle.rules.specs.Invariant.{All}

@@ -1,13 +1,9 @@
 -- Laws of bytes put one after another into a buffer, and of the entries of an image's adapters.
-use Prim.Native.Nat.{ℕ, suc, _+_, _*_, _/_, _%_, _^_, _≤_, _<_}
-use mathlib.Core.Path.{_≡_, refl, sym, ap, _∙_}
-use mathlib.Core.Bool.{Bool, true, false}
-use mathlib.Core.List.{List, [], _∷_, _++_, append-assoc, append-nil}
-use native.Mathlib.Nat.{add-zero, add-assoc, mul-add}
-use native.Mathlib.Numerals.{add-one}
-use native.Mathlib.Omega.{arith}
-use lib.ListN.{length, getD, take, drop, length-append, length-map, take-append-drop, drop-of-length-le, List·getD-map}
-use lib.Seq.{take-at, take-all, drop-at, drop-cons, drop-drop, length-take-le, paste}
+use Rattle.numbers.proofs.Basics.{_≡_, refl, sym, ap, _∙_, Bool, true, false, List, [], _∷_, _++_, append-assoc}
+use Rattle.numbers.proofs.Basics.{append-nil, ℕ, suc, _+_, _*_, _/_, _%_, _^_, _≤_, _<_, add-zero, add-assoc, mul-add}
+use Rattle.numbers.proofs.Basics.{add-one, arith, length, getD, take, drop, length-append, length-map}
+use Rattle.numbers.proofs.Basics.{take-append-drop, drop-of-length-le, List·getD-map, take-at, take-all, drop-at}
+use Rattle.numbers.proofs.Basics.{drop-cons, drop-drop, length-take-le, paste}
 use Rattle.rules.specs.Bytes.{choose, bytes}
 use Rattle.rules.specs.State as rules
 use Rattle.rules.specs.MoveList.{ListRequest, oneIf, byRisingId, registerRequest, modifyRequest, payloads, writtenTable}

@@ -1,14 +1,8 @@
 -- Laws of a list's parts put one after another, and of what is counted of them.
-use Prim.Native.Nat.{ℕ, zero, suc, _+_, _-_, _*_, _/_, _%_, _^_, _≤_, _<_}
-use mathlib.Core.Path.{_≡_, refl, sym, ap, _∙_}
-use mathlib.Core.Bool.{Bool, true, false, _&&_, _||_}
-use mathlib.Core.List.{List, [], _∷_, _++_, flatten, append-assoc, append-nil}
-use native.Mathlib.Nat.{zero-add}
-use native.Mathlib.Omega.{arith}
-use lib.ListN.{length, take, drop, length-append, length-drop, drop-of-length-le}
-use lib.Seq.{take-all, drop-drop}
-use lib.Dec.{ltb}
-use borrow.Author.Tests.{lt-ltb, le-leb, lt-leb}
+use Rattle.numbers.proofs.Basics.{_≡_, refl, sym, ap, _∙_, Bool, true, false, _&&_, _||_, List, [], _∷_, _++_}
+use Rattle.numbers.proofs.Basics.{flatten, append-assoc, append-nil, ℕ, zero, _+_, _-_, _*_, _/_, _%_, _^_, _≤_, _<_}
+use Rattle.numbers.proofs.Basics.{zero-add, arith, length, take, drop, length-append, length-drop, drop-of-length-le}
+use Rattle.numbers.proofs.Basics.{take-all, drop-drop, ltb, lt-ltb, le-leb, lt-leb}
 use Rattle.rules.specs.Bytes.{choose, bytes}
 use Rattle.rules.specs.State.{Limits, State, Pending, Record, listing}
 use Rattle.rules.specs.Outcome.{result}

@@ -1,15 +1,9 @@
 -- Laws of text that is written piece by piece, and of digits.
-use mathlib.Core.Path.{_≡_, refl, sym, ap, _∙_}
-use mathlib.Core.Bool.{Bool, true, false}
-use mathlib.Core.List.{List, [], _∷_, _++_, flatten, append-assoc, append-nil}
-use Prim.Native.Nat.{ℕ, zero, suc, _+_, _-_, _*_, _/_, _%_, _^_, _≤_, _<_}
-use native.Mathlib.Nat.{zero-add, add-zero, add-assoc, pow-suc, div-div-eq-div-mul, div-lt-iff-lt-mul}
-use native.Mathlib.Numerals.{add-one}
-use native.Mathlib.Omega.{arith}
-use borrow.Author.Tests.{lt-ltb, le-ltb}
-use lib.ListN.{length, take, drop, length-append}
-use lib.Dec.{ltb}
-use lib.Seq.{take-all, take-at, drop-at, take-paste, drop-paste, drop-drop, paste, length-paste}
+use Rattle.numbers.proofs.Basics.{_≡_, refl, sym, ap, _∙_, Bool, true, false, List, [], _∷_, _++_, flatten}
+use Rattle.numbers.proofs.Basics.{append-assoc, append-nil, ℕ, zero, suc, _+_, _-_, _*_, _/_, _^_, _≤_, _<_, zero-add}
+use Rattle.numbers.proofs.Basics.{add-zero, add-assoc, pow-suc, div-lt-iff-lt-mul, add-one, arith, length, take, drop}
+use Rattle.numbers.proofs.Basics.{length-append, take-all, take-at, drop-at, take-paste, drop-paste, drop-drop, paste}
+use Rattle.numbers.proofs.Basics.{length-paste, ltb, lt-ltb, le-ltb}
 use Rattle.rules.specs.Bytes.{choose, part, field}
 use Rattle.rules.specs.State.{Record, Kind, kind, subclass, interruptionWord}
 use Rattle.rules.specs.Requests.{recordsIn}

@@ -1,18 +1,10 @@
 -- Laws of the records in given bytes, of the lent memory that they join, and of their check.
-use mathlib.Core.Path.{_≡_, refl, sym, ap, _∙_}
-use mathlib.Core.Bool.{Bool, true, false, _&&_}
-use mathlib.Core.Logic.{_⊎_, ⊎-elim}
-use mathlib.Core.Option.{some}
-use mathlib.Core.List.{List, [], _∷_, _++_, flatten, append-nil}
-use Prim.Native.Nat.{ℕ, zero, suc, _+_, _-_, _*_, _/_, _%_, _^_, _≤_, _<_}
-use native.Mathlib.Nat.{add-zero}
-use native.Mathlib.Numerals.{add-one}
-use native.Mathlib.Omega.{arith}
-use lib.ListN.{length, take, drop, getD, set, replicate, length-append}
-use lib.Seq.{take-all, take-suc, take-take, drop-drop, take-set-lt, take-set-le, getD-set-same, getD-set-other, getD-take}
-use lib.Dec.{leb}
+use Rattle.numbers.proofs.Basics.{_≡_, refl, sym, ap, _∙_, Bool, true, false, _&&_, _⊎_, ⊎-elim, some, List, [], _∷_}
+use Rattle.numbers.proofs.Basics.{_++_, flatten, ℕ, zero, suc, _+_, _-_, _*_, _/_, _%_, _^_, _≤_, _<_, add-zero}
+use Rattle.numbers.proofs.Basics.{add-one, arith, length, take, drop, getD, set, replicate, length-append, drop-drop}
+use Rattle.numbers.proofs.Basics.{take-set-lt, take-set-le, getD-set-same, getD-set-other, getD-take, leb, eq-eqb}
+use Rattle.numbers.proofs.Basics.{ne-eqb, le-leb, lt-leb, leb-true, leb-false}
 use denote.Enum.Declared.{tagOf}
-use borrow.Author.Tests.{eq-eqb, ne-eqb, le-leb, lt-leb, leb-true, leb-false}
 use Rattle.rules.specs.Bytes.{choose, number, bytes, part, field}
 use Rattle.rules.specs.State as rules
 use Rattle.rules.specs.State.{Limits, State, Record, Pending, withPending, kind, subclass, addIo, addAs, add, addAll, firstOr, mergedOr, queued}

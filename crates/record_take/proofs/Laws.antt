@@ -1,17 +1,10 @@
 -- Laws of the pending records in lent memory: the listing, what a removal leaves, and the four cases of the take.
-use mathlib.Core.Path.{_≡_, refl, sym, ap, _∙_}
-use mathlib.Core.Bool.{Bool, true, false, not, _&&_, true≢false}
-use mathlib.Core.Logic.{_⊎_, inl, inr}
-use mathlib.Core.Option.{Option, none, some}
-use mathlib.Core.List.{List, [], _∷_, _++_, flatten, append-assoc, append-nil}
-use Prim.Native.Nat.{ℕ, zero, suc, _+_, _*_, _/_, _%_, _≤_, _<_}
-use native.Mathlib.Nat.{not-suc-le-zero}
-use native.Mathlib.Omega.{arith}
-use borrow.Author.Tests.{le-leb, lt-leb, ne-eqb}
-use lib.ListN.{length, take, drop, getD, length-append, length-take, length-drop}
-use lib.Bits.{bitAnd}
-use lib.Dec.{eqb}
-use lib.Seq.{take-all, take-suc, take-at, drop-at, drop-drop, take-set-le, take-set-lt, getD-take, getD-set-same, getD-set-other, paste, length-paste}
+use Rattle.numbers.proofs.Basics.{_≡_, refl, sym, ap, _∙_, Bool, true, false, not, _&&_, true≢false, _⊎_, inl, inr}
+use Rattle.numbers.proofs.Basics.{Option, none, some, List, [], _∷_, _++_, flatten, append-assoc, append-nil, ℕ, zero}
+use Rattle.numbers.proofs.Basics.{suc, _+_, _*_, _/_, _%_, _≤_, _<_, not-suc-le-zero, arith, length, take, drop, getD}
+use Rattle.numbers.proofs.Basics.{length-append, length-take, length-drop, take-all, take-at, drop-at, drop-drop}
+use Rattle.numbers.proofs.Basics.{take-set-le, take-set-lt, getD-take, getD-set-same, getD-set-other, paste}
+use Rattle.numbers.proofs.Basics.{length-paste, eqb, bitAnd, le-leb, lt-leb, ne-eqb}
 use Rattle.rules.specs.Bytes.{choose, byte, part, field}
 use Rattle.rules.specs.State.{Limits, State, Record, Pending, nothing, withPending, single, listing}
 use Rattle.rules.specs.Outcome.{refuse, accept}

@@ -1,14 +1,9 @@
 -- Laws of the counts: their sum, the mask of the queues that have records, and one count that changes.
-use mathlib.Core.Path.{_≡_, refl, sym, ap, _∙_}
-use mathlib.Core.Bool.{true}
-use mathlib.Core.List.{List, [], _∷_}
-use Prim.Native.Nat.{ℕ, zero, suc, _+_, _-_, _*_, _/_, _%_, _^_, _≤_, _<_}
-use native.Mathlib.Nat.{not-suc-le-zero, le-of-suc-le-suc, div-div-eq-div-mul, pow-suc, mul-comm}
-use native.Mathlib.Numerals.{add-one}
-use native.Mathlib.Omega.{arith}
-use lib.ListN.{length, take, drop, getD, set, replicate, length-set}
-use lib.Seq.{take-set-lt, take-set-le, length-take-le, getD-take, getD-drop, getD-set-same, getD-set-other, drop-drop}
-use borrow.Author.Tests.{eq-eqb}
+use Rattle.numbers.proofs.Basics.{_≡_, refl, sym, ap, _∙_, true, List, [], _∷_, ℕ, zero, suc, _+_, _-_, _*_, _/_, _%_}
+use Rattle.numbers.proofs.Basics.{_^_, _≤_, _<_, not-suc-le-zero, le-of-suc-le-suc, div-div-eq-div-mul, pow-suc}
+use Rattle.numbers.proofs.Basics.{mul-comm, add-one, arith, length, take, drop, getD, set, replicate, length-set}
+use Rattle.numbers.proofs.Basics.{take-set-lt, take-set-le, length-take-le, getD-take, getD-drop, getD-set-same}
+use Rattle.numbers.proofs.Basics.{getD-set-other, drop-drop, eq-eqb}
 use Rattle.rules.specs.State.{hasBit, bit}
 use Rattle.numbers.proofs.Laws.{each-subclass}
 use Rattle.store_queues.specs.Slots.{slotCount}

@@ -1,15 +1,10 @@
 -- Laws of the queues: what the order and the counts say of them, and what a record more and a record less leave.
-use mathlib.Core.Path.{_≡_, refl, sym, ap, _∙_, subst}
-use mathlib.Core.Bool.{Bool, true, false}
-use mathlib.Core.List.{List, [], _∷_, _++_, flatten, map, map-append, append-assoc, append-nil}
-use Prim.Native.Nat.{ℕ, zero, suc, _+_, _-_, _*_, _/_, _^_, _≤_, _<_}
-use native.Mathlib.Nat.{not-suc-le-zero, le-of-suc-le-suc}
-use native.Mathlib.Numerals.{add-one}
-use native.Mathlib.Omega.{arith}
-use lib.Dec.{eqb}
-use lib.ListN.{length, take, drop, getD, set, replicate, length-append, length-drop, length-map, length-set}
-use lib.Seq.{getD-take, getD-drop, take-all, take-suc, paste, length-paste, take-paste}
-use borrow.Author.Tests.{eqb-true, ne-eqb}
+use Rattle.numbers.proofs.Basics.{_≡_, refl, sym, ap, _∙_, subst, Bool, true, false, List, [], _∷_, _++_, flatten}
+use Rattle.numbers.proofs.Basics.{map, map-append, append-assoc, append-nil, ℕ, zero, suc, _+_, _-_, _*_, _/_, _^_}
+use Rattle.numbers.proofs.Basics.{_≤_, _<_, not-suc-le-zero, le-of-suc-le-suc, add-one, arith, length, take, drop}
+use Rattle.numbers.proofs.Basics.{getD, set, replicate, length-append, length-drop, length-map, length-set, getD-take}
+use Rattle.numbers.proofs.Basics.{getD-drop, take-all, take-suc, paste, length-paste, take-paste, eqb, eqb-true}
+use Rattle.numbers.proofs.Basics.{ne-eqb}
 use Rattle.rules.specs.Bytes.{choose}
 use Rattle.rules.specs.State.{Record}
 use Rattle.rules.specs.Invariant.{All}

@@ -1,13 +1,9 @@
 -- Laws of rows of slot numbers: an entry that is stored, entries that move down, and the rows together.
-use mathlib.Core.Path.{_≡_, refl, sym, ap, ap₂, _∙_}
-use mathlib.Core.List.{List, [], _∷_, _++_, append-assoc}
-use Prim.Native.Nat.{ℕ, zero, suc, _+_, _-_, _*_, _≤_, _<_}
-use native.Mathlib.Nat.{not-suc-le-zero, le-of-suc-le-suc}
-use native.Mathlib.Numerals.{add-one}
-use native.Mathlib.Decide.{decLt}
-use native.Mathlib.Omega.{arith}
-use lib.ListN.{length, take, drop, getD, set, length-drop}
-use lib.Seq.{length-take-le, take-suc, take-suc-set, take-set-le, drop-set-lt, drop-set-add, drop-append-le, drop-drop, take-take, take-paste, getD-take, getD-drop, paste}
+use Rattle.numbers.proofs.Basics.{_≡_, refl, sym, ap, ap₂, _∙_, List, [], _∷_, _++_, append-assoc, ℕ, zero, suc, _+_}
+use Rattle.numbers.proofs.Basics.{_-_, _*_, _≤_, _<_, not-suc-le-zero, le-of-suc-le-suc, add-one, decLt, arith}
+use Rattle.numbers.proofs.Basics.{length, take, drop, getD, set, length-drop, length-take-le, take-suc, take-suc-set}
+use Rattle.numbers.proofs.Basics.{take-set-le, drop-set-lt, drop-set-add, drop-append-le, drop-drop, take-take}
+use Rattle.numbers.proofs.Basics.{take-paste, getD-take, getD-drop, paste}
 use Rattle.numbers.proofs.Laws.{drop-take, drop-past, part-before}
 use Rattle.store_queues.specs.Slots.{slotCount, removeAt}
 use Rattle.store_queues.specs.Queues.{row, rows}

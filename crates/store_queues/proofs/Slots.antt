@@ -1,16 +1,9 @@
 -- Laws of slots and of lists of slot numbers.
-use mathlib.Core.Path.{_≡_, refl, sym, ap, _∙_}
-use mathlib.Core.Bool.{Bool, true, false}
-use mathlib.Core.List.{List, [], _∷_, _++_, map, map-append, flatten}
-use Prim.Native.Nat.{ℕ, zero, suc, _+_, _-_, _*_, _≤_, _<_}
-use native.Mathlib.Nat.{zero-add, suc-add, not-suc-le-zero, le-of-suc-le-suc, suc-mul, mul-le-mul-right}
-use native.Mathlib.Numerals.{add-one}
-use native.Mathlib.Decide.{decLt}
-use native.Mathlib.Omega.{arith}
-use lib.Dec.{eqb}
-use lib.ListN.{length, take, drop, getD, set, length-drop}
-use lib.Seq.{split-at, getD-drop, length-take-le, paste}
-use borrow.Author.Tests.{eqb-false, eq-eqb}
+use Rattle.numbers.proofs.Basics.{_≡_, refl, sym, ap, _∙_, Bool, true, false, List, [], _∷_, _++_, map, map-append}
+use Rattle.numbers.proofs.Basics.{flatten, ℕ, zero, suc, _+_, _-_, _*_, _≤_, _<_, zero-add, suc-add, not-suc-le-zero}
+use Rattle.numbers.proofs.Basics.{le-of-suc-le-suc, suc-mul, mul-le-mul-right, add-one, decLt, arith, length, take}
+use Rattle.numbers.proofs.Basics.{drop, getD, set, length-drop, split-at, getD-drop, length-take-le, paste, eqb}
+use Rattle.numbers.proofs.Basics.{eqb-false, eq-eqb}
 use Rattle.rules.specs.Bytes.{choose}
 use Rattle.numbers.proofs.Laws.{map-take, map-drop, paste-more, drop-past, getD-past, part-same, part-before}
 use Rattle.store_queues.specs.Slots.{removeAt, slot, occurs}

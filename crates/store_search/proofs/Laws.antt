@@ -1,16 +1,8 @@
 -- Laws of the search over queues, and of what the rules do at the place that it finds.
-use mathlib.Core.Path.{_≡_, refl, sym, ap, _∙_}
-use mathlib.Core.Bool.{Bool, true, false, _&&_}
-use mathlib.Core.Option.{none, some}
-use mathlib.Core.List.{List, [], _∷_}
-use Prim.Native.Nat.{ℕ, zero, suc, _+_, _-_, _*_, _/_, _%_, _^_, _≤_, _<_, min}
-use native.Mathlib.Numerals.{add-one}
-use native.Mathlib.Omega.{arith}
-use borrow.Author.Tests.{eqb-true, eqb-false, eq-eqb, ne-eqb}
-use lib.Bits.{bitAnd, and-step}
-use lib.Dec.{eqb}
-use lib.ListN.{length, take, drop, getD, length-take, drop-of-length-le}
-use lib.Seq.{drop-cons, getD-take}
+use Rattle.numbers.proofs.Basics.{_≡_, refl, sym, ap, _∙_, Bool, true, false, _&&_, none, some, List, [], _∷_, ℕ}
+use Rattle.numbers.proofs.Basics.{zero, suc, _+_, _-_, _*_, _/_, _%_, _^_, _≤_, _<_, min, add-one, arith, length}
+use Rattle.numbers.proofs.Basics.{take, drop, getD, length-take, drop-of-length-le, drop-cons, getD-take, eqb, bitAnd}
+use Rattle.numbers.proofs.Basics.{and-step, eqb-true, eqb-false, eq-eqb, ne-eqb}
 use Rattle.rules.specs.Bytes.{choose, field}
 use Rattle.rules.specs.State.{Record, bit, hasBit}
 use Rattle.rules.specs.Requests.{consTo, without, orIn, withoutFirst}

@@ -1,16 +1,10 @@
 -- Laws of the two records in their bytes, and of the merge.
-use mathlib.Core.Path.{_≡_, refl, sym, ap, _∙_}
-use mathlib.Core.Bool.{Bool, true, false, not}
-use mathlib.Core.Option.{none, some}
-use mathlib.Core.List.{List, [], _∷_, _++_, zipWith, append-assoc}
-use Prim.Native.Nat.{ℕ, zero, suc, _+_, _-_, _≤_, _<_, min}
-use native.Mathlib.Decide.{decLt}
-use native.Mathlib.Omega.{arith}
-use borrow.Author.Tests.{eqb-true, eqb-false, not-true, not-false}
-use lib.ListN.{length, take, drop, getD, set, length-take, length-drop, drop-of-length-le}
-use lib.Dec.{eqb}
-use lib.Bits.{bitOr}
-use lib.Seq.{take-add, take-all, take-at, drop-at, take-take, take-set-le, drop-drop, getD-drop, getD-set-same, getD-set-other, set-out, length-take-le, length-paste, paste}
+use Rattle.numbers.proofs.Basics.{_≡_, refl, sym, ap, _∙_, Bool, true, false, not, none, some, List, [], _∷_, _++_}
+use Rattle.numbers.proofs.Basics.{zipWith, append-assoc, ℕ, zero, suc, _+_, _-_, _≤_, _<_, min, decLt, arith, length}
+use Rattle.numbers.proofs.Basics.{take, drop, getD, set, length-take, length-drop, drop-of-length-le, take-add}
+use Rattle.numbers.proofs.Basics.{take-all, take-at, drop-at, take-take, take-set-le, drop-drop, getD-drop}
+use Rattle.numbers.proofs.Basics.{getD-set-same, getD-set-other, set-out, length-take-le, length-paste, paste, eqb}
+use Rattle.numbers.proofs.Basics.{bitOr, eqb-true, eqb-false, not-true, not-false}
 use Rattle.rules.specs.Bytes.{byte, part}
 use Rattle.rules.specs.State.{Record, merged, mergedOr}
 use Rattle.numbers.proofs.Laws.{drop-take, paste-more, part-same, part-before, getD-past}

@@ -1,10 +1,6 @@
 -- The invariant: the check of what is left, from where the next payload begins, comes to what the check of all comes to.
-use Prim.Native.Nat.{_+_, _-_, _*_, _^_, _≤_}
-use mathlib.Core.Path.{_≡_, sym, _∙_}
-use native.Mathlib.Omega.{arith}
-use lib.ListN.{length, drop}
-use borrow.Author.Needs.{needs}
-use borrow.Author.Tests.{not-true, not-false}
+use Rattle.numbers.proofs.Basics.{_≡_, sym, _∙_, _+_, _-_, _*_, _^_, _≤_, arith, length, drop, not-true, not-false}
+use Rattle.numbers.proofs.Basics.{needs}
 use Rattle.rules.specs.MoveList.{headerBytes, payloadOffset, tableEntriesIn, formed}
 use Rattle.list_form.specs.Form.{slotAt}
 use Rattle.list_form.proofs.Laws.{inside, slotsFrom, slots-all, formed-next, formed-stops, formed-ends}

@@ -1,8 +1,5 @@
 -- `list_image::put_place` meets its contract: past the end nothing is set.
-use borrow.Author.Needs.{needs}
-use mathlib.Core.Path.{sym}
-use lib.Seq.{set-out}
-use native.Mathlib.Omega.{arith}
+use Rattle.numbers.proofs.Basics.{sym, arith, set-out, needs}
 use Rattle.list_image.proofs.put_place.Statement.{statement}
 use Rattle.list_image.proofs.put_place.Tie as tie
 

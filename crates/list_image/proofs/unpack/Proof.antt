@@ -1,6 +1,5 @@
 -- `list_image::unpack` meets its contract, by the test.
-use borrow.Author.Needs.{needs}
-use mathlib.Core.Path.{sym, _∙_}
+use Rattle.numbers.proofs.Basics.{sym, _∙_, needs}
 use Rattle.adapters.proofs.Laws.{place-is-free}
 use Rattle.list_image.proofs.Packed.{unpacked-unused, unpacked-used}
 use Rattle.list_image.proofs.unpack.Statement.{statement}

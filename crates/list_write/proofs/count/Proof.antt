@@ -1,10 +1,5 @@
 -- The invariant: those counted and those left are all.
-use Prim.Native.Nat.{_+_, _-_, _≤_}
-use mathlib.Core.Path.{_≡_}
-use native.Mathlib.Omega.{arith}
-use mathlib.Core.List.{[]}
-use lib.ListN.{length, getD}
-use borrow.Author.Needs.{needs}
+use Rattle.numbers.proofs.Basics.{_≡_, _+_, _-_, _≤_, arith, length, getD, needs}
 use Rattle.list_image.specs.Image.{imageSize, unpacked}
 use Rattle.list_write.specs.Parts.{each, isWritten}
 use Rattle.list_write.proofs.Entries.{eachFrom, each-last, count-turn}

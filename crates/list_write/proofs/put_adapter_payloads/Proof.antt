@@ -1,9 +1,5 @@
 -- The invariant: what is left, put behind what is there now, comes to what all comes to.
-use Prim.Native.Nat.{_+_, _-_, _*_, _≤_}
-use mathlib.Core.Path.{_≡_, refl, sym, _∙_}
-use native.Mathlib.Omega.{arith}
-use lib.ListN.{length, getD}
-use borrow.Author.Needs.{needs}
+use Rattle.numbers.proofs.Basics.{_≡_, refl, sym, _∙_, _+_, _-_, _*_, _≤_, arith, length, getD, needs}
 use Rattle.rules.specs.MoveList.{oneIf, payloads}
 use Rattle.list_image.specs.Image.{imageSize, unpacked}
 use Rattle.list_image.proofs.Packed.{unpacked-isc}

@@ -1,9 +1,5 @@
 -- `list_write::put_adapters` meets its contract: the table entries of MODIFY behind those of REGISTER.
-use Prim.Native.Nat.{_*_}
-use mathlib.Core.Path.{refl, sym}
-use mathlib.Core.Bool.{true, false}
-use native.Mathlib.Omega.{arith}
-use borrow.Author.Needs.{needs}
+use Rattle.numbers.proofs.Basics.{refl, sym, true, false, _*_, arith, needs}
 use Rattle.list_write.specs.Parts.{each}
 use Rattle.list_write.specs.Write.{adapterEntries}
 use Rattle.list_write.proofs.Laws.{table-next, registers-size}

@@ -1,8 +1,5 @@
 -- `list_write::put_masks` meets its contract, by its test.
-use Prim.Native.Nat.{_+_, _*_}
-use mathlib.Core.Path.{_∙_}
-use native.Mathlib.Omega.{arith}
-use borrow.Author.Needs.{needs}
+use Rattle.numbers.proofs.Basics.{_∙_, _+_, _*_, arith, needs}
 use Rattle.rules.specs.Bytes.{choose, bytes}
 use Rattle.rules.proofs.Codec.{length-bytes}
 use Rattle.list_write.proofs.Entries.{put-none, put-paste}

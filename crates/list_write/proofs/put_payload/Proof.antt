@@ -1,12 +1,6 @@
 -- `list_write::put_payload` meets its contract: nothing, a MODIFY or a REGISTER.
-use Prim.Native.Nat.{ℕ, _+_, _≤_}
-use mathlib.Core.Path.{_≡_}
-use mathlib.Core.Bool.{true}
-use native.Mathlib.Omega.{arith}
+use Rattle.numbers.proofs.Basics.{_≡_, true, _+_, _≤_, arith, length, not-true, not-false, needs}
 use denote.Ref.{now}
-use lib.ListN.{length}
-use borrow.Author.Needs.{needs}
-use borrow.Author.Tests.{not-true, not-false}
 use Rattle.rules.specs.Bytes.{choose}
 use Rattle.list_write.proofs.Entries.{put-none, payload-room, modify-put, register-put}
 use Rattle.list_write.proofs.put_payload.Statement.{statement}

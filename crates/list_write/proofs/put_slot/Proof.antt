@@ -1,6 +1,5 @@
 -- `list_write::put_slot` meets its contract, by its test.
-use native.Mathlib.Omega.{arith}
-use borrow.Author.Needs.{needs}
+use Rattle.numbers.proofs.Basics.{arith, needs}
 use Rattle.rules.specs.Bytes.{choose}
 use Rattle.list_write.proofs.Entries.{put-none}
 use Rattle.list_write.proofs.put_slot.Statement.{statement}

@@ -1,6 +1,5 @@
 -- `list_write::put_table` meets its contract: the other entries behind those of the adapters.
-use native.Mathlib.Omega.{arith}
-use borrow.Author.Needs.{needs}
+use Rattle.numbers.proofs.Basics.{arith, needs}
 use Rattle.list_write.specs.Write.{adapterEntries, otherEntries}
 use Rattle.list_write.proofs.Laws.{table-next, adapters-count, adapters-size}
 use Rattle.list_write.proofs.put_table.Statement.{statement}

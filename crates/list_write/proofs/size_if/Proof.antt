@@ -1,6 +1,5 @@
 -- `list_write::size_if` meets its contract, by its test.
-use native.Mathlib.Omega.{arith}
-use borrow.Author.Needs.{needs}
+use Rattle.numbers.proofs.Basics.{arith, needs}
 use Rattle.list_write.proofs.size_if.Statement.{statement}
 use Rattle.list_write.proofs.size_if.Tie as tie
 

@@ -1,10 +1,5 @@
 -- `list_write::write_list` meets its contract: the length is computed first, and the parts are put one behind the other.
-use Prim.Native.Nat.{ℕ, _+_, _*_}
-use mathlib.Core.Path.{_≡_, refl, sym, ap, _∙_}
-use mathlib.Core.List.{List}
-use native.Mathlib.Omega.{arith}
-use lib.ListN.{length}
-use borrow.Author.Needs.{needs}
+use Rattle.numbers.proofs.Basics.{_≡_, refl, sym, ap, _∙_, List, ℕ, _+_, _*_, arith, length, needs}
 use Rattle.rules.specs.State.{State, Record, listing}
 use Rattle.rules.specs.MoveList.{ListRequest, listRequests, total}
 use Rattle.rules.proofs.Reachable.{length-records}

@@ -1,10 +1,5 @@
 -- The first i bytes of s stand in out from index at.
-use mathlib.Core.Path.{_≡_, refl}
-use Prim.Native.Nat.{_-_, _≤_}
-use native.Mathlib.Omega.{arith}
-use lib.ListN.{length, length-set}
-use lib.Seq.{paste, paste-zero}
-use borrow.Author.Needs.{needs}
+use Rattle.numbers.proofs.Basics.{_≡_, refl, _-_, _≤_, arith, length, length-set, paste, paste-zero, needs}
 use Rattle.numbers.proofs.Laws.{paste-more}
 use Rattle.listing_text.proofs.append.Statement.{statement}
 use Rattle.listing_text.proofs.append.Tie as tie

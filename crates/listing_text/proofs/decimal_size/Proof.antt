@@ -1,8 +1,5 @@
 -- The digits left of w and those counted are those of v.
-use mathlib.Core.Path.{_≡_}
-use Prim.Native.Nat.{_+_, _≤_}
-use native.Mathlib.Omega.{arith}
-use borrow.Author.Needs.{needs}
+use Rattle.numbers.proofs.Basics.{_≡_, _+_, _≤_, arith, needs}
 use Rattle.rules.specs.Listing.{digitCount}
 use Rattle.listing_text.proofs.Text.{size-one, size-next, size-most}
 use Rattle.listing_text.proofs.decimal_size.Statement.{statement}

@@ -1,6 +1,5 @@
 -- The two ranges of digits.
-use borrow.Author.Tests.{lt-ltb, le-ltb}
-use borrow.Author.Needs.{needs}
+use Rattle.numbers.proofs.Basics.{lt-ltb, le-ltb, needs}
 use Rattle.rules.specs.Bytes.{choose}
 use Rattle.rules.specs.Listing.{digit}
 use Rattle.listing_text.proofs.letter.Statement.{statement}

@@ -1,8 +1,5 @@
 -- What comes of the list decides the text.
-use mathlib.Core.Path.{_≡_, _∙_}
-use lib.Dec.{eqb}
-use borrow.Author.Tests.{eq-eqb, ne-eqb}
-use borrow.Author.Needs.{needs}
+use Rattle.numbers.proofs.Basics.{_≡_, _∙_, eqb, eq-eqb, ne-eqb, needs}
 use Rattle.rules.specs.Bytes.{choose}
 use Rattle.rules.specs.State.{listing}
 use Rattle.rules.specs.Listing.{shown, refusal, printed}

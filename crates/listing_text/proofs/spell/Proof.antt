@@ -1,11 +1,6 @@
 -- The n - i lowest digits of v stand in out from index at + i.
-use mathlib.Core.Path.{_≡_, refl}
-use Prim.Native.Nat.{_+_, _-_, _/_, _^_, _≤_}
-use native.Mathlib.Nat.{div-one, pow-zero, mod-lt, lt-of-lt-of-le}
-use native.Mathlib.Omega.{arith}
-use lib.ListN.{length, length-set}
-use lib.Seq.{paste}
-use borrow.Author.Needs.{needs}
+use Rattle.numbers.proofs.Basics.{_≡_, refl, _+_, _-_, _/_, _^_, _≤_, div-one, pow-zero, mod-lt, lt-of-lt-of-le}
+use Rattle.numbers.proofs.Basics.{arith, length, length-set, paste, needs}
 use Rattle.rules.specs.Listing.{digit, digits}
 use Rattle.numbers.proofs.Laws.{paste-none, write-turn}
 use Rattle.listing_text.proofs.Text.{length-digits}

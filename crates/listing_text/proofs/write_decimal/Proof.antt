@@ -1,6 +1,5 @@
 -- The digits, then what comes after.
-use native.Mathlib.Omega.{arith}
-use borrow.Author.Needs.{needs}
+use Rattle.numbers.proofs.Basics.{arith, needs}
 use Rattle.rules.specs.Listing.{decimal}
 use Rattle.listing_text.proofs.Text.{wrote-then}
 use Rattle.listing_text.proofs.write_decimal.Statement.{statement}

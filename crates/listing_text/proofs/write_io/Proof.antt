@@ -1,7 +1,5 @@
 -- Kind, subclass, type and word, one after the other.
-use mathlib.Core.Path.{_≡_}
-use native.Mathlib.Omega.{arith}
-use borrow.Author.Needs.{needs}
+use Rattle.numbers.proofs.Basics.{_≡_, arith, needs}
 use Rattle.rules.specs.Listing.{ascii, digitCount}
 use Rattle.listing_text.proofs.Text.{wrote-then, io-text, size-one}
 use Rattle.listing_text.proofs.write_io.Statement.{statement}

@@ -1,6 +1,5 @@
 -- The records that list_all wrote are those of the listing.
-use native.Mathlib.Omega.{arith}
-use borrow.Author.Needs.{needs}
+use Rattle.numbers.proofs.Basics.{arith, needs}
 use Rattle.rules.specs.Listing.{ascii, shown}
 use Rattle.listing_text.proofs.Text.{wrote-then, records-listed}
 use Rattle.listing_text.proofs.write_pending.Statement.{statement}

@@ -1,9 +1,5 @@
 -- The place, then what its kind shows.
-use mathlib.Core.Path.{_≡_, refl}
-use mathlib.Core.List.{List, [], _∷_}
-use Prim.Native.Nat.{ℕ}
-use native.Mathlib.Omega.{arith}
-use borrow.Author.Needs.{needs}
+use Rattle.numbers.proofs.Basics.{_≡_, refl, List, [], _∷_, ℕ, arith, needs}
 use Rattle.rules.specs.Bytes.{part}
 use Rattle.rules.specs.Listing.{ascii, hex8, line, name, ofIo, recordLine}
 use Rattle.record_add.specs.declared.Kind.the-variants.{Done, Service, MachineCheck, Other}

@@ -1,11 +1,5 @@
 -- The lines of the first i records stand in out.
-use mathlib.Core.Path.{_≡_, refl, _∙_}
-use mathlib.Core.List.{[]}
-use Prim.Native.Nat.{_+_, _*_, _-_, _≤_}
-use native.Mathlib.Omega.{arith}
-use lib.ListN.{length}
-use lib.Seq.{paste-zero}
-use borrow.Author.Needs.{needs}
+use Rattle.numbers.proofs.Basics.{_≡_, refl, _∙_, [], _+_, _*_, _-_, _≤_, arith, length, paste-zero, needs}
 use Rattle.rules.specs.Requests.{recordsIn}
 use Rattle.rules.specs.Listing.{linesFrom}
 use Rattle.listing_text.specs.Wrote.{Wrote}

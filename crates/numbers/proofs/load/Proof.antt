@@ -1,10 +1,6 @@
 -- The copied bytes of src stand at the start of r.
-use mathlib.Core.Path.{_≡_, refl}
-use Prim.Native.Nat.{_-_, _≤_}
-use native.Mathlib.Omega.{arith}
-use borrow.Author.Needs.{needs}
-use lib.ListN.{length, drop, length-set, length-drop}
-use lib.Seq.{getD-drop, paste}
+use Rattle.numbers.proofs.Basics.{_≡_, refl, _-_, _≤_, arith, length, drop, length-set, length-drop, getD-drop}
+use Rattle.numbers.proofs.Basics.{paste, needs}
 use Rattle.numbers.proofs.Laws.{paste-more, paste-all}
 use Rattle.numbers.proofs.load.Statement.{statement}
 use Rattle.numbers.proofs.load.Tie as tie

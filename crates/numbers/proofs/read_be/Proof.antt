@@ -1,9 +1,5 @@
 -- The number that the first i bytes say, below 256 ^ i.
-use mathlib.Core.Path.{_≡_, refl}
-use Prim.Native.Nat.{_-_, _^_, _≤_, _<_}
-use native.Mathlib.Omega.{arith}
-use borrow.Author.Needs.{needs}
-use lib.ListN.{take, drop}
+use Rattle.numbers.proofs.Basics.{_≡_, refl, _-_, _^_, _≤_, _<_, arith, take, drop, needs}
 use Rattle.rules.specs.Bytes.{number}
 use Rattle.numbers.proofs.Laws.{read-turn, read-fits}
 use Rattle.numbers.proofs.read_be.Statement.{statement}

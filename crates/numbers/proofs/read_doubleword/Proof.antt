@@ -1,8 +1,5 @@
 -- The two words say what the eight bytes say.
-use Prim.Native.Nat.{_*_, _+_}
-use mathlib.Core.Path.{_∙_}
-use native.Mathlib.Omega.{arith}
-use borrow.Author.Needs.{needs}
+use Rattle.numbers.proofs.Basics.{_∙_, _*_, _+_, arith, needs}
 use Rattle.numbers.proofs.Laws.{number-words}
 use Rattle.numbers.proofs.read_doubleword.Statement.{statement}
 use Rattle.numbers.proofs.read_doubleword.Tie as tie

@@ -1,8 +1,5 @@
 -- The word is the two halves, and each of them has two bytes.
-use Prim.Native.Nat.{_+_}
-use mathlib.Core.Path.{sym, _∙_}
-use native.Mathlib.Omega.{arith}
-use borrow.Author.Needs.{needs}
+use Rattle.numbers.proofs.Basics.{sym, _∙_, _+_, arith, needs}
 use Rattle.numbers.proofs.Laws.{number-halves, pair-small}
 use Rattle.numbers.proofs.read_word.Statement.{statement}
 use Rattle.numbers.proofs.read_word.Tie as tie

@@ -1,10 +1,5 @@
 -- The first i bytes of r stand in dst from index at.
-use mathlib.Core.Path.{_≡_, refl}
-use Prim.Native.Nat.{_-_, _≤_}
-use native.Mathlib.Omega.{arith}
-use borrow.Author.Needs.{needs}
-use lib.ListN.{length, length-set}
-use lib.Seq.{paste, paste-zero}
+use Rattle.numbers.proofs.Basics.{_≡_, refl, _-_, _≤_, arith, length, length-set, paste, paste-zero, needs}
 use Rattle.numbers.proofs.Laws.{paste-more}
 use Rattle.numbers.proofs.save.Statement.{statement}
 use Rattle.numbers.proofs.save.Tie as tie

@@ -1,11 +1,6 @@
 -- The n - i lowest bytes of v stand in b from index at + i.
-use mathlib.Core.Path.{_≡_, refl}
-use Prim.Native.Nat.{_+_, _-_, _/_, _^_, _≤_}
-use native.Mathlib.Nat.{div-one}
-use native.Mathlib.Omega.{arith}
-use borrow.Author.Needs.{needs}
-use lib.ListN.{length, length-set}
-use lib.Seq.{paste}
+use Rattle.numbers.proofs.Basics.{_≡_, refl, _+_, _-_, _/_, _^_, _≤_, div-one, arith, length, length-set}
+use Rattle.numbers.proofs.Basics.{paste, needs}
 use Rattle.rules.specs.Bytes.{bytes}
 use Rattle.numbers.proofs.Laws.{paste-none, write-turn}
 use Rattle.numbers.proofs.write_be.Statement.{statement}

@@ -1,8 +1,5 @@
 -- The invariant: what is left to add, to what is held now, comes to what all come to; and there is room for it; so many are held.
-use native.Mathlib.Omega.{arith}
-use Prim.Native.Nat.{_+_, _-_, _≤_}
-use mathlib.Core.Path.{_≡_, refl, sym, _∙_}
-use borrow.Author.Needs.{needs}
+use Rattle.numbers.proofs.Basics.{_≡_, refl, sym, _∙_, _+_, _-_, _≤_, arith, needs}
 use Rattle.record_add.proofs.Laws.{add-next, add-ends, want-next, recordsFrom, records-all}
 use Rattle.rules.specs.State.{addAll}
 use Rattle.rules.specs.Requests.{recordsIn, allWant}

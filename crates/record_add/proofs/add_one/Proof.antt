@@ -1,7 +1,5 @@
 -- The record joins what its kind names.
-use mathlib.Core.Path.{_≡_, refl, ap, _∙_}
-use native.Mathlib.Omega.{arith}
-use borrow.Author.Needs.{needs}
+use Rattle.numbers.proofs.Basics.{_≡_, refl, ap, _∙_, arith, needs}
 use Rattle.rules.specs.Bytes.{part}
 use Rattle.rules.specs.State.{Record, kind, subclass}
 use Rattle.rules.specs.Requests.{wants}

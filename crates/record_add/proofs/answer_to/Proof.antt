@@ -1,8 +1,5 @@
 -- `record_add::answer_to` meets its contract, by the check and the room.
-use mathlib.Core.Path.{sym, _∙_}
-use native.Mathlib.Omega.{arith}
-use borrow.Author.Tests.{le-leb, lt-leb}
-use borrow.Author.Needs.{needs}
+use Rattle.numbers.proofs.Basics.{sym, _∙_, arith, le-leb, lt-leb, needs}
 use Rattle.rules.specs.Bytes.{choose}
 use Rattle.record_add.specs.Cases.{answerTo}
 use Rattle.record_add.proofs.Laws.{good-few}

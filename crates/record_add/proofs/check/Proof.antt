@@ -1,11 +1,6 @@
 -- The invariant: what is left to check, from a place with the number wanted so far, comes to what all comes to.
-use mathlib.Core.Logic.{⊎-elim}
-use mathlib.Core.Bool.{true}
-use native.Mathlib.Omega.{arith}
+use Rattle.numbers.proofs.Basics.{_≡_, sym, ap, _∙_, true, ⊎-elim, _+_, _*_, _-_, _≤_, arith, needs}
 use denote.Enum.Declared.{tagOf}
-use Prim.Native.Nat.{_+_, _*_, _-_, _≤_}
-use mathlib.Core.Path.{_≡_, sym, ap, _∙_}
-use borrow.Author.Needs.{needs}
 use Rattle.rules.specs.Bytes.{part}
 use Rattle.rules.specs.State.{Record, kind, subclass}
 use Rattle.rules.specs.Requests.{kindAccepted, wants, recordsIn}

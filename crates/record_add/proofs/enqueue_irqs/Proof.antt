@@ -1,11 +1,6 @@
 -- The checks of the rules, in their order; a refusal comes before anything is added.
-use Prim.Native.Nat.{ℕ, _+_, _*_, _/_, _%_, _≤_}
-use mathlib.Core.Path.{_≡_, refl, sym, ap, _∙_}
-use mathlib.Core.Logic.{⊎-elim}
-use native.Mathlib.Omega.{arith}
-use lib.ListN.{length}
-use borrow.Author.Tests.{eq-eqb, ne-eqb, le-leb, lt-leb}
-use borrow.Author.Needs.{needs}
+use Rattle.numbers.proofs.Basics.{_≡_, refl, sym, ap, _∙_, ⊎-elim, ℕ, _+_, _*_, _/_, _≤_, arith, length, eq-eqb}
+use Rattle.numbers.proofs.Basics.{ne-eqb, le-leb, lt-leb, needs}
 use Rattle.rules.specs.State.{Pending, addAll, queued}
 use Rattle.rules.specs.Requests.{enqueueBytes, recordsIn, allWant, request}
 use Rattle.rules.proofs.Checks.{fails}

@@ -1,7 +1,5 @@
 -- The type is tested against the numbers of the rules, in their order.
-use borrow.Author.Tests.{le-leb, lt-leb, eq-eqb, ne-eqb}
-use borrow.Author.Needs.{needs}
-use mathlib.Core.Path.{_≡_}
+use Rattle.numbers.proofs.Basics.{_≡_, le-leb, lt-leb, eq-eqb, ne-eqb, needs}
 use Rattle.rules.specs.Bytes.{choose, part}
 use Rattle.rules.specs.State as rules
 use Rattle.rules.specs.State.{kind}

@@ -1,8 +1,5 @@
 -- The word stands at byte 16 of the record.
-use Prim.Native.Nat.{ℕ, _/_, _%_, _^_}
-use mathlib.Core.Path.{sym, ap, _∙_}
-use native.Mathlib.Omega.{arith}
-use borrow.Author.Needs.{needs}
+use Rattle.numbers.proofs.Basics.{sym, ap, _∙_, ℕ, _/_, _%_, _^_, arith, needs}
 use Rattle.rules.specs.State.{subclass}
 use Rattle.numbers.proofs.Laws.{field-part}
 use Rattle.record_add.proofs.subclass_at.Statement.{statement}

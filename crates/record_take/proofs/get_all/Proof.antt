@@ -1,11 +1,6 @@
 -- `record_take::get_all` meets its contract. Assumes nothing.
-use borrow.Author.Needs.{needs}
-use Prim.Native.Nat.{_*_, _≤_}
-use mathlib.Core.Path.{_≡_, refl, ap, _∙_}
-use mathlib.Core.Bool.{not}
-use native.Mathlib.Omega.{arith}
-use lib.ListN.{length}
-use borrow.Author.Tests.{eq-eqb, ne-eqb, le-leb, lt-leb}
+use Rattle.numbers.proofs.Basics.{_≡_, refl, ap, _∙_, not, _*_, _≤_, arith, length, eq-eqb, ne-eqb, le-leb, lt-leb}
+use Rattle.numbers.proofs.Basics.{needs}
 use Rattle.rules.specs.State.{listing}
 use Rattle.rules.specs.Requests.{request}
 use Rattle.rules.proofs.Checks.{passes, fails}

@@ -1,12 +1,5 @@
 -- `record_take::list_all` meets its contract. Assumes nothing.
-use borrow.Author.Needs.{needs}
-use Prim.Native.Nat.{_+_, _*_, _≤_}
-use mathlib.Core.Path.{_≡_, _∙_}
-use mathlib.Core.List.{_++_, flatten}
-use mathlib.Core.Option.{some}
-use mathlib.Core.Logic.{⊎-elim}
-use native.Mathlib.Omega.{arith}
-use lib.ListN.{length}
+use Rattle.numbers.proofs.Basics.{_≡_, _∙_, ⊎-elim, some, _++_, flatten, _+_, _*_, _≤_, arith, length, needs}
 use Rattle.rules.specs.State.{Record, single}
 use Rattle.store_queues.specs.Queues.{queues, total}
 use Rattle.store_singles.specs.Singles.{serviceOf, mchkOf}

@@ -1,13 +1,6 @@
 -- A finished page fault where one is there and allowed, else what the search finds.
-use borrow.Author.Needs.{needs}
-use mathlib.Core.Path.{_≡_, refl, sym, ap, _∙_}
-use mathlib.Core.Logic.{_⊎_, inl, inr, ⊎-elim}
-use mathlib.Core.Bool.{false}
-use Prim.Native.Nat.{_<_}
-use native.Mathlib.Omega.{arith}
-use lib.Bits.{bitAnd}
-use lib.ListN.{getD}
-use borrow.Author.Tests.{ltb-true, ltb-false}
+use Rattle.numbers.proofs.Basics.{_≡_, refl, ap, false, _⊎_, inl, inr, ⊎-elim, _<_, arith, getD, bitAnd, ltb-true}
+use Rattle.numbers.proofs.Basics.{ltb-false, needs}
 use Rattle.numbers.specs.declared.Queue.{Queue}
 use Rattle.record_take.specs.declared.Next.the-variants.{At}
 use Rattle.record_take.proofs.Laws.{next-done, no-done, next-none, next-io}

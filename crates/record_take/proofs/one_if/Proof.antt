@@ -1,6 +1,5 @@
 -- `record_take::one_if` meets its contract. Assumes nothing.
-use native.Mathlib.Omega.{arith}
-use mathlib.Core.Path.{sym}
+use Rattle.numbers.proofs.Basics.{sym, arith}
 use Rattle.rules.proofs.Checks.{chosen, passed}
 use Rattle.record_take.proofs.one_if.Statement.{statement}
 use Rattle.record_take.proofs.one_if.Tie as tie

@@ -1,6 +1,5 @@
 -- Every slot and both single records have 72 bytes.
-use native.Mathlib.Omega.{arith}
-use borrow.Author.Needs.{needs}
+use Rattle.numbers.proofs.Basics.{arith, needs}
 use Rattle.record_take.proofs.Laws.{whole-listing}
 use Rattle.record_take.proofs.pending_whole.Statement.{statement}
 use Rattle.record_take.proofs.pending_whole.Tie as tie

@@ -1,11 +1,5 @@
 -- Machine check, service record, then the next of the queues; each is handed out and then removed.
-use borrow.Author.Needs.{needs}
-use Prim.Native.Nat.{_<_}
-use mathlib.Core.Path.{_≡_, refl}
-use mathlib.Core.Logic.{⊎-elim}
-use native.Mathlib.Omega.{arith}
-use lib.ListN.{length, getD}
-use borrow.Author.Tests.{lt-leb}
+use Rattle.numbers.proofs.Basics.{_≡_, refl, ⊎-elim, _<_, length, getD, lt-leb, needs}
 use Rattle.rules.specs.Take.{takes}
 use Rattle.rules.proofs.Checks.{fails, passed}
 use Rattle.store.specs.Memory.{pendingOf}

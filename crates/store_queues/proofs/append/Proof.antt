@@ -1,9 +1,5 @@
 -- The last free slot is the queue's next, and the counts follow.
-use Prim.Native.Nat.{ℕ, _+_, _^_, _<_}
-use native.Mathlib.Nat.{div-le-self}
-use native.Mathlib.Omega.{arith}
-use borrow.Author.Needs.{needs}
-use lib.ListN.{getD}
+use Rattle.numbers.proofs.Basics.{ℕ, _+_, _^_, _<_, div-le-self, arith, getD, needs}
 use Rattle.store_queues.specs.Slots.{slotCount}
 use Rattle.store_queues.proofs.Counts.{count-small, waiting-small, mask-stays, mask-set, some-zero, some-one}
 use Rattle.store_queues.proofs.Laws.{append-leaves}

@@ -1,11 +1,5 @@
 -- The records of the first i queues stand at the start of out.
-use mathlib.Core.Path.{_≡_, refl}
-use mathlib.Core.List.{[], flatten}
-use Prim.Native.Nat.{_+_, _-_, _*_, _≤_}
-use native.Mathlib.Omega.{arith}
-use borrow.Author.Needs.{needs}
-use lib.ListN.{length, take, getD}
-use lib.Seq.{paste, paste-zero}
+use Rattle.numbers.proofs.Basics.{_≡_, flatten, _+_, _-_, _*_, _≤_, arith, length, take, getD, paste, needs}
 use Rattle.store_queues.specs.Queues.{each, queues, sum}
 use Rattle.store_queues.proofs.Laws.{count-fits, queue-fits, queues-turn, list-leaves}
 use Rattle.store_queues.proofs.list.Statement.{statement}

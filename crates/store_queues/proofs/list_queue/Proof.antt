@@ -1,11 +1,6 @@
 -- The first k records stand from index at on.
-use mathlib.Core.Path.{_≡_, refl, sym, ap, _∙_}
-use mathlib.Core.List.{[], flatten}
-use Prim.Native.Nat.{_+_, _-_, _*_, _≤_}
-use native.Mathlib.Omega.{arith}
-use borrow.Author.Needs.{needs}
-use lib.ListN.{length, take, getD, length-map}
-use lib.Seq.{paste, paste-zero, take-all}
+use Rattle.numbers.proofs.Basics.{_≡_, refl, sym, ap, _∙_, [], flatten, _-_, _*_, _≤_, arith, length, take, getD}
+use Rattle.numbers.proofs.Basics.{length-map, paste, paste-zero, take-all, needs}
 use Rattle.store_queues.specs.Slots.{slotCount, slot}
 use Rattle.store_queues.specs.Queues.{row, listed}
 use Rattle.numbers.proofs.Laws.{getD-map}

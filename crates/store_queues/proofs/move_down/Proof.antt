@@ -1,10 +1,5 @@
 -- The entries from lo up to i are those from lo + 1.
-use mathlib.Core.Path.{_≡_, refl}
-use Prim.Native.Nat.{_+_, _-_, _≤_}
-use native.Mathlib.Omega.{arith}
-use borrow.Author.Needs.{needs}
-use lib.ListN.{length, drop, length-set}
-use lib.Seq.{paste}
+use Rattle.numbers.proofs.Basics.{_≡_, refl, _+_, _-_, _≤_, arith, length, drop, length-set, paste, needs}
 use Rattle.numbers.proofs.Laws.{paste-none}
 use Rattle.store_queues.proofs.Slots.{down-turn}
 use Rattle.store_queues.proofs.move_down.Statement.{statement}

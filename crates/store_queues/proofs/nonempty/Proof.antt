@@ -1,6 +1,5 @@
 -- The mask is a byte.
-use native.Mathlib.Omega.{arith}
-use borrow.Author.Needs.{needs}
+use Rattle.numbers.proofs.Basics.{arith, needs}
 use Rattle.store_queues.proofs.Counts.{waiting-small}
 use Rattle.store_queues.proofs.nonempty.Statement.{statement}
 use Rattle.store_queues.proofs.nonempty.Tie as tie

@@ -1,8 +1,5 @@
 -- The row closes up, the slot is the last of the free ones, and the counts follow.
-use Prim.Native.Nat.{ℕ, _-_, _/_, _^_, _≤_}
-use native.Mathlib.Omega.{arith}
-use borrow.Author.Needs.{needs}
-use lib.ListN.{getD}
+use Rattle.numbers.proofs.Basics.{ℕ, _-_, _/_, _^_, _≤_, arith, getD, needs}
 use Rattle.store_queues.specs.Slots.{slotCount}
 use Rattle.store_queues.specs.Queues.{waiting}
 use Rattle.store_queues.proofs.Counts.{count-small, mask-stays, mask-set, some-zero, some-one, bit-there}

@@ -1,6 +1,5 @@
 -- The free slots are all, and the counts 0.
-use mathlib.Core.Path.{refl}
-use borrow.Author.Needs.{needs}
+use Rattle.numbers.proofs.Basics.{refl, needs}
 use Rattle.store_queues.proofs.Laws.{reset-leaves}
 use Rattle.store_queues.proofs.reset.Statement.{statement}
 use Rattle.store_queues.proofs.reset.Tie as tie

@@ -1,13 +1,6 @@
 -- Nothing is found so far, and the search of what is left is the search of the whole.
-use mathlib.Core.Path.{_≡_, refl, sym, ap, _∙_}
-use mathlib.Core.Bool.{Bool, true, false}
-use mathlib.Core.List.{[]}
-use mathlib.Core.Logic.{⊎-elim}
-use Prim.Native.Nat.{_+_, _-_, _≤_, _<_}
-use native.Mathlib.Omega.{arith}
-use lib.ListN.{length, take, drop, getD}
-use borrow.Author.Needs.{needs}
-use borrow.Author.Tests.{ltb-true, ltb-false}
+use Rattle.numbers.proofs.Basics.{_≡_, refl, sym, ap, _∙_, Bool, true, false, ⊎-elim, [], _+_, _-_, _≤_, _<_, arith}
+use Rattle.numbers.proofs.Basics.{length, take, drop, getD, ltb-true, ltb-false, needs}
 use Rattle.rules.specs.Bytes.{choose}
 use Rattle.store_queues.specs.Slots.{slotCount}
 use Rattle.store_queues.specs.Queues.{queues}

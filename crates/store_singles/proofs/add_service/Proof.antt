@@ -1,9 +1,5 @@
 -- The first service record is saved; a second one changes nothing.
-use mathlib.Core.Path.{_≡_, refl}
-use Prim.Native.Nat.{_<_}
-use native.Mathlib.Omega.{arith}
-use borrow.Author.Needs.{needs}
-use lib.ListN.{length}
+use Rattle.numbers.proofs.Basics.{_≡_, refl, _<_, arith, length, needs}
 use Rattle.rules.specs.Bytes.{byte, part}
 use Rattle.numbers.proofs.Laws.{drop-past}
 use Rattle.store_singles.specs.Singles.{serviceOf, mchkOf}

@@ -1,10 +1,5 @@
 -- The first i of the 16 bytes are merged.
-use mathlib.Core.Path.{_≡_, refl}
-use Prim.Native.Nat.{_-_, _≤_}
-use native.Mathlib.Omega.{arith}
-use borrow.Author.Needs.{needs}
-use lib.ListN.{length, length-set}
-use lib.Seq.{paste, paste-zero}
+use Rattle.numbers.proofs.Basics.{_≡_, refl, _-_, _≤_, arith, length, length-set, paste, paste-zero, needs}
 use Rattle.store_singles.proofs.Laws.{ors, merge-turn, merge-all}
 use Rattle.store_singles.proofs.merge.Statement.{statement}
 use Rattle.store_singles.proofs.merge.Tie as tie

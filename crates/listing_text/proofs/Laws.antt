@@ -1,4 +1,4 @@
--- What a played list prints. Assumes nothing.
+-- What a played list prints.
 use Rattle.numbers.proofs.Basics.{_≡_, sym, _∙_, List, _++_, ℕ, _≤_, _<_, zero-add, length, take, drop, take-length}
 use Rattle.numbers.proofs.Basics.{length-take-le, eqb, lt-ltb, le-ltb}
 use Rattle.rules.specs.Bytes.{choose}

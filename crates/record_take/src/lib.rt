@@ -1,4 +1,5 @@
-// Inner crate: records that are counted, listed, removed or handed out: CLEAR_IRQS, GET_ALL_IRQS, CLEAR_IO_IRQ and the guest take.
+// Inner crate: records that are counted, listed, removed or handed out: CLEAR_IRQS, GET_ALL_IRQS, CLEAR_IO_IRQ and the
+// guest take.
 ghost use mathlib.Core.Path.{_≡_};
 ghost use mathlib.Core.List.{List, _++_, flatten};
 ghost use Prim.Native.Nat.{ℕ, _*_, _≤_};
@@ -53,7 +54,7 @@ pub fn pending_whole(
     requires { ⌜ Held (now order) (now counts) × (length (now slots) ≡ slotCount * 72) ⌝ }
     ensures { λ r. ⌜ (r ≡ length (listing (before order counts slots singles))) × All Whole (listing (before order counts slots singles)) × (r ≤ mostPending) ⌝ }
 {
-    // as a slice: what makes one of an array says its length
+    // Borrowed as a slice: the proof learns the array's length from the borrow.
     let _g: &[u8] = singles;
     pending(counts, singles)
 }

@@ -1,4 +1,4 @@
--- Laws of the lent memory as pending records. Assumes nothing.
+-- Laws of the lent memory as pending records.
 use Rattle.numbers.proofs.Basics.{_≡_, none, List, [], ℕ, replicate}
 use Rattle.rules.specs.State.{nothing}
 use Rattle.store_queues.specs.Queues.{queues}

@@ -1,4 +1,4 @@
-// Inner crate: nine queues, each a row of slot numbers, oldest first, with a count for each; and a row of the free slots.
+// Inner crate: nine queues. Each is a row of slot numbers, oldest first, with a count. One more row has the free slots.
 ghost use mathlib.Core.Path.{_≡_};
 ghost use Prim.Native.Nat.{_+_, _-_, _≤_, ℕ, _*_, _<_};
 ghost use lib.ListN.{length, drop, getD, replicate};
@@ -87,7 +87,8 @@ pub fn slot_of(o: &[u8; ORDER_BYTES], q: Queue, at: usize) -> u8
     o[i]
 }
 
-// Appends r to a queue, where the queues hold n records. The record is written first: its bytes then go from register to slot.
+// Appends r to a queue; the queues hold n records together. The record is written before the order and the counts:
+// so its bytes go straight from registers to the slot.
 pub fn append(
     b: &mut [u8; SLOT_BYTES],
     o: &mut [u8; ORDER_BYTES],

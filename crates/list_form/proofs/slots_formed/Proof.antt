@@ -1,4 +1,4 @@
--- The invariant: the check of what is left, from where the next payload begins, comes to what the check of all comes to.
+-- The invariant: checking the entries that are left, from where the next payload begins, gives what checking all gives.
 use Rattle.numbers.proofs.Basics.{_≡_, sym, _∙_, _+_, _-_, _*_, _^_, _≤_, arith, length, drop, not-true, not-false}
 use Rattle.numbers.proofs.Basics.{needs}
 use Rattle.rules.specs.MoveList.{headerBytes, payloadOffset, tableEntriesIn, formed}

@@ -1,4 +1,4 @@
--- `list_write::write_list` meets its contract: the length is computed first, and the parts are put one behind the other.
+-- The length is computed first; then the parts are put one behind the other.
 use Rattle.numbers.proofs.Basics.{_≡_, refl, sym, ap, _∙_, List, ℕ, _+_, _*_, arith, length, needs}
 use Rattle.rules.specs.State.{State, Record, listing}
 use Rattle.rules.specs.MoveList.{ListRequest, listRequests, total}

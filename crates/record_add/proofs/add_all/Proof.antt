@@ -1,4 +1,4 @@
--- The invariant: what is left to add, to what is held now, comes to what all come to; and there is room for it; so many are held.
+-- The invariant: the records that are left, added to what is held now, give what all records give; and they have room.
 use Rattle.numbers.proofs.Basics.{_≡_, refl, sym, _∙_, _+_, _-_, _≤_, arith, needs}
 use Rattle.record_add.proofs.Laws.{add-next, add-ends, want-next, recordsFrom, records-all}
 use Rattle.rules.specs.State.{addAll}

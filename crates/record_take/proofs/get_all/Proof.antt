@@ -1,4 +1,4 @@
--- `record_take::get_all` meets its contract. Assumes nothing.
+-- The checks of the rules, in their order; then the listing is written.
 use Rattle.numbers.proofs.Basics.{_≡_, refl, ap, _∙_, not, _*_, _≤_, arith, length, eq-eqb, ne-eqb, le-leb, lt-leb}
 use Rattle.numbers.proofs.Basics.{needs}
 use Rattle.rules.specs.State.{listing}

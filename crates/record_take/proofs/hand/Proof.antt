@@ -1,4 +1,4 @@
--- `record_take::hand` meets its contract. Assumes nothing.
+-- The record stands at the start of the buffer.
 use Rattle.numbers.proofs.Basics.{_≡_, _∙_, arith, length, take-all, needs}
 use Rattle.record_take.proofs.hand.Statement.{statement}
 use Rattle.record_take.proofs.hand.Tie as tie

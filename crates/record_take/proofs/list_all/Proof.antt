@@ -1,4 +1,4 @@
--- `record_take::list_all` meets its contract. Assumes nothing.
+-- The queued records, then the service record, then the machine check, one after the other.
 use Rattle.numbers.proofs.Basics.{_≡_, _∙_, ⊎-elim, some, _++_, flatten, _+_, _*_, _≤_, arith, length, needs}
 use Rattle.rules.specs.State.{Record, single}
 use Rattle.store_queues.specs.Queues.{queues, total}

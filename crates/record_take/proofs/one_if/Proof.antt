@@ -1,4 +1,4 @@
--- `record_take::one_if` meets its contract. Assumes nothing.
+-- 1 or 0, by the test.
 use Rattle.numbers.proofs.Basics.{sym, arith}
 use Rattle.rules.proofs.Checks.{chosen, passed}
 use Rattle.record_take.proofs.one_if.Statement.{statement}

@@ -10,22 +10,19 @@ use Rattle.numbers.proofs.Laws.{map-set, map-take}
 use Rattle.adapters.specs.declared.Place.{Place}
 use Rattle.adapters.specs.Values.{placeOf, unused, Canonical}
 use Rattle.list_image.specs.Image.{packed, unpacked}
-use Rattle.list_image.proofs.Packed.{unpacked-unused, unpacked-packed}
+use Rattle.list_image.proofs.Packed.{unpacked-zero, unpacked-packed}
 use Rattle.list_image.specs.Places.{placesOf, AllCanonical}
 
 map-replicate : {A B : Type 0} (f : A → B) (n : ℕ) (a : A) → map f (replicate n a) ≡ replicate n (f a)
 map-replicate f zero a = refl
 map-replicate f (suc n) a = rw (map-replicate f n a)
 
-unpacked-none : unpacked 0 ≡ unused
-unpacked-none = unpacked-unused 0 (omega arith)
-
 place-none : placeOf (unpacked 0) ≡ rules.free
 unfolding placeOf choose
-place-none = rw unpacked-none
+place-none = rw unpacked-zero
 
 canonical-none : Canonical (unpacked 0)
-canonical-none = rw unpacked-none (record { unusedOne = λ e. refl; iscSmall = omega arith; maskedMaskable = λ e. e })
+canonical-none = rw unpacked-zero (record { unusedOne = λ e. refl; iscSmall = omega arith; maskedMaskable = λ e. e })
 
 -- an image of zeros
 pub places-none : (n : ℕ) → placesOf (replicate n 0) ≡ replicate n rules.free

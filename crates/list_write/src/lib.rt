@@ -192,17 +192,6 @@ fn payload_bytes(p: Parts) -> usize
     8 * p.registers + 16 * p.modifies + 72 * p.records + 2 * list_form::flag_of(p.masks) as usize
 }
 
-// The table entries of the adapters, the first payload at start.
-fn put_adapters(out: &mut [u8], start: usize, image: [u8; PLACES], p: Parts)
-    requires { ⌜ Counted image p × (start ≤ payloadOffset mostEntries) × (headerBytes + tableEntryBytes * (p .registers + p .modifies) ≤ length (now out)) ⌝ }
-    ensures { λ _. ⌜ now (out .exit) ≡ put (now (out .entry)) headerBytes (writtenTable start (adapterEntries image)) ⌝ }
-{
-    put_slots(out, 20, start, image, false);
-    let at = 20 + 24 * p.registers;
-    let pay = start + 8 * p.registers;
-    put_slots(out, at, pay, image, true);
-}
-
 // The table entries of ENQUEUE, AISM_ALL and APF_ENABLE, the first payload at pay.
 fn put_others(out: &mut [u8], at: usize, pay: usize, p: Parts)
     requires { ⌜ (p .records ≤ mostPending) × (pay ≤ payloadOffset mostEntries + mostPayload) × (at + tableEntryBytes * otherCount p ≤ length (now out)) ⌝ }
@@ -223,10 +212,11 @@ fn put_table(out: &mut [u8], start: usize, image: [u8; PLACES], p: Parts)
     requires { ⌜ Counted image p × (start ≤ payloadOffset mostEntries) × (headerBytes + tableEntryBytes * countOf p ≤ length (now out)) ⌝ }
     ensures { λ _. ⌜ ((rs : List Record) (simm nimm : ℕ) → Whole rs (p .records) → now (out .exit) ≡ put (now (out .entry)) headerBytes (writtenTable start (entriesFrom image rs (p .masks) simm nimm (p .apf)))) ⌝ }
 {
-    let at = 20 + 24 * (p.registers + p.modifies);
-    let pay = start + 8 * p.registers + 16 * p.modifies;
-    put_adapters(out, start, image, p);
-    put_others(out, at, pay, p);
+    put_slots(out, 20, start, image, false);
+    let at = 20 + 24 * p.registers;
+    let pay = start + 8 * p.registers;
+    put_slots(out, at, pay, image, true);
+    put_others(out, at + 24 * p.modifies, pay + 16 * p.modifies, p);
 }
 
 // The listing, from index at on.

@@ -5,7 +5,7 @@ use Prim.Native.Nat.{ℕ, zero, suc, _+_, _-_, _*_, _/_, _%_, _^_, _≤_, _<_}
 use native.Mathlib.Nat.{zero-add, suc-add, not-suc-le-zero, le-of-suc-le-suc, add-zero, add-suc, mul-one, pow-zero, mul-assoc, pow-suc, pow-le-pow-right, div-div-eq-div-mul}
 use native.Mathlib.Numerals.{add-one}
 use native.Mathlib.Omega.{arith}
-use lib.ListN.{length, take, drop, getD, set, length-drop, length-append, drop-of-length-le}
+use lib.ListN.{length, take, drop, getD, set, length-drop, length-append, length-set, drop-of-length-le}
 use lib.Seq.{take-nil, take-at, drop-at, take-append-le, take-take, take-all, take-suc, take-add, drop-cons, drop-drop, drop-paste, getD-drop, length-take-le, set-at, paste, paste-zero, paste-suc}
 use Rattle.rules.specs.Bytes.{number, part, field}
 
@@ -47,10 +47,10 @@ module _ {ℓ} {A : Type ℓ} where
       let h′ : length d ≤ 0 + n = omega arith in
       rw (e, k, drop-of-length-le d h′, append-nil)
 
-  -- a turn of a loop that copies upwards, b so far
-  pub paste-more : (b d : List A) (at : ℕ) (s : List A) (j i : ℕ) (z : A) → i ≡ at + j → i < length d → j < length s → b ≡ paste d at s j
-      → set b i (getD s j z) ≡ paste d at s (j + 1)
-  paste-more b d at s j i z p h k e = rw (e, p, add-one j) (paste-suc d at s j z (omega arith) k)
+  -- a turn of a loop that copies m elements upwards, b so far: b stays as long as it was, and has one element more
+  pub paste-more : (b d : List A) (at : ℕ) (s : List A) (j i m : ℕ) (z : A) → i ≡ at + j → i < length d → j < length s → j < m → length b ≡ length d → b ≡ paste d at s j
+      → (j + 1 ≤ m) × (length (set b i (getD s j z)) ≡ length d) × (set b i (getD s j z) ≡ paste d at s (j + 1))
+  paste-more b d at s j i m z p h k f l e = (omega arith, length-set b i _ ∙ l, rw (e, p, add-one j) (paste-suc d at s j z (omega arith) k))
 
   -- a turn of a loop that copies downwards: one more element in front
   pub paste-front : (d : List A) (at : ℕ) (s : List A) (n : ℕ) (x z : A) → at < length d

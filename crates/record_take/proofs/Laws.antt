@@ -9,6 +9,7 @@ use Rattle.rules.specs.Bytes.{choose, byte, part, field}
 use Rattle.rules.specs.State.{Limits, State, Record, Pending, nothing, withPending, single, listing}
 use Rattle.rules.specs.Outcome.{refuse, accept}
 use Rattle.rules.specs.Requests.{isZero, withoutFirst, request, clearIoIrq, clearsIo, removes, clears, getsAll}
+use Rattle.rules.specs.MoveList.{oneIf}
 use Rattle.rules.specs.Take.{firstAllowed, orElse, handMchk, handService, handDone, handIo, handed, handsOut, takes}
 use Rattle.rules.proofs.Checks.{passes, fails}
 use Rattle.rules.specs.Invariant.{All, Whole}
@@ -62,13 +63,12 @@ module _ (g : List ℕ) (t : Bool) where
   mchk-absent = absent-if (byte 145 g) (part 72 72 g) t
 
 -- one for a record that is there
-one-there : (n : ℕ) (r : Record) (t : Bool) → t ≡ not (eqb n 0) → choose t 1 0 ≡ length (single (ifThere n r))
-unfolding choose
+one-there : (n : ℕ) (r : Record) (t : Bool) → t ≡ not (eqb n 0) → oneIf t ≡ length (single (ifThere n r))
 one-there n r true e = rw (there-if n r true e refl)
 one-there n r false e = rw (absent-if n r false e refl)
 
 pub count-is : (o c b g : List ℕ) (q x y : ℕ) (t u : Bool) → Held o c → q ≡ total c → t ≡ not (eqb (byte 144 g) 0)
-    → u ≡ not (eqb (byte 145 g) 0) → x ≡ choose t 1 0 → y ≡ choose u 1 0 → q + x + y ≡ length (listing (pendingOf o c b g))
+    → u ≡ not (eqb (byte 145 g) 0) → x ≡ oneIf t → y ≡ oneIf u → q + x + y ≡ length (listing (pendingOf o c b g))
 unfolding serviceOf mchkOf
 count-is o c b g q x y t u h eq et eu ex ey =
     rw (eq, ex, ey, one-there (byte 144 g) (part 0 72 g) t et, one-there (byte 145 g) (part 72 72 g) u eu) (sym (length-listing o c b g h))

@@ -4,9 +4,9 @@ ghost use mathlib.Core.Path.{_≡_};
 ghost use mathlib.Core.List.{List, _++_, flatten};
 ghost use Prim.Native.Nat.{ℕ, _*_, _≤_};
 ghost use lib.ListN.{length, drop};
-ghost use Rattle.rules.specs.Bytes.{choose};
 ghost use Rattle.rules.specs.State.{Limits, State, withPending, listing};
 ghost use Rattle.rules.specs.Requests.{clearIrqs, getAllIrqs, clearIoIrq, request};
+ghost use Rattle.rules.specs.MoveList.{oneIf};
 ghost use Rattle.rules.specs.Take.{takes};
 ghost use Rattle.rules.specs.Invariant.{All, Whole};
 ghost use Rattle.store_queues.specs.Slots.{slotCount, mostPending};
@@ -28,7 +28,7 @@ use numbers::Subchannel;
 use store_search::Found;
 
 fn one_if(t: bool) -> usize
-    ensures { λ r. ⌜ (r ≡ choose t 1 0) × (r ≤ 1) ⌝ }
+    ensures { λ r. ⌜ (r ≡ oneIf t) × (r ≤ 1) ⌝ }
 {
     if t { 1 } else { 0 }
 }

@@ -28,6 +28,16 @@ length-listed b o q (n ∷ ns) h k =
     let l : length (row o q n) ≡ n = length-row o q (omega arith) n (omega arith) in
     rw (length-append, length-map (row o q n) (slot 72 b), l, length-listed b o (suc q) ns (omega arith) (omega arith))
 
+-- the records that a row names
+module _ (b o : List ℕ) (q : ℕ) (h : q * slotCount + slotCount ≤ length o) (n : ℕ) (k : n ≤ slotCount) where
+  pub length-named : length (listed b (row o q n)) ≡ n
+  length-named = length-map (row o q n) (slot 72 b) ∙ length-row o q h n k
+
+  pub named-at : (at : ℕ) → at < n → getD (listed b (row o q n)) at [] ≡ slot 72 b (getD o (q * slotCount + at) 0)
+  named-at at f =
+      let l : length (row o q n) ≡ n = length-row o q h n k in
+      getD-map (slot 72 b) (row o q n) at 0 [] (omega arith) ∙ ap (slot 72 b) (row-at o q h n at f)
+
 module _ (o c : List ℕ) (h : Held o c) where
   eachs : length (each c) ≡ 9
   eachs = length-each c (h .counted)
@@ -60,12 +70,10 @@ module _ (o c : List ℕ) (h : Held o c) where
     queue-is q k = getD-map (listed b) (used o c) q [] [] (omega (arith, length-used)) ∙ ap (listed b) (row-used q k)
 
     pub length-queue : (q : ℕ) → q < 9 → length (getD (queues o c b) q []) ≡ getD c q 0
-    length-queue q k = rw (queue-is q k, length-map (row o q (getD c q 0)) (slot 72 b)) (length-row o q (within q (omega arith)) (getD c q 0) (count-fits q k))
+    length-queue q k = rw (queue-is q k) (length-named b o q (within q (omega arith)) (getD c q 0) (count-fits q k))
 
     pub queue-record : (q at : ℕ) → q < 9 → at < getD c q 0 → getD (getD (queues o c b) q []) at [] ≡ slot 72 b (getD o (q * slotCount + at) 0)
-    queue-record q at k f =
-        let l : length (row o q (getD c q 0)) ≡ getD c q 0 = length-row o q (within q (omega arith)) (getD c q 0) (count-fits q k) in
-        rw (queue-is q k, getD-map (slot 72 b) (row o q (getD c q 0)) at 0 [] (omega arith), row-at o q (within q (omega arith)) (getD c q 0) at f)
+    queue-record q at k f = rw (queue-is q k) (named-at b o q (within q (omega arith)) (getD c q 0) (count-fits q k) at f)
 
     pub length-flatten-queues : length (flatten (queues o c b)) ≡ total c
     unfolding queues

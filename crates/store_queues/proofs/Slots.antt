@@ -10,17 +10,17 @@ use Rattle.store_queues.specs.Slots.{removeAt, slot, occurs}
 
 -- ---- a turn of move_down
 module _ {ℓ} {A : Type ℓ} where
-  pub down-turn : (b d : List A) (lo end i : ℕ) (z : A) → lo ≤ i → i < end → end + 1 ≤ length d
-      → b ≡ paste d lo (drop (lo + 1) d) (i - lo) → set b i (getD b (i + 1) z) ≡ paste d lo (drop (lo + 1) d) (i + 1 - lo)
-  down-turn b d lo end i z h k f e =
+  pub down-turn : (b d : List A) (lo end i : ℕ) (z : A) → lo ≤ i → i < end → end + 1 ≤ length d → length b ≡ length d → b ≡ paste d lo (drop (lo + 1) d) (i - lo)
+      → (lo ≤ i + 1) × (i + 1 ≤ end) × (length (set b i (getD b (i + 1) z)) ≡ length d) × (set b i (getD b (i + 1) z) ≡ paste d lo (drop (lo + 1) d) (i + 1 - lo))
+  down-turn b d lo end i z h k f l e =
       let s : List A = drop (lo + 1) d in
       let ls : length s ≡ length d - (lo + 1) = length-drop (lo + 1) d in
       let next : i + 1 - lo ≡ i - lo + 1 = omega arith in
       let at : i + 1 ≡ lo + 1 + (i - lo) = omega arith in
       let v : getD b (i + 1) z ≡ getD s (i - lo) z =
-      ap (λ (l : List A). getD l (i + 1) z) e ∙ getD-past d lo s (i - lo) (i + 1) z (omega arith) (omega arith) (omega arith)
-      ∙ ap (λ (j : ℕ). getD d j z) at ∙ sym (getD-drop (lo + 1) d (i - lo) z) in
-      rw (v, next) (paste-more b d lo s (i - lo) i z (omega arith) (omega arith) (omega arith) e)
+      rw (e, getD-past d lo s (i - lo) (i + 1) z (omega arith) (omega arith) (omega arith), at) (sym (getD-drop (lo + 1) d (i - lo) z)) in
+      let t = paste-more b d lo s (i - lo) i (end - lo) z (omega arith) (omega arith) (omega arith) (omega arith) l e in
+      (omega arith, omega arith, rw v (t .1), rw (v, next) (t .2))
 
 -- ---- one less
 module _ {A B : Type 0} (f : A → B) where

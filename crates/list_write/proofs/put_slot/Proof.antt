@@ -5,9 +5,6 @@ use Rattle.list_write.proofs.Entries.{put-none}
 use Rattle.list_write.proofs.put_slot.Statement.{statement}
 use Rattle.list_write.proofs.put_slot.Tie as tie
 
-put-five-requires : tie.Need-put-five-requires
-put-five-requires c κs = (omega arith, omega (arith, rw (c .before .if1 .taken) at (c .before .before .before .pre)))
-
 returns : tie.Need-returns
 unfolding choose
 returns c = rw (c .before .before .before .before .if1 .taken) (c .before .before .put-five .ensures)
@@ -15,4 +12,5 @@ returns c = rw (c .before .before .before .before .if1 .taken) (c .before .befor
 pub put-slot-spec : {M : Type 1} → statement M
 put-slot-spec =
     tie.close
-    (tie.spec put-five-requires (λ c. search needs) returns (λ c. unfold choose in rw (c .if1 .left) (put-none _ _)))
+    (tie.spec (λ c κs. (omega arith, omega (arith, rw (c .before .if1 .taken) at (c .before .before .before .pre))))
+    (λ c. search needs) returns (λ c. unfold choose in rw (c .if1 .left) (put-none _ _)))

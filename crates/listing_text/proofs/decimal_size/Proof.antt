@@ -11,14 +11,9 @@ Inv-loop v n₀ w₀ n w = (n + digitCount w w ≡ digitCount v v + 1) × (digit
 abbrev μ-loop : tie.MeasureT-loop
 μ-loop v n₀ w₀ n w = w
 
-loop-again : tie.Need-loop-again Inv-loop μ-loop
-loop-again c = (omega (arith, size-next _ (c .loop-test .taken)), c .before .loop .inv .1)
-
-returns : tie.Need-returns Inv-loop μ-loop
-returns c = omega (arith, size-one (c .before .loop .w) (c .before .loop .w) (omega arith))
-
 pub decimal-size-spec : {M : Type 1} → statement M
 decimal-size-spec =
     tie.close
     (tie.spec Inv-loop μ-loop (λ c. (omega arith, size-most 19 _ _ (omega arith))) (λ c. search needs)
-    (λ c. search needs) loop-again returns)
+    (λ c. search needs) (λ c. (omega (arith, size-next _ (c .loop-test .taken)), c .before .loop .inv .1))
+    (λ c. omega (arith, size-one (c .before .loop .w) (c .before .loop .w) (omega arith))))

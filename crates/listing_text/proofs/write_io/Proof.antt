@@ -9,10 +9,6 @@ use Rattle.listing_text.proofs.write_io.Tie as tie
 one : (c : tie.After-subclass-byte) → digitCount (c .subclass-byte .result) (c .subclass-byte .result) ≡ 1
 one c = size-one (c .subclass-byte .result) (c .subclass-byte .result) (omega arith)
 
-write-hex8-requires : tie.Need-write-hex8-requires
-write-hex8-requires c κs =
-    omega (arith, one (c .before .before .before .before .before .before))
-
 write-hex8-requires-2 : tie.Need-write-hex8-requires-2
 write-hex8-requires-2 c κs =
     let d = c .before .before .before .before in
@@ -34,5 +30,6 @@ pub write-io-spec : {M : Type 1} → statement M
 write-io-spec =
     tie.close
     (tie.spec (λ c. search needs) (λ c κs. search needs) (λ c κs. search needs) (λ c. search needs)
-    (λ c κs. omega (arith, one (c .before))) (λ c. search needs) write-hex8-requires (λ c. search needs)
+    (λ c κs. omega (arith, one (c .before))) (λ c. search needs)
+    (λ c κs. omega (arith, one (c .before .before .before .before .before .before))) (λ c. search needs)
     write-hex8-requires-2 (λ c. search needs) returns)

@@ -48,14 +48,6 @@ returns-4 c =
 abbrev start : tie.Joined5 → tie.Start
 start j = j .before .before .before .before .before .before .before .before .before .before
 
-all-counted : (j : tie.Joined5)
-    → queued (pendingOf (start j .args .order .now) (start j .args .counts .now) (start j .args .slots .now) (start j .args .singles .now)) ≡ j .before .before .before .queued .result
-all-counted j =
-    let a = start j .args in
-    queued-total (a .order .now) (a .counts .now) (a .slots .now) (a .singles .now)
-    (start j .pre .1)
-    ∙ sym (j .before .before .before .queued .ensures)
-
 added-fit : (j : tie.Joined5)
     → let b = start j .args .payload .now in
     ((j .if5 .added * 72 ≤ enqueueBytes) × (j .if5 .added * 72 ≤ length b) × (total (start j .args .counts .now) + allWant (recordsIn (j .if5 .added) b) ≤ slotCount))
@@ -88,7 +80,8 @@ returns-5 c =
     let p = c .add-all .ensures .0 in
     let add : ℕ → Pending = λ (n : ℕ). addAll (recordsIn n b) (pendingOf (a .order .now) (a .counts .now) (a .slots .now) (a .singles .now)) in (
       λ L s er ep.
-          let eq : queued (s .pending) ≡ j .before .before .before .queued .result = ap (λ (p : Pending). queued p) ep ∙ all-counted j in
+          let eq : queued (s .pending) ≡ j .before .before .before .queued .result =
+          ap (λ (p : Pending). queued p) ep ∙ queued-total _ _ _ _ (start j .pre .1) ∙ sym (j .before .before .before .queued .ensures) in
           let ea = j .before .before .answer-to .ensures ∙ ap (answerTo (checkFrom 0 0 (recordsIn (a .attr / 72) b)) (a .attr / 72) (j .before .before .before .queued .result)) (sym er) in
           ⊎-elim
           (λ t. enqueue-good L s (a .attr) b (u .before .before .before .if1 .left) (u .before .before .if2 .left) (u .before .if3 .left) (u .if4 .left) _ eq _ ea _

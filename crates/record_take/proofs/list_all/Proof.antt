@@ -54,9 +54,6 @@ save-requires-2 c κs =
     let d = c .before .before .before in
     omega (arith, mchk-room (d .before) _ (mchk-there _ _ _ (d .has-mchk .ensures) (c .before .before .if2 .taken) (c .read-mchk .ensures)), service (d .before) .long)
 
-same-length : tie.Need-same-length
-same-length c = let h = service (c .before .before .before .before .before .before .before) .long in search needs
-
 returns : tie.Need-returns
 returns c =
     let d = c .before .before .before in
@@ -76,4 +73,6 @@ list-all-spec =
     tie.close
     (tie.spec (λ c κs. (c .before .before .pre .0, fits c)) (λ c κs. search needs) (λ c. search needs)
     (λ c κs. search needs) (λ c κs. search needs) save-requires (λ c. search needs) (λ c κs. search needs)
-    (λ c κs. search needs) save-requires-2 same-length returns (λ c. service (c .before .before) .long) returns-2)
+    (λ c κs. search needs) save-requires-2
+    (λ c. let h = service (c .before .before .before .before .before .before .before) .long in search needs) returns
+    (λ c. service (c .before .before) .long) returns-2)

@@ -2,6 +2,7 @@
 use Rattle.numbers.proofs.Basics.{_≡_, refl, ⊎-elim, _<_, length, getD, lt-leb, needs}
 use Rattle.rules.specs.Take.{takes}
 use Rattle.rules.proofs.Checks.{fails, passed}
+use Rattle.store_queues.specs.Queues.{Held}
 use Rattle.store.specs.Memory.{pendingOf}
 use Rattle.answers.proofs.Laws.{refused, not-refused}
 use Rattle.record_take.proofs.Laws.{service-there, service-absent, mchk-there, mchk-absent, NoMchk, NoService, no-mchk, no-service, hands-mchk, hands-service, hands-nothing, hands-queued, hands, hands-none}
@@ -67,20 +68,11 @@ returns-4 c =
     )
 
 -- the place of the record
-placed : (c : tie.After-q) → let a = c .before .before .before .before .before .before .before .before .before .args in (c .q .given .0 .0 .0 < 9) × (c .q .given .0 .1 .0 < getD (a .counts .now) (c .q .given .0 .0 .0) 0)
-placed c = rw (c .q .given .1) at (c .before .before .next-queued .ensures .0)
-
-read-requires : tie.Need-read-requires
-read-requires c κs =
-    let j = c .before .before .before .before in
-    let p = placed j in
-    (p .0, p .1, j .before .before .before .before .before .before .before .before .before .pre)
-
-remove-requires : tie.Need-remove-requires
-remove-requires c κs =
-    let j = c .before .before .before .before .before .before .before .before .before .before in
-    let p = placed j in
-    (p .0, p .1, j .before .before .before .before .before .before .before .before .before .pre)
+placed : (c : tie.After-q) → let a = c .before .before .before .before .before .before .before .before .before .args in
+    (c .q .given .0 .0 .0 < 9) × (c .q .given .0 .1 .0 < getD (a .counts .now) (c .q .given .0 .0 .0) 0) × Held (a .order .now) (a .counts .now)
+placed c =
+    let p = rw (c .q .given .1) at (c .before .before .next-queued .ensures .0) in
+    (p .0, p .1, c .before .before .before .before .before .before .before .before .before .pre)
 
 returns-5 : tie.Need-returns-5
 returns-5 c =
@@ -103,4 +95,4 @@ take-spec =
     tie.close
     (tie.spec (λ c κs. search needs) returns (λ c κs. search needs) (λ c κs. search needs) (λ c κs. search needs) (λ c κs. search needs) (λ c. search needs) returns-2
     (λ c κs. search needs) (λ c κs. search needs) (λ c κs. search needs) (λ c κs. search needs) (λ c. search needs) returns-3 (λ c κs. search needs) (λ c. search needs)
-    (λ c. search needs) (λ c κs. search needs) returns-4 read-requires (λ c κs. search needs) remove-requires (λ c. search needs) returns-5)
+    (λ c. search needs) (λ c κs. search needs) returns-4 (λ c κs. placed (c .before .before .before .before)) (λ c κs. search needs) (λ c κs. placed (c .before .before .before .before .before .before .before .before .before .before)) (λ c. search needs) returns-5)

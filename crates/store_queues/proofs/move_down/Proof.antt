@@ -20,8 +20,7 @@ loop-again : tie.Need-loop-again Inv-loop μ-loop
 loop-again c =
     let a = c .before .before .before .args in
     let l = c .before .before .loop in
-    let t = down-turn (l .o) (a .o .now) (a .lo) (a .end) (l .i) 0 (omega arith) (omega arith) (omega arith) (l .inv .3) in
-    (omega arith, omega arith, simp length-set (l .inv .2), t)
+    down-turn (l .o) (a .o .now) (a .lo) (a .end) (l .i) 0 (omega arith) (omega arith) (omega arith) (l .inv .2) (l .inv .3)
 
 returns : tie.Need-returns Inv-loop μ-loop
 returns c =

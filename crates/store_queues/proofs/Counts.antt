@@ -59,15 +59,15 @@ unfolding some
 some-one zero f = absurd (f refl)
 some-one (suc n) f = refl
 
-times : (x w : ℕ) → x ≤ 1 → x * w ≤ w
-times zero w h = omega arith
-times (suc zero) w h = omega arith
-times (suc (suc x)) w h = absurd (omega arith)
+some-times : (n w : ℕ) → some n * w ≤ w
+unfolding some
+some-times zero w = omega arith
+some-times (suc n) w = omega arith
 
 bits-small : (w : ℕ) (ns : List ℕ) → bits w ns ≤ 2 * w - 1
 unfolding bits
 bits-small w [] = omega arith
-bits-small w (n ∷ ns) = omega (arith, bits-small (w / 2) ns, times (some n) w (some-small n))
+bits-small w (n ∷ ns) = omega (arith, bits-small (w / 2) ns, some-times n w)
 
 pub halves : (w i : ℕ) → w / 2 / 2 ^ i ≡ w / 2 ^ suc i
 halves w i = div-div-eq-div-mul w 2 (2 ^ i) ∙ ap (λ (x : ℕ). w / x) (mul-comm 2 (2 ^ i) ∙ sym (pow-suc 2 i))

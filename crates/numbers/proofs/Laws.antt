@@ -85,7 +85,7 @@ module _ {ℓ} {A : Type ℓ} where
   part-before d at s n i w h k = sym (drop-take i w (paste d at s n)) ∙ ap (λ (x : List A). drop i x) (take-before d at s n (i + w) h k) ∙ drop-take i w d
 
 -- ---- big-endian numbers
--- a number in two parts, and in two words
+-- a number in two parts
 pow-add : (a m n : ℕ) → a ^ (m + n) ≡ a ^ m * a ^ n
 pow-add a m zero = rw (add-zero, pow-zero, mul-one)
 pow-add a m (suc n) = rw (add-suc, pow-suc a (m + n), pow-add a m n, mul-assoc, pow-suc a n)
@@ -105,20 +105,12 @@ read-turn l at i v x h e b ex bx =
     let k : i < length (drop at l) = simp length-drop (omega arith) in
     (rw (add-one i, take-suc (drop at l) i 0 k, getD-drop, number-append, ex) (omega arith), rw (add-one i, pow-suc) (omega arith))
 
-number-parts : (l : List ℕ) (at m n : ℕ) → at + m + n ≤ length l
+pub number-parts : (l : List ℕ) (at m n : ℕ) → at + m + n ≤ length l
     → number (take (m + n) (drop at l)) ≡ number (take m (drop at l)) * 256 ^ n + number (take n (drop (at + m) l))
 number-parts l at m n h =
     let k : n ≤ length (drop (at + m) l) = simp length-drop (omega arith) in
     let e : length (take n (drop (at + m) l)) ≡ n = length-take-le n (drop (at + m) l) k in
     rw (take-add m n (drop at l), drop-drop m at l, number-append, e)
-
-pub number-words : (l : List ℕ) (at : ℕ) → at + 8 ≤ length l
-    → number (take 4 (drop at l)) * 4294967296 + number (take 4 (drop (at + 4) l)) ≡ number (take 8 (drop at l))
-number-words l at h = sym (number-parts l at 4 4 (omega arith))
-
-pub number-halves : (l : List ℕ) (at : ℕ) → at + 4 ≤ length l
-    → number (take 2 (drop at l)) * 65536 + number (take 2 (drop (at + 2) l)) ≡ number (take 4 (drop at l))
-number-halves l at h = sym (number-parts l at 2 2 (omega arith))
 
 -- a number within a part
 pub field-part : (at n w from : ℕ) (b : List ℕ) → at + n ≤ w → field at n (part from w b) ≡ field (from + at) n b

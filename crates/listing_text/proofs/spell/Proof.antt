@@ -22,8 +22,7 @@ loop-holds c =
 
 loop-again : tie.Need-loop-again Inv-loop μ-loop
 loop-again c =
-    let d = c .before .before .before .before in
-    let a = d .args in
+    let a = c .before .before .before .before .args in
     let l = c .before .before .loop in
     let t = write-turn digit (λ k. digits (a .base) k (a .v)) (a .base) (a .v) (λ k. unfold digits in refl) (l .out) (a .out .now) (a .at) (a .n) (l .i) (l .w) (omega arith) (omega arith) (omega arith) (l .inv .2) (l .inv .3) in
     (omega arith, simp length-set (l .inv .1), t .0, rw (c .letter .ensures) (t .1))

@@ -23,18 +23,15 @@ loop-holds c =
 loop-again : tie.Need-loop-again Inv-loop μ-loop
 loop-again c =
     let d = c .before .before .before .before .before in
-    let e = d .before .before .before in
-    let a = e .args in
     let l = d .loop in
     let x = c .before .before .write-record .ensures in
     let w = wrote-then (l .inv .3) (x .0) in
-    (omega arith, omega arith, wrote-long (x .0) ∙ l .inv .2, rw (← lines-next (l .i) (a .b .now)) w)
+    (omega arith, omega arith, wrote-long (x .0) ∙ l .inv .2, rw (← lines-next (l .i) (d .before .before .before .args .b .now)) w)
 
 returns : tie.Need-returns Inv-loop μ-loop
 returns c =
-    let d = c .before .before .before .before in
     let l = c .before .loop in
-    let e : l .i ≡ d .args .n = omega arith in
+    let e : l .i ≡ c .before .before .before .before .args .n = omega arith in
     rw e at (l .inv .3)
 
 pub write-records-spec : {M : Type 1} → statement M

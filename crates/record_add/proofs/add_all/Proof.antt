@@ -32,8 +32,7 @@ loop-again : tie.Need-loop-again Inv-loop μ-loop
 loop-again c =
     let j = c .before .before .before .before .before in
     let m = j .before in
-    let f = m .before .before in
-    let a = f .args in
+    let a = m .before .before .args in
     let v = m .loop .inv in (
       omega arith,
       c .add-one .ensures .1 .1,

@@ -21,8 +21,7 @@ returns : tie.Need-returns Inv-loop μ-loop
 unfolding kindAccepted
 returns c =
     let j = c .before .before .before .before in
-    let f = j .before .before in
-    let a = f .args in
+    let a = j .before .before .args in
     let r : Record = part (j .loop .place * 72) 72 (a .b .now) in
     let k = kind-known (kind r) (subclass r) _ (c .before .before .kind-at .ensures) ∙ ap kindFor (c .enum-told .given .1) in
     sym (j .loop .inv .2 ∙ check-stops (j .loop .place) (a .n) _ (a .b .now) (c .before .before .before .loop-test .taken) (rw k))
@@ -30,8 +29,7 @@ returns c =
 loop-again : tie.Need-loop-again Inv-loop μ-loop
 loop-again c =
     let j = c .before .before .before in
-    let f = j .before .before in
-    let a = f .args in
+    let a = j .before .before .args in
     let r : Record = part (j .loop .place * 72) 72 (a .b .now) in
     let t = tag-wants (kind r) (subclass r) _ (ap (tagOf the-type) (c .before .kind-at .ensures)) in
     let u : (kindAccepted (kind r) ≡ true) × (c .match .wanted ≡ j .loop .wanted + wants (kind r)) × (c .match .wanted ≤ j .loop .wanted + 1) =

@@ -28,13 +28,12 @@ returns-2 c =
     let t = r .before .before .before in
     let m = t .before in
     let i = m .before .before in
-    let f = i .before .before .before in
     let l : length (r .read-mchk .result) ≡ 72 = search needs in (
       λ L s e.
           hands L s _ _ _ _ _ _ e (i .before .if1 .left) _ _ _ l
           (hands-mchk _ _ _ _ _ _ _ _ _ (i .if2 .taken) (mchk-there _ _ _ (m .has-mchk .ensures) (t .if3 .taken) (r .read-mchk .ensures)) (c .drop-mchk .ensures .0) (c .drop-mchk .ensures .1))
           (n .hand .ensures),
-      (f .pre, not-refused _ _ (n .hand .ensures .0)),
+      (i .before .before .before .pre, not-refused _ _ (n .hand .ensures .0)),
     )
 
 returns-3 : tie.Need-returns-3
@@ -45,13 +44,12 @@ returns-3 c =
     let m = t .before in
     let i = m .before .before in
     let j = i .before in
-    let f = j .before .before .before in
     let l : length (r .read-service .result) ≡ 72 = search needs in (
       λ L s e.
           hands L s _ _ _ _ _ _ e (j .before .if1 .left) _ _ _ l
           (hands-service _ _ _ _ _ _ _ (mchk-passed j) _ _ (i .if4 .taken) (service-there _ _ _ (m .has-service .ensures) (t .if5 .taken) (r .read-service .ensures)) (c .drop-service .ensures .0) (c .drop-service .ensures .1))
           (n .hand2 .ensures),
-      (f .pre, not-refused _ _ (n .hand2 .ensures .0)),
+      (j .before .before .before .pre, not-refused _ _ (n .hand2 .ensures .0)),
     )
 
 returns-4 : tie.Need-returns-4

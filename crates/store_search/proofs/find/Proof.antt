@@ -139,8 +139,7 @@ unfolding choose
 returns-2 c =
     let l = c .before .before .before in
     let n = l .before .before in
-    let s = n .before .before .before in
-    let a = s .before .args in
+    let a = n .before .before .before .before .args in
     let qs = queues (a .o .now) (a .c .now) (a .b .now) in
     let z = size n in
     let e = sym (⊎-elim (λ w. turn (c .before) true (rw (w .taken))) (λ w. turn (c .before) true (rw (w .0 .left) (looked (record { before = record { before = record { before = c .before; if2 = w .0 }; slot-of = w .1 }; is-for = w .2 }) ∙ w .3 .taken))) (c .if2 .came)) in

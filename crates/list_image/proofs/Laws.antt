@@ -8,7 +8,7 @@ use Rattle.rules.specs.Invariant.{All}
 use Rattle.rules.proofs.Lists.{all-set, all-get, all-replicate}
 use Rattle.numbers.proofs.Laws.{map-set, map-take}
 use Rattle.adapters.specs.declared.Place.{Place}
-use Rattle.adapters.specs.Values.{placeOf, unused, Canonical}
+use Rattle.adapters.specs.Values.{placeOf, Canonical}
 use Rattle.list_image.specs.Image.{packed, unpacked}
 use Rattle.list_image.proofs.Packed.{unpacked-zero, unpacked-packed}
 use Rattle.list_image.specs.Places.{placesOf, AllCanonical}

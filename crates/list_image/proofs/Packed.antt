@@ -1,6 +1,6 @@
 -- Packing a place and unpacking the byte.
 use Rattle.numbers.proofs.Basics.{_≡_, refl, sym, _∙_, Bool, true, false, List, [], _∷_, map, ℕ, _+_, _*_, _/_, _%_}
-use Rattle.numbers.proofs.Basics.{_<_, _≤_, decLt, arith, eqb, ltb, lt-ltb, le-ltb, eq-eqb, ne-eqb}
+use Rattle.numbers.proofs.Basics.{_<_, _≤_, decLt, arith, eqb, lt-ltb, le-ltb, eq-eqb, ne-eqb}
 use Rattle.rules.specs.Bytes.{choose}
 use Rattle.rules.specs.MoveList.{oneIf}
 use Rattle.rules.specs.Invariant.{All}

@@ -1,6 +1,6 @@
 -- Laws of a list's parts put one after another, and of what is counted of them.
 use Rattle.numbers.proofs.Basics.{_≡_, refl, sym, ap, _∙_, Bool, true, false, _&&_, _||_, List, [], _∷_, _++_}
-use Rattle.numbers.proofs.Basics.{flatten, append-assoc, append-nil, ℕ, zero, _+_, _-_, _*_, _/_, _%_, _^_, _≤_, _<_}
+use Rattle.numbers.proofs.Basics.{flatten, append-assoc, append-nil, ℕ, _+_, _-_, _*_, _/_, _%_, _^_, _≤_, _<_}
 use Rattle.numbers.proofs.Basics.{zero-add, arith, length, take, drop, length-append, length-drop, drop-of-length-le}
 use Rattle.numbers.proofs.Basics.{take-all, drop-drop, ltb, lt-ltb, le-leb, lt-leb}
 use Rattle.rules.specs.Bytes.{choose, bytes}

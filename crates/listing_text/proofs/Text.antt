@@ -2,12 +2,12 @@
 use Rattle.numbers.proofs.Basics.{_≡_, refl, sym, ap, _∙_, Bool, true, false, List, [], _∷_, _++_, flatten}
 use Rattle.numbers.proofs.Basics.{append-assoc, append-nil, ℕ, zero, suc, _+_, _-_, _*_, _/_, _^_, _≤_, _<_, zero-add}
 use Rattle.numbers.proofs.Basics.{add-zero, add-assoc, pow-suc, div-lt-iff-lt-mul, add-one, arith, length, take, drop}
-use Rattle.numbers.proofs.Basics.{length-append, take-all, take-at, drop-at, take-paste, drop-paste, drop-drop, paste}
+use Rattle.numbers.proofs.Basics.{length-append, take-all, take-at, drop-at, take-paste, drop-paste, drop-drop}
 use Rattle.numbers.proofs.Basics.{length-paste, ltb, lt-ltb, le-ltb}
 use Rattle.rules.specs.Bytes.{choose, part, field}
 use Rattle.rules.specs.State.{Record, Kind, kind, subclass, interruptionWord}
 use Rattle.rules.specs.Requests.{recordsIn}
-use Rattle.rules.specs.Listing.{ascii, digit, digits, digitCount, decimal, hex8, line, name, ofIo, recordLine, linesFrom}
+use Rattle.rules.specs.Listing.{ascii, digits, digitCount, decimal, hex8, line, name, ofIo, recordLine, linesFrom}
 use Rattle.rules.specs.Invariant.{All, Whole}
 use Rattle.numbers.proofs.Laws.{field-part}
 use Rattle.record_add.specs.declared.Kind.{Kind as Case}

@@ -7,19 +7,18 @@ pub use mathlib.Core.Option.{none, some, Option}
 pub use mathlib.Core.List.{List, [], _∷_, _++_, append-assoc, append-nil, map, map-append}
 unfoldable pub use mathlib.Core.List.{flatten, zipWith}
 pub use Prim.Native.Nat.{ℕ, zero, suc, _+_, _-_, _*_, _/_, _%_, _^_, _≤_, _<_, min}
-pub use native.Mathlib.Nat.{zero-add, suc-add, not-suc-le-zero, le-of-suc-le-suc, add-zero, add-suc, mul-one}
-pub use native.Mathlib.Nat.{pow-zero, mul-assoc, pow-suc, pow-le-pow-right, div-div-eq-div-mul, div-one, mul-comm}
-pub use native.Mathlib.Nat.{suc-mul, mul-le-mul-right, div-le-self, add-assoc, mul-add, div-lt-iff-lt-mul, mod-lt}
-pub use native.Mathlib.Nat.{lt-of-lt-of-le}
+pub use native.Mathlib.Nat.{zero-add, suc-add, not-suc-le-zero, le-of-suc-le-suc, add-zero, pow-zero, pow-suc}
+pub use native.Mathlib.Nat.{div-div-eq-div-mul, div-one, mul-comm, suc-mul, mul-le-mul-right, div-le-self, add-assoc}
+pub use native.Mathlib.Nat.{mul-add, div-lt-iff-lt-mul, mod-lt, lt-of-lt-of-le}
 pub use native.Mathlib.Numerals.{add-one}
 pub use native.Mathlib.Decide.{decLt}
 pub use native.Mathlib.Omega.{arith}
 pub use lib.ListN.{length, take, drop, getD, set, length-drop, length-append, drop-of-length-le, length-set}
 pub use lib.ListN.{replicate, length-map, length-take, List·getD-map, List·getD-eq-default, take-append-drop}
-pub use lib.Seq.{take-nil, take-at, drop-at, take-append-le, take-take, take-all, take-suc, take-add, drop-cons}
-pub use lib.Seq.{drop-drop, drop-paste, getD-drop, length-take-le, set-at, paste, paste-zero, paste-suc, take-set-lt}
-pub use lib.Seq.{take-set-le, getD-take, getD-set-same, getD-set-other, length-paste, take-paste, take-suc-set}
-pub use lib.Seq.{drop-set-lt, drop-set-add, drop-append-le, split-at, set-out, take-length}
+pub use lib.Seq.{take-at, drop-at, take-take, take-all, take-suc, take-add, drop-cons, drop-drop, drop-paste}
+pub use lib.Seq.{getD-drop, length-take-le, paste, paste-zero, take-set-lt, take-set-le, getD-take, getD-set-same}
+pub use lib.Seq.{getD-set-other, length-paste, take-paste, take-suc-set, drop-set-lt, drop-set-add, drop-append-le}
+pub use lib.Seq.{split-at, set-out, take-length}
 pub use lib.Dec.{eqb, leb, ltb}
 pub use lib.Bits.{bitAnd, and-step, bitOr}
 pub use borrow.Author.Tests.{eq-eqb, eqb-true, ne-eqb, eqb-false, ltb-true, ltb-false, not-true, not-false, le-leb}

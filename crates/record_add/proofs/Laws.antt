@@ -5,7 +5,7 @@ use Rattle.numbers.proofs.Basics.{add-one, arith, length, take, drop, getD, set
 use Rattle.numbers.proofs.Basics.{take-set-lt, take-set-le, getD-set-same, getD-set-other, getD-take, leb, eq-eqb}
 use Rattle.numbers.proofs.Basics.{ne-eqb, le-leb, lt-leb, leb-true, leb-false}
 use denote.Enum.Declared.{tagOf}
-use Rattle.rules.specs.Bytes.{choose, number, bytes, part, field}
+use Rattle.rules.specs.Bytes.{choose, bytes, part, field}
 use Rattle.rules.specs.State as rules
 use Rattle.rules.specs.State.{Limits, State, Record, Pending, withPending, kind, subclass, addIo, addAs, add, addAll, firstOr, mergedOr, queued}
 use Rattle.rules.specs.Outcome.{refuse, need_else_⨾_}

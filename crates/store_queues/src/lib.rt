@@ -1,7 +1,7 @@
 // Inner crate: nine queues. Each is a row of slot numbers, oldest first, with a count. One more row has the free slots.
 ghost use mathlib.Core.Path.{_≡_};
-ghost use Prim.Native.Nat.{_+_, _-_, _≤_, ℕ, _*_, _<_};
-ghost use lib.ListN.{length, drop, getD, replicate};
+ghost use Prim.Native.Nat.{_+_, _-_, _≤_, _*_, _<_};
+ghost use lib.ListN.{length, drop, getD};
 ghost use lib.Seq.{paste};
 ghost use Rattle.store_queues.specs.Slots.{slot, Stored, slotCount};
 ghost use mathlib.Core.List.{[], _++_, flatten};

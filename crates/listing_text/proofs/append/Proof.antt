@@ -1,5 +1,5 @@
 -- The first i bytes of s stand in out from index at.
-use Rattle.numbers.proofs.Basics.{_≡_, refl, _-_, _≤_, arith, length, length-set, paste, paste-zero, needs}
+use Rattle.numbers.proofs.Basics.{_≡_, refl, _-_, _≤_, arith, length, paste, paste-zero, needs}
 use Rattle.numbers.proofs.Laws.{paste-more}
 use Rattle.listing_text.proofs.append.Statement.{statement}
 use Rattle.listing_text.proofs.append.Tie as tie

@@ -1,6 +1,5 @@
 -- The copied bytes of src stand at the start of r.
-use Rattle.numbers.proofs.Basics.{_≡_, refl, _-_, _≤_, arith, length, drop, length-set, length-drop, getD-drop}
-use Rattle.numbers.proofs.Basics.{paste, needs}
+use Rattle.numbers.proofs.Basics.{_≡_, _-_, _≤_, arith, length, drop, length-drop, getD-drop, paste, needs}
 use Rattle.numbers.proofs.Laws.{paste-more, paste-all}
 use Rattle.numbers.proofs.load.Statement.{statement}
 use Rattle.numbers.proofs.load.Tie as tie

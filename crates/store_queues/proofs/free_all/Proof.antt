@@ -1,6 +1,5 @@
 -- The entries passed are their own indices in the row.
-use Rattle.numbers.proofs.Basics.{_≡_, refl, ap, _∙_, sym, _+_, _-_, _*_, _≤_, zero-add, arith, length, set, length-set}
-use Rattle.numbers.proofs.Basics.{paste, paste-zero, needs}
+use Rattle.numbers.proofs.Basics.{_≡_, refl, _∙_, _-_, _*_, _≤_, zero-add, arith, length, paste, paste-zero, needs}
 use Rattle.numbers.proofs.Laws.{paste-more}
 use Rattle.store_queues.specs.Slots.{slotCount}
 use Rattle.store_queues.specs.Queues.{upFrom}

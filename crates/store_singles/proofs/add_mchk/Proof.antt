@@ -1,5 +1,5 @@
 -- The first machine check is saved; a second one is merged.
-use Rattle.numbers.proofs.Basics.{_≡_, _<_, arith, length, needs}
+use Rattle.numbers.proofs.Basics.{_≡_, arith, length, needs}
 use Rattle.rules.specs.Bytes.{byte, part}
 use Rattle.numbers.proofs.Laws.{part-before}
 use Rattle.store_singles.specs.Singles.{serviceOf, mchkOf}

@@ -1,5 +1,5 @@
 -- The first service record is saved; a second one changes nothing.
-use Rattle.numbers.proofs.Basics.{_≡_, refl, _<_, arith, length, needs}
+use Rattle.numbers.proofs.Basics.{refl, arith, needs}
 use Rattle.rules.specs.Bytes.{byte, part}
 use Rattle.numbers.proofs.Laws.{drop-past}
 use Rattle.store_singles.specs.Singles.{serviceOf, mchkOf}

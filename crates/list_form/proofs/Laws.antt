@@ -1,14 +1,7 @@
 -- Laws of a list's table: one entry more, where it stops, and that every payload lies within the list.
-use Prim.Native.Nat.{ℕ, zero, suc, _+_, _-_, _*_, _≤_, _<_}
-use mathlib.Core.Path.{_≡_, refl}
-use mathlib.Core.Bool.{Bool, true, false, _&&_}
-use mathlib.Core.List.{List, [], _∷_}
-use native.Mathlib.Nat.{not-suc-le-zero, le-of-suc-le-suc}
-use native.Mathlib.Omega.{arith}
-use lib.ListN.{length, drop}
-use lib.Seq.{drop-drop}
-use lib.Dec.{leb, eqb}
-use borrow.Author.Tests.{eqb-true, leb-true}
+use Rattle.numbers.proofs.Basics.{_≡_, refl, Bool, true, false, _&&_, List, [], _∷_, ℕ, zero, suc, _+_, _-_, _*_, _≤_}
+use Rattle.numbers.proofs.Basics.{_<_, not-suc-le-zero, le-of-suc-le-suc, arith, length, drop, drop-drop, leb, eqb}
+use Rattle.numbers.proofs.Basics.{eqb-true, leb-true}
 use Rattle.rules.specs.Bytes.{field}
 use Rattle.rules.specs.Requests.{isZero}
 use Rattle.rules.specs.State.{Limits, State, fresh}
@@ -40,12 +33,6 @@ pub slots-all : (n : ℕ) (b : List ℕ) → slotsFrom 0 n b ≡ tableEntriesIn 
 slots-all n b = let e : n - 0 ≡ n = omega arith in rw e
 
 -- a turn of the check, where an entry passes and where it does not
-both-then : (a b c d : Bool) → (a && (b && c)) ≡ true → (a && (b && (c && d))) ≡ d
-both-then true true true d h = refl
-both-then true true false d h = let z : true ≡ false = cc in cc
-both-then true false c d h = let z : true ≡ false = cc in cc
-both-then false b c d h = let z : true ≡ false = cc in cc
-
 not-both : (a b c d : Bool) → (a && (b && c)) ≡ false → (a && (b && (c && d))) ≡ false
 not-both true true true d h = cc
 not-both true true false d h = refl
@@ -56,7 +43,9 @@ module _ (end at place n : ℕ) (b : List ℕ) (h : place < n) where
   pub formed-next : slotFormed at (slotAt place b) ≡ true
       → formed end at (slotsFrom place n b) ≡ formed end (at + slotAt place b .size) (slotsFrom (place + 1) n b)
   unfolding formed
-  formed-next e = rw (next-slot place n b h) (both-then (eqb (slotAt place b .at) at) (isZero (slotAt place b .zeroWord)) (movable (slotAt place b .group)) _ e)
+  formed-next e =
+      let r = right (eqb (slotAt place b .at) at) _ e in
+      rw (next-slot place n b h, left (eqb (slotAt place b .at) at) _ e, left (isZero (slotAt place b .zeroWord)) _ r, right (isZero (slotAt place b .zeroWord)) _ r)
 
   pub formed-stops : slotFormed at (slotAt place b) ≡ false → formed end at (slotsFrom place n b) ≡ false
   unfolding formed
@@ -66,38 +55,31 @@ pub formed-ends : (end at place n : ℕ) (b : List ℕ) → n ≤ place → form
 unfolding formed
 formed-ends end at place n b h = rw (last-slot place n b h)
 
--- what a well-formed table says of the rest and of one entry
-module _ (end at : ℕ) (e : TableEntry) (es : List TableEntry) (h : formed end at (e ∷ es) ≡ true) where
-  rest-formed : formed end (at + e .size) es ≡ true
-  unfolding formed
-  rest-formed = right (movable (e .group)) _ (right (isZero (e .zeroWord)) _ (right (eqb (e .at) at) _ h))
-
-  here-at : e .at ≡ at
-  unfolding formed
-  here-at = eqb-true (e .at) at (left (eqb (e .at) at) _ h)
-
-  here-movable : movable (e .group) ≡ true
-  unfolding formed
-  here-movable = left (movable (e .group)) _ (right (isZero (e .zeroWord)) _ (right (eqb (e .at) at) _ h))
+-- what a well-formed table says of its first entry, and of the rest
+parts : (end at : ℕ) (e : TableEntry) (es : List TableEntry) → formed end at (e ∷ es) ≡ true
+    → (e .at ≡ at) × (movable (e .group) ≡ true) × (formed end (at + e .size) es ≡ true)
+unfolding formed
+parts end at e es h =
+    let r = right (isZero (e .zeroWord)) _ (right (eqb (e .at) at) _ h) in
+    (eqb-true (e .at) at (left (eqb (e .at) at) _ h), left (movable (e .group)) _ r, right (movable (e .group)) _ r)
 
 reaches : (end at : ℕ) (es : List TableEntry) → formed end at es ≡ true → at ≤ end
 unfolding formed
 reaches end at [] h = let e = eqb-true at end h in omega arith
-reaches end at (e ∷ es) h = let r = reaches end (at + e .size) es (rest-formed end at e es h) in omega arith
+reaches end at (e ∷ es) h = let r = reaches end (at + e .size) es (parts end at e es h .2) in omega arith
 
 within : (end at n place : ℕ) (b : List ℕ) → place < n → formed end at (tableEntriesIn n b) ≡ true
     → (tableEntryIn (drop (tableEntryBytes * place) b) .at + tableEntryIn (drop (tableEntryBytes * place) b) .size ≤ end) × (movable (tableEntryIn (drop (tableEntryBytes * place) b) .group) ≡ true)
 unfolding tableEntriesIn
 within end at zero place b p h = absurd (not-suc-le-zero p)
 within end at (suc n) zero b p h =
-    let r = reaches end (at + tableEntryIn b .size) (tableEntriesIn n (drop tableEntryBytes b)) (rest-formed end at (tableEntryIn b) (tableEntriesIn n (drop tableEntryBytes b)) h) in
-    let e = here-at end at (tableEntryIn b) (tableEntriesIn n (drop tableEntryBytes b)) h in
-    (omega arith, here-movable end at (tableEntryIn b) (tableEntriesIn n (drop tableEntryBytes b)) h)
+    let t = parts end at (tableEntryIn b) (tableEntriesIn n (drop tableEntryBytes b)) h in
+    let r = reaches end (at + tableEntryIn b .size) (tableEntriesIn n (drop tableEntryBytes b)) (t .2) in
+    (omega arith, t .1)
 within end at (suc n) (suc place) b p h =
     let e : tableEntryBytes * suc place ≡ tableEntryBytes + tableEntryBytes * place = omega arith in
     rw (e, ← drop-drop (tableEntryBytes * place) tableEntryBytes b)
-    (within end (at + tableEntryIn b .size) n place (drop tableEntryBytes b) (le-of-suc-le-suc p)
-    (rest-formed end at (tableEntryIn b) (tableEntriesIn n (drop tableEntryBytes b)) h))
+    (within end (at + tableEntryIn b .size) n place (drop tableEntryBytes b) (le-of-suc-le-suc p) (parts end at (tableEntryIn b) _ h .2))
 
 -- the payload of a table entry lies within the list, and its group may be moved
 pub slot-within : (b : List ℕ) (place : ℕ) → Formed b → place < countIn b

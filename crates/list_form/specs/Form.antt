@@ -27,8 +27,10 @@ pub record Formed (b : List ℕ) : Type 0 where
   pub table : payloadOffset (countIn b) ≤ length b
   pub slots : formed (length b) (payloadOffset (countIn b)) (slotsOf b) ≡ true
 
--- What a code says of a list: 0, its form is good and its requests are applied to a fresh controller; else it is refused with this code.
+-- What a code says of a list. Code 0: its form is good, and its requests are applied to a fresh controller. Any other:
+-- it is refused with this code.
 pub record Form (ais : Bool) (b : List ℕ) (code : ℕ) : Type 0 where
   pub good : code ≡ 0 → Formed b
-  pub played : code ≡ 0 → (L : Limits) (s : State) → s .ais ≡ ais → plays L s b ≡ applies L 0 (fresh L ais) (requestsIn b (slotsOf b))
+  pub played : code ≡ 0 → (L : Limits) (s : State) → s .ais ≡ ais
+      → plays L s b ≡ applies L 0 (fresh L ais) (requestsIn b (slotsOf b))
   pub refused : (code ≡ 0 → ⊥) → (L : Limits) (s : State) → s .ais ≡ ais → plays L s b ≡ refuse code

@@ -1,38 +1,28 @@
 -- Reading and writing one byte of an image is reading and writing one of its places.
-use Prim.Native.Nat.{ℕ, zero, suc, _≤_, _<_}
-use mathlib.Core.Path.{_≡_, refl, sym, _∙_}
-use mathlib.Core.List.{List, [], _∷_, map}
-use native.Mathlib.Omega.{arith}
-use lib.ListN.{getD, set, take, replicate, length-take, List·getD-map, List·getD-eq-default}
-use lib.Seq.{set-out, take-set-lt, getD-take}
+use Rattle.numbers.proofs.Basics.{_≡_, refl, sym, _∙_, List, [], _∷_, map, ℕ, zero, suc, _≤_, _<_, arith, getD, set}
+use Rattle.numbers.proofs.Basics.{take, replicate, length-take, List·getD-map, List·getD-eq-default, set-out}
+use Rattle.numbers.proofs.Basics.{take-set-lt, getD-take}
 use Rattle.rules.specs.Bytes.{choose}
 use Rattle.rules.specs.State as rules
 use Rattle.rules.specs.Invariant.{All}
 use Rattle.rules.proofs.Lists.{all-set, all-get, all-replicate}
+use Rattle.numbers.proofs.Laws.{map-set, map-take}
 use Rattle.adapters.specs.declared.Place.{Place}
-use Rattle.adapters.specs.Values.{placeOf, unused, Canonical}
+use Rattle.adapters.specs.Values.{placeOf, Canonical}
 use Rattle.list_image.specs.Image.{packed, unpacked}
-use Rattle.list_image.proofs.Packed.{unpacked-unused, unpacked-packed}
+use Rattle.list_image.proofs.Packed.{unpacked-zero, unpacked-packed}
 use Rattle.list_image.specs.Places.{placesOf, AllCanonical}
-
-map-set : {A B : Type 0} (f : A → B) (l : List A) (i : ℕ) (a : A) → map f (set l i a) ≡ set (map f l) i (f a)
-map-set f [] i a = refl
-map-set f (x ∷ l) zero a = refl
-map-set f (x ∷ l) (suc i) a = rw (map-set f l i a)
 
 map-replicate : {A B : Type 0} (f : A → B) (n : ℕ) (a : A) → map f (replicate n a) ≡ replicate n (f a)
 map-replicate f zero a = refl
 map-replicate f (suc n) a = rw (map-replicate f n a)
 
-unpacked-none : unpacked 0 ≡ unused
-unpacked-none = unpacked-unused 0 (omega arith)
-
 place-none : placeOf (unpacked 0) ≡ rules.free
 unfolding placeOf choose
-place-none = rw unpacked-none
+place-none = rw unpacked-zero
 
 canonical-none : Canonical (unpacked 0)
-canonical-none = rw unpacked-none (record { unusedOne = λ e. refl; iscSmall = omega arith; maskedMaskable = λ e. e })
+canonical-none = rw unpacked-zero (record { unusedOne = λ e. refl; iscSmall = omega arith; maskedMaskable = λ e. e })
 
 -- an image of zeros
 pub places-none : (n : ℕ) → placesOf (replicate n 0) ≡ replicate n rules.free
@@ -76,11 +66,6 @@ all-take : {A : Type 0} (P : A → Type 0) (n : ℕ) (l : List A) → All P l �
 all-take P zero l h = tt
 all-take P (suc n) [] h = tt
 all-take P (suc n) (x ∷ l) h = (h .0, all-take P n l (h .1))
-
-map-take : {A B : Type 0} (f : A → B) (n : ℕ) (l : List A) → map f (take n l) ≡ take n (map f l)
-map-take f zero l = refl
-map-take f (suc n) [] = refl
-map-take f (suc n) (x ∷ l) = rw (map-take f n l)
 
 pub canonical-take : (n : ℕ) (image : List ℕ) → AllCanonical image → AllCanonical (take n image)
 unfolding AllCanonical

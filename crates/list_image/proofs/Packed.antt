@@ -1,11 +1,6 @@
 -- Packing a place and unpacking the byte.
-use Prim.Native.Nat.{ℕ, _+_, _*_, _/_, _%_, _<_, _≤_}
-use mathlib.Core.Path.{_≡_, refl, sym, _∙_}
-use mathlib.Core.Bool.{Bool, true, false}
-use mathlib.Core.List.{List, [], _∷_, map}
-use native.Mathlib.Omega.{arith}
-use borrow.Author.Tests.{lt-ltb, le-ltb, eq-eqb, ne-eqb}
-use lib.Dec.{eqb, ltb}
+use Rattle.numbers.proofs.Basics.{_≡_, refl, sym, _∙_, Bool, true, false, List, [], _∷_, map, ℕ, _+_, _*_, _/_, _%_}
+use Rattle.numbers.proofs.Basics.{_<_, _≤_, decLt, arith, eqb, lt-ltb, le-ltb, eq-eqb, ne-eqb}
 use Rattle.rules.specs.Bytes.{choose}
 use Rattle.rules.specs.MoveList.{oneIf}
 use Rattle.rules.specs.Invariant.{All}
@@ -37,12 +32,7 @@ unfolding unpacked choose
 unpacked-used b h = rw (le-ltb b 128 h)
 
 pub unpacked-isc : (b : ℕ) → unpacked b .isc .0 ≤ 7
-unfolding unpacked choose
-unpacked-isc b = go (ltb b 128) refl
-  where
-    go : (u : Bool) → ltb b 128 ≡ u → unpacked b .isc .0 ≤ 7
-    go true e = rw e (omega arith)
-    go false e = rw e (omega arith)
+unpacked-isc b = elim (decLt b 128) [ yes lt ↦ rw (unpacked-unused b lt) (omega arith) | no ge ↦ rw (unpacked-used b (omega arith)) (omega arith) ]
 
 flag-back : (n : ℕ) (a : Bool) → n ≡ oneIf a → eqb n 1 ≡ a
 flag-back n true e = eq-eqb n 1 e

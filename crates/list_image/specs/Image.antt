@@ -1,4 +1,5 @@
--- An adapter place as one byte. From the highest bit on: used, the subclass in three bits, maskable, swap, suppressible, masked. An unused place is 0.
+-- An adapter place as one byte. From the highest bit on: used, the subclass in three bits, maskable, swap,
+-- suppressible, masked. An unused place is 0.
 use Prim.Native.Nat.{ℕ, _+_, _*_, _/_, _%_}
 use mathlib.Core.Bool.{true}
 use lib.Dec.{eqb, ltb}
@@ -14,7 +15,8 @@ imageSize = 64
 unfoldable pub packed : Place → ℕ
 packed p =
     choose (p .used)
-    (128 + p .isc .0 % 8 * 16 + oneIf (p .maskable) * 8 + oneIf (p .swap) * 4 + oneIf (p .suppressible) * 2 + oneIf (p .masked))
+    (128 + p .isc .0 % 8 * 16 + oneIf (p .maskable) * 8 + oneIf (p .swap) * 4 + oneIf (p .suppressible) * 2
+    + oneIf (p .masked))
     0
 
 unfoldable pub unpacked : ℕ → Place

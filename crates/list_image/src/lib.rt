@@ -12,7 +12,7 @@ use numbers::AdapterId;
 use numbers::PLACES;
 use numbers::Subclass;
 
-// The place of an id among the first ones; an id without a place reads as free.
+// The place at an id below `places`. Any other id reads as free.
 pub fn look_up(image: &[u8; PLACES], places: u64, id: AdapterId) -> Place
     requires { ⌜ (places ≤ imageSize) × AllCanonical (now image) ⌝ }
     ensures { λ r. ⌜ (placeOf r ≡ getD (take places (placesOf (now (image .entry)))) (id .0) free) × Canonical r ⌝ }
@@ -25,7 +25,7 @@ pub fn look_up(image: &[u8; PLACES], places: u64, id: AdapterId) -> Place
     adapters::free_place()
 }
 
-// The place of an id among the first ones is this; an id without a place changes nothing.
+// Stores p at an id below `places`. For any other id nothing changes.
 pub fn put(image: &mut [u8; PLACES], places: u64, id: AdapterId, p: Place)
     requires { ⌜ (places ≤ imageSize) × AllCanonical (now image) × Canonical p ⌝ }
     ensures { λ _. ⌜ (take places (placesOf (now (image .exit))) ≡ set (take places (placesOf (now (image .entry)))) (id .0) (placeOf p)) × AllCanonical (now (image .exit)) ⌝ }
@@ -87,7 +87,7 @@ pub fn empty() -> [u8; PLACES]
     [0u8; PLACES]
 }
 
-// The place at an index of the image is this; an index past the end changes nothing.
+// Stores p at an index of the image. Past the end nothing changes.
 pub fn put_place(image: &mut [u8; PLACES], i: u64, p: Place)
     ensures { λ _. ⌜ now (image .exit) ≡ set (now (image .entry)) i (packed p) ⌝ }
 {

@@ -1,13 +1,9 @@
 -- Laws of bytes put one after another into a buffer, and of the entries of an image's adapters.
-use Prim.Native.Nat.{ℕ, suc, _+_, _*_, _/_, _%_, _^_, _≤_, _<_}
-use mathlib.Core.Path.{_≡_, refl, sym, ap, _∙_}
-use mathlib.Core.Bool.{Bool, true, false}
-use mathlib.Core.List.{List, [], _∷_, _++_, append-assoc, append-nil}
-use native.Mathlib.Nat.{add-zero, add-assoc, mul-add}
-use native.Mathlib.Numerals.{add-one}
-use native.Mathlib.Omega.{arith}
-use lib.ListN.{length, getD, take, drop, length-append, length-map, take-append-drop, drop-of-length-le, List·getD-map}
-use lib.Seq.{take-at, take-all, drop-at, drop-cons, drop-drop, length-take-le, paste}
+use Rattle.numbers.proofs.Basics.{_≡_, refl, sym, ap, _∙_, Bool, true, false, List, [], _∷_, _++_, append-assoc}
+use Rattle.numbers.proofs.Basics.{append-nil, ℕ, suc, _+_, _*_, _/_, _%_, _^_, _≤_, _<_, add-zero, add-assoc, mul-add}
+use Rattle.numbers.proofs.Basics.{add-one, arith, length, getD, take, drop, length-append, length-map}
+use Rattle.numbers.proofs.Basics.{take-append-drop, drop-of-length-le, List·getD-map, take-at, take-all, drop-at}
+use Rattle.numbers.proofs.Basics.{drop-cons, drop-drop, length-take-le, paste}
 use Rattle.rules.specs.Bytes.{choose, bytes}
 use Rattle.rules.specs.State as rules
 use Rattle.rules.specs.MoveList.{ListRequest, oneIf, byRisingId, registerRequest, modifyRequest, payloads, writtenTable}
@@ -145,36 +141,37 @@ module _ (modify : Bool) (i : ℕ) (image : List ℕ) (h : i < length image) whe
       ∙ rw (List·getD-map (λ b. placeOf (unpacked b)) image i 0, add-one i) in
       rw (k, add-one i) (by-place modify i here _)
 
-  -- a turn of the table's loop, and of the payloads'
-  module _ (on : Bool) (t : on ≡ isWritten modify here) (out out′ : List ℕ) (a : ℕ) where
+  -- a turn of the loops: how many are left, and the room for k bytes of each; then of the table's, and of the payloads'
+  module _ (on : Bool) (t : on ≡ isWritten modify here) where
     pub count-turn : length (eachFrom modify i image) ≡ oneIf on + length (eachFrom modify (i + 1) image)
     count-turn = rw (each-next, length-append, maybe-length (entryAt modify i here), t)
 
-    pub room-turn : (k n : ℕ) → a + k * length (eachFrom modify i image) ≤ n → a + k * oneIf on + k * length (eachFrom modify (i + 1) image) ≤ n
-    room-turn k n h = omega (arith, rw count-turn at h, mul-add k (oneIf on) (length (eachFrom modify (i + 1) image)))
+    pub room-turn : (a k n : ℕ) → a + k * length (eachFrom modify i image) ≤ n → a + k * oneIf on + k * length (eachFrom modify (i + 1) image) ≤ n
+    room-turn a k n h = omega (arith, rw count-turn at h, mul-add k (oneIf on) (length (eachFrom modify (i + 1) image)))
 
     size-is : length (payloads (maybe on (entryAt modify i here))) ≡ sizeOf modify * oneIf on
     size-is = rw (maybe-size (entryAt modify i here) on, length-payload modify i here)
 
-    pub slots-turn : (p : ℕ) → a + 24 * length (eachFrom modify i image) ≤ length out
-        → out′ ≡ put out a (choose on (five 8 p (groupOf modify) (sizeOf modify) 0 0) [])
-        → put out a (writtenTable p (eachFrom modify i image)) ≡ put out′ (a + 24 * oneIf on) (writtenTable (p + sizeOf modify * oneIf on) (eachFrom modify (i + 1) image))
-    slots-turn p r e =
-        let x = maybe on (entryAt modify i here) in
-        let k : writtenTable p x ≡ choose on (five 8 p (groupOf modify) (sizeOf modify) 0 0) [] = maybe-table (entryAt modify i here) on p ∙ rw (length-payload modify i here) in
-        let n : length (writtenTable p x) ≡ 24 * oneIf on = length-table p x ∙ rw (maybe-length (entryAt modify i here) on) in
-        let w : eachFrom modify i image ≡ x ++ eachFrom modify (i + 1) image = rw (each-next, t) in
-        rw (w, table-append p x (eachFrom modify (i + 1) image), size-is, e, ← k)
-        (sym (put-put out a (24 * oneIf on) (writtenTable p x) _ n (omega (arith, room-turn 24 (length out) r))))
+    now-next : eachFrom modify i image ≡ maybe on (entryAt modify i here) ++ eachFrom modify (i + 1) image
+    now-next = rw (each-next, t)
 
-    pub payloads-turn : a + sizeOf modify * length (eachFrom modify i image) ≤ length out → out′ ≡ put out a (choose on (payloadOf modify i here) [])
-        → put out a (payloads (eachFrom modify i image)) ≡ put out′ (a + sizeOf modify * oneIf on) (payloads (eachFrom modify (i + 1) image))
-    payloads-turn r e =
-        let x = maybe on (entryAt modify i here) in
-        let k : payloads x ≡ choose on (payloadOf modify i here) [] = maybe-payloads (entryAt modify i here) on in
-        let w : eachFrom modify i image ≡ x ++ eachFrom modify (i + 1) image = rw (each-next, t) in
-        rw (w, payloads-append x (eachFrom modify (i + 1) image), e, ← k)
-        (sym (put-put out a (sizeOf modify * oneIf on) (payloads x) _ size-is (omega (arith, room-turn (sizeOf modify) (length out) r))))
+    module _ (out out′ : List ℕ) (a : ℕ) where
+      pub slots-turn : (p : ℕ) → a + 24 * length (eachFrom modify i image) ≤ length out
+          → out′ ≡ put out a (choose on (five 8 p (groupOf modify) (sizeOf modify) 0 0) [])
+          → put out a (writtenTable p (eachFrom modify i image)) ≡ put out′ (a + 24 * oneIf on) (writtenTable (p + sizeOf modify * oneIf on) (eachFrom modify (i + 1) image))
+      slots-turn p r e =
+          let x = maybe on (entryAt modify i here) in
+          let k : writtenTable p x ≡ choose on (five 8 p (groupOf modify) (sizeOf modify) 0 0) [] = maybe-table (entryAt modify i here) on p ∙ rw (length-payload modify i here) in
+          let n : length (writtenTable p x) ≡ 24 * oneIf on = length-table p x ∙ rw (maybe-length (entryAt modify i here) on) in
+          rw (now-next, table-append p x (eachFrom modify (i + 1) image), size-is, e, ← k)
+          (sym (put-put out a (24 * oneIf on) (writtenTable p x) _ n (omega (arith, room-turn a 24 (length out) r))))
+
+      pub payloads-turn : a + sizeOf modify * length (eachFrom modify i image) ≤ length out → out′ ≡ put out a (choose on (payloadOf modify i here) [])
+          → put out a (payloads (eachFrom modify i image)) ≡ put out′ (a + sizeOf modify * oneIf on) (payloads (eachFrom modify (i + 1) image))
+      payloads-turn r e =
+          let x = maybe on (entryAt modify i here) in
+          rw (now-next, payloads-append x (eachFrom modify (i + 1) image), e, ← maybe-payloads (entryAt modify i here) on)
+          (sym (put-put out a (sizeOf modify * oneIf on) (payloads x) _ size-is (omega (arith, room-turn a (sizeOf modify) (length out) r))))
 
 -- the four bytes of REGISTER behind the id
 pub four-bytes : (a b c d : ℕ) → a < 256 → b ≤ 1 → c ≤ 1 → d ≤ 1 → bytes 4 (a * 16777216 + (b * 65536 + c * 256 + d)) ≡ a ∷ b ∷ c ∷ d ∷ []

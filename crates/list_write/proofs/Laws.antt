@@ -1,40 +1,23 @@
 -- Laws of a list's parts put one after another, and of what is counted of them.
-use Prim.Native.Nat.{ℕ, zero, suc, _+_, _-_, _*_, _/_, _%_, _^_, _≤_, _<_}
-use mathlib.Core.Path.{_≡_, refl, sym, ap, _∙_}
-use mathlib.Core.Bool.{Bool, true, false, _&&_, _||_}
-use mathlib.Core.List.{List, [], _∷_, _++_, flatten, append-assoc, append-nil}
-use native.Mathlib.Nat.{zero-add}
-use native.Mathlib.Omega.{arith}
-use lib.ListN.{length, getD, take, drop, length-append, length-take, length-drop, drop-of-length-le}
-use lib.Seq.{take-all, drop-drop}
-use lib.Dec.{ltb}
-use borrow.Author.Tests.{lt-ltb, le-leb, lt-leb}
-use Rattle.rules.specs.Bytes.{choose, bytes, byte, part}
-use Rattle.rules.specs.State.{Limits, State, Pending, Record, single, listing}
+use Rattle.numbers.proofs.Basics.{_≡_, refl, sym, ap, _∙_, Bool, true, false, _&&_, _||_, List, [], _∷_, _++_}
+use Rattle.numbers.proofs.Basics.{flatten, append-assoc, append-nil, ℕ, _+_, _-_, _*_, _/_, _%_, _^_, _≤_, _<_}
+use Rattle.numbers.proofs.Basics.{zero-add, arith, length, take, drop, length-append, length-drop, drop-of-length-le}
+use Rattle.numbers.proofs.Basics.{take-all, drop-drop, ltb, lt-ltb, le-leb, lt-leb}
+use Rattle.rules.specs.Bytes.{choose, bytes}
+use Rattle.rules.specs.State.{Limits, State, Pending, Record, listing}
 use Rattle.rules.specs.Outcome.{result}
 use Rattle.rules.specs.Requests.{nonZero}
 use Rattle.rules.specs.MoveList.{ListRequest, oneIf, byRisingId, registerRequest, modifyRequest, enqueueRequest, aismAllRequest, apfRequest, listRequests, payloads, writtenTable, total, moveList, writes}
 use Rattle.rules.proofs.Checks.{passes, fails}
-use Rattle.rules.specs.Invariant.{All}
 use Rattle.rules.specs.Machine.{answerOf}
-use Rattle.rules.proofs.Lists.{all-append}
 use Rattle.rules.proofs.Decode.{length-table}
-use Rattle.rules.proofs.Reachable.{length-records}
-use Rattle.rules.specs.Invariant as invariant
 use Rattle.answers.specs.declared.Answer.{Answer}
 use Rattle.answers.specs.Answers.{Answers, answered}
-use Rattle.store_queues.specs.Slots.{slotCount}
-use Rattle.store_queues.proofs.Slots.{length-slot}
-use Rattle.store_queues.specs.Queues.{queues, Held}
-use Rattle.store_queues.proofs.Laws.{all-queued}
-use Rattle.store_singles.specs.Singles.{ifThere, serviceOf, mchkOf}
-use Rattle.store.specs.Memory.{pendingOf}
-use Rattle.record_take.proofs.Laws.{listing-is}
 use Rattle.adapters.specs.declared.Device.{Device}
 use Rattle.adapters.specs.Values.{deviceOf}
 use Rattle.list_image.specs.Places.{placesOf}
 use Rattle.list_write.specs.Parts.{put, five, each}
-use Rattle.list_write.proofs.Entries.{put-put, length-five, maybe-length, maybe-payloads, maybe-size, maybe-table, payloads-append, table-append, each-size}
+use Rattle.list_write.proofs.Entries.{put-put, length-five, maybe, maybe-length, maybe-payloads, maybe-size, maybe-table, payloads-append, table-append, each-size}
 use Rattle.list_write.specs.declared.Parts.{Parts}
 use Rattle.list_write.specs.Write.{maskEntry, adapterEntries, otherEntries, entriesFrom, otherCount, countOf, bytesOf, Counted, Whole}
 
@@ -54,62 +37,42 @@ module _ (b o o′ : List ℕ) (at : ℕ) (es fs : List ListRequest) where
       → o′ ≡ put b at (payloads (es ++ fs))
   payloads-next m j em h ej p q = put-next b o o′ at m j (payloads es) (payloads fs) em h ej p q ∙ rw (payloads-append es fs)
 
--- ---- ENQUEUE, AISM_ALL, APF_ENABLE
-module _ (rs : List Record) (n : ℕ) (w : Whole rs n) where
-  pub enqueue-table : (at : ℕ) → writtenTable at (enqueueRequest rs) ≡ choose (ltb 0 n) (five 8 at 2 (72 * n) 0 (72 * n)) []
-  unfolding enqueueRequest writtenTable choose
-  enqueue-table at = go rs (w .count) (w .size)
-    where
-      go : (rs : List Record) → length rs ≡ n → length (flatten rs) ≡ 72 * n
-          → writtenTable at (enqueueRequest rs) ≡ choose (ltb 0 n) (five 8 at 2 (72 * n) 0 (72 * n)) []
-      go [] c z = rw (← c)
-      go (r ∷ rs) c z = rw (lt-ltb 0 n (omega arith), c, z, append-nil)
+-- ---- ENQUEUE, AISM_ALL, APF_ENABLE: each is one entry or none
+abbrev ofRecords : List Record → ListRequest
+ofRecords rs = record { group = 2; attr = 72 * length rs; payload = flatten rs }
 
-  pub enqueue-count : length (enqueueRequest rs) ≡ oneIf (ltb 0 n)
-  unfolding enqueueRequest
-  enqueue-count = go rs (w .count)
-    where
-      go : (rs : List Record) → length rs ≡ n → length (enqueueRequest rs) ≡ oneIf (ltb 0 n)
-      go [] c = rw (← c)
-      go (r ∷ rs) c = rw (lt-ltb 0 n (omega arith))
+abbrev ofMasks : ℕ → ℕ → ListRequest
+ofMasks simm nimm = record { group = 11; attr = 0; payload = simm ∷ nimm ∷ [] }
 
-  pub enqueue-payloads : payloads (enqueueRequest rs) ≡ flatten rs
-  unfolding enqueueRequest payloads flatten
-  enqueue-payloads = go rs
-    where
-      go : (rs : List Record) → payloads (enqueueRequest rs) ≡ flatten rs
-      go [] = refl
-      go (r ∷ rs) = append-nil (flatten (r ∷ rs))
+abbrev ofApf : ListRequest
+ofApf = record { group = 4; attr = 0; payload = [] }
 
-  pub enqueue-size : length (payloads (enqueueRequest rs)) ≡ 72 * n
-  enqueue-size = rw enqueue-payloads (w .size)
+enqueue-is : (rs : List Record) (n : ℕ) → length rs ≡ n → enqueueRequest rs ≡ maybe (ltb 0 n) (ofRecords rs)
+unfolding enqueueRequest choose
+enqueue-is [] n e = rw (← e)
+enqueue-is (r ∷ rs) n e = rw (lt-ltb 0 n (omega arith))
 
-pub mask-table : (masks : Bool) (simm nimm at : ℕ) → writtenTable at (maskEntry masks simm nimm) ≡ choose masks (five 8 at 11 2 0 0) []
-mask-table masks simm nimm at = maybe-table (record { group = 11; attr = 0; payload = simm ∷ nimm ∷ [] }) masks at
+apf-is : (apf : Bool) → apfRequest apf ≡ maybe apf ofApf
+unfolding apfRequest choose
+apf-is true = refl
+apf-is false = refl
 
-pub mask-payloads : (masks : Bool) (simm nimm : ℕ) → payloads (maskEntry masks simm nimm) ≡ choose masks (simm ∷ nimm ∷ []) []
-mask-payloads masks simm nimm = maybe-payloads (record { group = 11; attr = 0; payload = simm ∷ nimm ∷ [] }) masks
-
-pub mask-count : (masks : Bool) (simm nimm : ℕ) → length (maskEntry masks simm nimm) ≡ oneIf masks
-mask-count masks simm nimm = maybe-length (record { group = 11; attr = 0; payload = simm ∷ nimm ∷ [] }) masks
-
-pub mask-size : (masks : Bool) (simm nimm : ℕ) → length (payloads (maskEntry masks simm nimm)) ≡ 2 * oneIf masks
-mask-size masks simm nimm = maybe-size (record { group = 11; attr = 0; payload = simm ∷ nimm ∷ [] }) masks
-
-pub apf-table : (apf : Bool) (at : ℕ) → writtenTable at (apfRequest apf) ≡ choose apf (five 8 at 4 0 0 0) []
-unfolding apfRequest choose writtenTable
-apf-table true at = rw append-nil
-apf-table false at = refl
-
-apf-count : (apf : Bool) → length (apfRequest apf) ≡ oneIf apf
-unfolding apfRequest
-apf-count true = refl
-apf-count false = refl
-
-pub apf-payloads : (apf : Bool) → payloads (apfRequest apf) ≡ []
+none-of-apf : (apf : Bool) → payloads (apfRequest apf) ≡ []
 unfolding apfRequest payloads
-apf-payloads true = refl
-apf-payloads false = refl
+none-of-apf true = refl
+none-of-apf false = refl
+
+enqueue-payloads : (rs : List Record) → payloads (enqueueRequest rs) ≡ flatten rs
+unfolding enqueueRequest payloads flatten
+enqueue-payloads [] = refl
+enqueue-payloads (r ∷ rs) = append-nil (flatten (r ∷ rs))
+
+module _ (rs : List Record) (n : ℕ) (w : Whole rs n) where
+  enqueue-count : length (enqueueRequest rs) ≡ oneIf (ltb 0 n)
+  enqueue-count = rw (enqueue-is rs n (w .count)) (maybe-length (ofRecords rs) (ltb 0 n))
+
+  enqueue-size : length (payloads (enqueueRequest rs)) ≡ 72 * n
+  enqueue-size = rw (enqueue-payloads rs) (w .size)
 
 -- ---- how many they are, and how long
 module _ (image : List ℕ) (p : Parts) (k : Counted image p) where
@@ -132,13 +95,13 @@ module _ (image : List ℕ) (p : Parts) (k : Counted image p) where
     unfolding otherEntries
     others-count =
         simp length-append
-        (omega (arith, enqueue-count rs (p .records) w, mask-count (p .masks) simm nimm, apf-count (p .apf)))
+        (omega (arith, enqueue-count rs (p .records) w, maybe-length (ofMasks simm nimm) (p .masks), ap length (apf-is (p .apf)), maybe-length ofApf (p .apf)))
 
     others-size : length (payloads (otherEntries rs (p .masks) simm nimm (p .apf))) ≡ 72 * p .records + 2 * oneIf (p .masks)
     unfolding otherEntries
     others-size =
         simp (payloads-append, length-append)
-        (omega (arith, enqueue-size rs (p .records) w, mask-size (p .masks) simm nimm, ap length (apf-payloads (p .apf))))
+        (omega (arith, enqueue-size rs (p .records) w, maybe-size (ofMasks simm nimm) (p .masks), ap length (none-of-apf (p .apf))))
 
     pub entries-count : length (entriesFrom image rs (p .masks) simm nimm (p .apf)) ≡ countOf p
     entries-count = rw (length-append, adapters-count, others-count)
@@ -147,26 +110,7 @@ module _ (image : List ℕ) (p : Parts) (k : Counted image p) where
     entries-size =
         rw (payloads-append (adapterEntries image) (otherEntries rs (p .masks) simm nimm (p .apf)), length-append, adapters-size, others-size) (omega arith)
 
--- ---- the listing: its records are whole, and where it is put
-one-whole : (n : ℕ) (r : Record) → length r ≡ 72 → All invariant.Whole (single (ifThere n r))
-unfolding ifThere
-one-whole zero r h = tt
-one-whole (suc n) r h = (h, tt)
-
-length-part : (at : ℕ) (g : List ℕ) → at + 72 ≤ length g → length (part at 72 g) ≡ 72
-length-part at g h = simp (length-take, length-drop) (omega arith)
-
-pub whole-listing : (o c b g : List ℕ) (n : ℕ) → Held o c → ((k : ℕ) → getD o k 0 < slotCount) → slotCount * 72 ≤ length b → length g ≡ 146
-    → n ≡ length (listing (pendingOf o c b g)) → Whole (listing (pendingOf o c b g)) n
-unfolding serviceOf mchkOf
-whole-listing o c b g n h f m q e =
-    let every : All invariant.Whole (listing (pendingOf o c b g)) =
-    rw (listing-is o c b g h)
-    (all-append invariant.Whole (flatten (queues o c b) ++ single (serviceOf g)) (single (mchkOf g))
-    (all-append invariant.Whole (flatten (queues o c b)) (single (serviceOf g)) (all-queued invariant.Whole b o c (λ k. length-slot 72 slotCount b (getD o k 0) (f k) m)) (one-whole (byte 144 g) (part 0 72 g) (length-part 0 g (omega arith))))
-    (one-whole (byte 145 g) (part 72 72 g) (length-part 72 g (omega arith)))) in
-    record { count = sym e; size = length-records _ every ∙ ap (λ (x : ℕ). 72 * x) (sym e) }
-
+-- ---- where the listing is put
 pub listing-put : (b ys fs : List ℕ) (at n : ℕ) → at + n ≤ length b → length fs ≡ n → ys ≡ fs ++ drop n (take (length b - at) (drop at b))
     → take at b ++ (ys ++ drop (length b - at) (drop at b)) ≡ put b at fs
 unfolding put
@@ -235,11 +179,11 @@ module _ (p : Parts) (rs : List Record) (simm nimm : ℕ) (w : Whole rs (p .reco
       let c = enqueue-count rs (p .records) w in
       let z = enqueue-size rs (p .records) w in
       let g₂ = table-next o₀ o₁ o₂ at E M pay _ _ (at + 24 * q) (pay + 72 * p .records) c z (omega arith) (omega arith) refl
-      (rw (enqueue-table rs (p .records) w pay) f) (rw (mask-table (p .masks) simm nimm (pay + 72 * p .records)) g) in
-      let d : length (E ++ M) ≡ oneIf (ltb 0 (p .records)) + oneIf (p .masks) = rw (length-append, c, mask-count (p .masks) simm nimm) in
-      let y : length (payloads (E ++ M)) ≡ 72 * p .records + 2 * oneIf (p .masks) = rw (payloads-append E M, length-append, z, mask-size (p .masks) simm nimm) in
+      (rw (enqueue-is rs (p .records) (w .count), maybe-table (ofRecords rs) (ltb 0 (p .records)) pay, w .size, w .count) f) (rw (maybe-table (ofMasks simm nimm) (p .masks) (pay + 72 * p .records)) g) in
+      let d : length (E ++ M) ≡ oneIf (ltb 0 (p .records)) + oneIf (p .masks) = rw (length-append, c, maybe-length (ofMasks simm nimm) (p .masks)) in
+      let y : length (payloads (E ++ M)) ≡ 72 * p .records + 2 * oneIf (p .masks) = rw (payloads-append E M, length-append, z, maybe-size (ofMasks simm nimm) (p .masks)) in
       table-next o₀ o₂ o₃ at (E ++ M) (apfRequest (p .apf)) pay _ _ (at + 24 * q + 24 * m) (pay + 72 * p .records + 2 * m) d y (omega arith) (omega arith) (omega arith) g₂
-      (rw (apf-table (p .apf) (pay + 72 * p .records + 2 * m)) k)
+      (rw (apf-is (p .apf), maybe-table ofApf (p .apf) (pay + 72 * p .records + 2 * m)) k)
       ∙ ap (λ (es : List ListRequest). put o₀ at (writtenTable pay es)) (append-assoc E M (apfRequest (p .apf)))
 
   pub payloads-put : (image : List ℕ) → Counted image p → (start : ℕ) (o₀ o₁ o₂ o₃ o₄ : List ℕ) → start + bytesOf p ≤ length o₀
@@ -254,7 +198,7 @@ module _ (p : Parts) (rs : List Record) (simm nimm : ℕ) (w : Whole rs (p .reco
       let M = maskEntry (p .masks) simm nimm in
       let s = adapters-size image p k in
       let g₂ = payloads-next o₀ o₁ o₂ start (each false image) (each true image) _ _ (registers-size image p k) (omega arith) refl f g in
-      let g₃ = payloads-next o₀ o₂ o₃ start A E _ (start + 8 * p .registers + 16 * p .modifies) s (omega arith) (omega arith) g₂ (rw (enqueue-payloads rs (p .records) w) i) in
+      let g₃ = payloads-next o₀ o₂ o₃ start A E _ (start + 8 * p .registers + 16 * p .modifies) s (omega arith) (omega arith) g₂ (rw (enqueue-payloads rs) i) in
       let y : length (payloads (A ++ E)) ≡ 8 * p .registers + 16 * p .modifies + 72 * p .records = rw (payloads-append A E, length-append, s, enqueue-size rs (p .records) w) in
-      payloads-next o₀ o₃ o₄ start (A ++ E) M _ (start + 8 * p .registers + 16 * p .modifies + 72 * p .records) y (omega arith) (omega arith) g₃ (rw (mask-payloads (p .masks) simm nimm) j)
-      ∙ ap (put o₀ start) (simp (payloads-append, apf-payloads, append-nil, append-assoc))
+      payloads-next o₀ o₃ o₄ start (A ++ E) M _ (start + 8 * p .registers + 16 * p .modifies + 72 * p .records) y (omega arith) (omega arith) g₃ (rw (maybe-payloads (ofMasks simm nimm) (p .masks)) j)
+      ∙ ap (put o₀ start) (simp (payloads-append, none-of-apf, append-nil, append-assoc))

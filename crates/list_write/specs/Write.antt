@@ -64,6 +64,6 @@ pub record Whole (rs : List Record) (n : ℕ) : Type 0 where
 
 -- writing a list, of what is pending, with the table as an image and the device record by value
 pub record Written (ais : Bool) (d : Device) (image : List ℕ) (p : Pending) (b b′ : List ℕ) (r : Answer) : Type 0 where
-  pub answer : (L : Limits) (s : State) → s .ais ≡ ais → s .adapters ≡ placesOf image → s .pending ≡ p → s .device ≡ deviceOf d
-      → Answers L s b (writes s b) r s b′
+  pub answer : (L : Limits) (s : State) → s .ais ≡ ais → s .adapters ≡ placesOf image → s .pending ≡ p
+      → s .device ≡ deviceOf d → Answers L s b (writes s b) r s b′
   pub kept : (r .code ≡ 0 → ⊥) → b′ ≡ b

@@ -12,8 +12,8 @@ ghost use Rattle.rules.specs.State.{Record, recordBytes, listing};
 ghost use Rattle.rules.specs.Requests.{nonZero};
 ghost use Rattle.store_queues.specs.Queues.{Held};
 ghost use Rattle.store.specs.Memory.{pendingOf};
-ghost use Rattle.list_write.specs.Write.{adapterEntries, otherEntries, entriesFrom, otherCount, countOf, bytesOf, mostEntries, mostPayload, Counted, Whole, Written};
-ghost use Rattle.store_queues.specs.Slots.{slotCount, mostPending};
+ghost use Rattle.list_write.specs.Write.{otherEntries, entriesFrom, otherCount, countOf, bytesOf, mostEntries, mostPayload, Counted, Whole, Written};
+ghost use Rattle.store_queues.specs.Slots.{mostPending};
 ghost use Rattle.store.specs.Lent.{before};
 use adapters::Device;
 use adapters::Place;
@@ -175,21 +175,6 @@ fn has_masks(ais: bool, device: Device) -> bool
     device.nimm != 0
 }
 
-// How many records are pending; all are whole.
-fn records_pending(
-    slots: &[u8],
-    order: &[u8],
-    counts: &[usize; COUNTS],
-    singles: &[u8; SINGLES_BYTES],
-) -> usize
-    requires { ⌜ Held (now order) (now counts) × (length (now slots) ≡ slotCount * 72) ⌝ }
-    ensures { λ r. ⌜ Whole (listing (before order counts slots singles)) r × (r ≤ mostPending) ⌝ }
-{
-    // as a slice: what makes one of an array says its length
-    let _g: &[u8] = singles;
-    record_take::pending(counts, singles)
-}
-
 fn entry_count(p: Parts) -> usize
     requires { ⌜ (p .registers ≤ imageSize) × (p .modifies ≤ imageSize) ⌝ }
     ensures { λ r. ⌜ (r ≡ countOf p) × (r ≤ mostEntries) ⌝ }
@@ -205,17 +190,6 @@ fn payload_bytes(p: Parts) -> usize
     ensures { λ r. ⌜ (r ≡ bytesOf p) × (r ≤ mostPayload) ⌝ }
 {
     8 * p.registers + 16 * p.modifies + 72 * p.records + 2 * list_form::flag_of(p.masks) as usize
-}
-
-// The table entries of the adapters, the first payload at start.
-fn put_adapters(out: &mut [u8], start: usize, image: [u8; PLACES], p: Parts)
-    requires { ⌜ Counted image p × (start ≤ payloadOffset mostEntries) × (headerBytes + tableEntryBytes * (p .registers + p .modifies) ≤ length (now out)) ⌝ }
-    ensures { λ _. ⌜ now (out .exit) ≡ put (now (out .entry)) headerBytes (writtenTable start (adapterEntries image)) ⌝ }
-{
-    put_slots(out, 20, start, image, false);
-    let at = 20 + 24 * p.registers;
-    let pay = start + 8 * p.registers;
-    put_slots(out, at, pay, image, true);
 }
 
 // The table entries of ENQUEUE, AISM_ALL and APF_ENABLE, the first payload at pay.
@@ -238,10 +212,11 @@ fn put_table(out: &mut [u8], start: usize, image: [u8; PLACES], p: Parts)
     requires { ⌜ Counted image p × (start ≤ payloadOffset mostEntries) × (headerBytes + tableEntryBytes * countOf p ≤ length (now out)) ⌝ }
     ensures { λ _. ⌜ ((rs : List Record) (simm nimm : ℕ) → Whole rs (p .records) → now (out .exit) ≡ put (now (out .entry)) headerBytes (writtenTable start (entriesFrom image rs (p .masks) simm nimm (p .apf)))) ⌝ }
 {
-    let at = 20 + 24 * (p.registers + p.modifies);
-    let pay = start + 8 * p.registers + 16 * p.modifies;
-    put_adapters(out, start, image, p);
-    put_others(out, at, pay, p);
+    put_slots(out, 20, start, image, false);
+    let at = 20 + 24 * p.registers;
+    let pay = start + 8 * p.registers;
+    put_slots(out, at, pay, image, true);
+    put_others(out, at + 24 * p.modifies, pay + 16 * p.modifies, p);
 }
 
 // The listing, from index at on.
@@ -311,7 +286,7 @@ pub fn write_list(
     let p = Parts {
         registers: count(image, false),
         modifies: count(image, true),
-        records: records_pending(slots, order, counts, singles),
+        records: record_take::pending_whole(slots, order, counts, singles),
         masks: has_masks(ais, device),
         apf: device.apf,
     };

@@ -1,12 +1,6 @@
--- What a played list prints. Assumes nothing.
-use mathlib.Core.Path.{_≡_, refl, sym, ap, _∙_}
-use mathlib.Core.List.{List, _++_}
-use Prim.Native.Nat.{ℕ, _≤_, _<_}
-use native.Mathlib.Nat.{zero-add}
-use borrow.Author.Tests.{lt-ltb, le-ltb}
-use lib.ListN.{length, take, drop}
-use lib.Dec.{eqb}
-use lib.Seq.{take-length, length-take-le}
+-- What a played list prints.
+use Rattle.numbers.proofs.Basics.{_≡_, sym, _∙_, List, _++_, ℕ, _≤_, _<_, zero-add, length, take, drop, take-length}
+use Rattle.numbers.proofs.Basics.{length-take-le, eqb, lt-ltb, le-ltb}
 use Rattle.rules.specs.Bytes.{choose}
 use Rattle.rules.specs.State.{Pending, listing}
 use Rattle.rules.specs.Listing.{shown, refusal, told, mostBytes, printed}

@@ -1,31 +1,18 @@
--- Laws of text that is written piece by piece, and of digits. Assumes nothing.
-use mathlib.Core.Path.{_≡_, refl, sym, ap, _∙_}
-use mathlib.Core.Bool.{Bool, true, false}
-use mathlib.Core.List.{List, [], _∷_, _++_, flatten, append-assoc, append-nil}
-use Prim.Native.Nat.{ℕ, zero, suc, _+_, _-_, _*_, _/_, _%_, _^_, _≤_, _<_}
-use native.Mathlib.Nat.{zero-add, add-zero, add-assoc, pow-suc, div-div-eq-div-mul, div-lt-iff-lt-mul}
-use native.Mathlib.Numerals.{add-one}
-use native.Mathlib.Omega.{arith}
-use borrow.Author.Tests.{lt-ltb, le-ltb}
-use lib.ListN.{length, take, drop, set, length-append, length-take, length-drop, getD}
-use lib.Dec.{ltb}
-use lib.Seq.{take-all, take-at, drop-at, take-paste, drop-paste, drop-drop, paste, length-paste}
-use Rattle.rules.specs.Bytes.{choose, byte, part, field}
-use Rattle.rules.specs.State.{Record, Kind, kind, subclass, interruptionWord, single, listing}
+-- Laws of text that is written piece by piece, and of digits.
+use Rattle.numbers.proofs.Basics.{_≡_, refl, sym, ap, _∙_, Bool, true, false, List, [], _∷_, _++_, flatten}
+use Rattle.numbers.proofs.Basics.{append-assoc, append-nil, ℕ, zero, suc, _+_, _-_, _*_, _/_, _^_, _≤_, _<_, zero-add}
+use Rattle.numbers.proofs.Basics.{add-zero, add-assoc, pow-suc, div-lt-iff-lt-mul, add-one, arith, length, take, drop}
+use Rattle.numbers.proofs.Basics.{length-append, take-all, take-at, drop-at, take-paste, drop-paste, drop-drop}
+use Rattle.numbers.proofs.Basics.{length-paste, ltb, lt-ltb, le-ltb}
+use Rattle.rules.specs.Bytes.{choose, part, field}
+use Rattle.rules.specs.State.{Record, Kind, kind, subclass, interruptionWord}
 use Rattle.rules.specs.Requests.{recordsIn}
-use Rattle.rules.specs.Listing.{ascii, digit, digits, digitCount, decimal, hex8, line, name, ofIo, recordLine, linesFrom}
-use Rattle.rules.specs.Invariant.{All}
-use Rattle.rules.proofs.Lists.{all-append}
-use Rattle.numbers.proofs.Laws.{paste-front}
-use Rattle.store_queues.specs.Slots.{slot}
-use Rattle.store_queues.specs.Queues.{queues, Held}
-use Rattle.store_queues.proofs.Laws.{all-queued}
-use Rattle.store_singles.specs.Singles.{ifThere, serviceOf, mchkOf}
-use Rattle.store.specs.Memory.{pendingOf}
+use Rattle.rules.specs.Listing.{ascii, digits, digitCount, decimal, hex8, line, name, ofIo, recordLine, linesFrom}
+use Rattle.rules.specs.Invariant.{All, Whole}
+use Rattle.numbers.proofs.Laws.{field-part}
 use Rattle.record_add.specs.declared.Kind.{Kind as Case}
 use Rattle.record_add.specs.Cases.{asCase}
-use Rattle.record_add.proofs.Laws.{field-part, kind-known, kindFor}
-use Rattle.record_take.proofs.Laws.{listing-is}
+use Rattle.record_add.proofs.Laws.{kind-known, kindFor}
 use Rattle.listing_text.specs.Wrote.{Wrote}
 
 -- the buffer is as long as it was
@@ -51,18 +38,6 @@ pub length-digits : (base n v : ℕ) → length (digits base n v) ≡ n
 unfolding digits
 length-digits base zero v = refl
 length-digits base (suc n) v = ap suc (length-digits base n v)
-
--- a turn of spell
-pub spell-turn : (b d : List ℕ) (at base n i v w : ℕ) → 0 < i → i ≤ n → at + n ≤ length d → w ≡ v / base ^ (n - i)
-    → b ≡ paste d (at + i) (digits base (n - i) v) (n - i)
-    → (w / base ≡ v / base ^ (n - (i - 1))) × (set b (at + (i - 1)) (digit (w % base)) ≡ paste d (at + (i - 1)) (digits base (n - (i - 1)) v) (n - (i - 1)))
-unfolding digits
-spell-turn b d at base n i v w h k f ew eb =
-    let p : at + i ≡ at + (i - 1) + 1 = omega arith in
-    let q : n - (i - 1) ≡ suc (n - i) = omega arith in (
-      rw (ew, q, pow-suc) (div-div-eq-div-mul v (base ^ (n - i)) base),
-      rw (eb, ew, p, q) (paste-front d (at + (i - 1)) (digits base (n - i) v) (n - i) _ 0 (omega arith)),
-    )
 
 -- sizes
 pub size-one : (n v : ℕ) → v < 10 → digitCount n v ≡ 1
@@ -110,12 +85,12 @@ other-text n t = simp append-assoc
 -- the line of a record within bytes, with what the code has read of it
 module _ (place from t : ℕ) (b : List ℕ) (et : t ≡ field from 8 b) where
   type-is : field 0 8 (part from 72 b) ≡ t
-  type-is = field-part 0 8 from b (omega arith) ∙ rw (add-zero, et)
+  type-is = field-part 0 8 72 from b (omega arith) ∙ rw (add-zero, et)
 
   pub io-line : (isc w : ℕ) → kind (part from 72 b) ≡ Kind.io → isc ≡ subclass (part from 72 b) → w ≡ field (from + 16) 4 b
       → decimal place ++ ascii " " ++ line (ascii "io" ∷ decimal isc ∷ hex8 t ∷ hex8 w ∷ []) ≡ recordLine place (part from 72 b)
   unfolding recordLine line name ofIo
-  io-line isc w k ei ew = rw (k, type-is, field-part 16 4 from b (omega arith), ← ew, ← ei) (append-assoc (decimal place) (ascii " ") _)
+  io-line isc w k ei ew = rw (k, type-is, field-part 16 4 72 from b (omega arith), ← ew, ← ei) (append-assoc (decimal place) (ascii " ") _)
 
   pub other-line : (x y : Case) → x ≡ asCase (kind (part from 72 b)) (subclass (part from 72 b)) → x ≡ y → ((w : List ℕ) → ofIo (kindFor y) w ≡ ascii "-")
       → decimal place ++ ascii " " ++ line (name (kindFor y) ∷ ascii "-" ∷ hex8 t ∷ ascii "-" ∷ []) ≡ recordLine place (part from 72 b)
@@ -138,54 +113,8 @@ pub lines-next : (i : ℕ) (b : List ℕ) → linesFrom 0 (recordsIn i b) ++ rec
 lines-next i b = rw add-one (rw zero-add at (lines-more 0 i b))
 
 -- ---- the listing as bytes, and back
-abbrev Whole : Record → Type 0
-Whole r = length r ≡ 72
-
-records-listed : (rs : List Record) (d : List ℕ) (n : ℕ) → n ≡ length rs → All Whole rs → recordsIn n (flatten rs ++ d) ≡ rs
+pub records-listed : (rs : List Record) (d : List ℕ) (n : ℕ) → n ≡ length rs → All Whole rs → recordsIn n (flatten rs ++ d) ≡ rs
 unfolding flatten recordsIn
 records-listed [] d n e h = rw e
 records-listed (r ∷ rs) d n e h =
     rw (e, append-assoc r (flatten rs) d, take-at r (flatten rs ++ d) 72 (h .0), drop-at r (flatten rs ++ d) 72 (h .0), records-listed rs d (length rs) refl (h .1))
-
--- no record is longer, and together they are as long as they can be
-abbrev Short : Record → Type 0
-Short r = length r ≤ 72
-
-short-flatten : (rs : List Record) → All Short rs → length (flatten rs) ≤ 72 * length rs
-unfolding flatten
-short-flatten [] h = omega arith
-short-flatten (r ∷ rs) h = omega (arith, length-append r (flatten rs), short-flatten rs (h .1), h .0)
-
-short-whole : (rs : List Record) → All Short rs → length (flatten rs) ≡ 72 * length rs → All Whole rs
-unfolding flatten
-short-whole [] h e = tt
-short-whole (r ∷ rs) h e =
-    let n = length-append r (flatten rs) in
-    let m = short-flatten rs (h .1) in
-    (omega (arith, h .0), short-whole rs (h .1) (omega (arith, h .0)))
-
-short-take : (l : List ℕ) → Short (take 72 l)
-short-take l = omega (arith, length-take 72 l)
-
-short-single : (n : ℕ) (l : List ℕ) → All Short (single (ifThere n (take 72 l)))
-unfolding ifThere
-short-single zero l = tt
-short-single (suc n) l = (short-take l, tt)
-
-short-listing : (o c b g : List ℕ) → Held o c → All Short (listing (pendingOf o c b g))
-unfolding serviceOf mchkOf slot
-short-listing o c b g h =
-    rw (listing-is o c b g h)
-    (all-append Short (flatten (queues o c b) ++ single (serviceOf g)) (single (mchkOf g))
-    (all-append Short (flatten (queues o c b)) (single (serviceOf g)) (all-queued Short b o c (λ k. short-take (drop (getD o k 0 * 72) b))) (short-single (byte 144 g) (drop 0 g)))
-    (short-single (byte 145 g) (drop 72 g)))
-
--- the records that list_all has written
-pub listing-back : (o c b g d e : List ℕ) (n : ℕ) → Held o c → length e ≡ length d → 72 * n ≤ length d
-    → let rs = listing (pendingOf o c b g) in
-    n ≡ length rs → e ≡ flatten rs ++ drop (72 * length rs) d → recordsIn n e ≡ rs
-listing-back o c b g d e n h l f en w =
-    let rs = listing (pendingOf o c b g) in
-    let m : length (flatten rs) ≡ 72 * length rs =
-    omega (arith, ap length w, length-append (flatten rs) (drop (72 * length rs) d), length-drop (72 * length rs) d) in
-    rw w (records-listed rs _ n en (short-whole rs (short-listing o c b g h) m))

@@ -1,4 +1,5 @@
--- Text written into a lent buffer from an index: where it ends, and the buffer then. The bytes before and after it stay.
+-- Text written into a lent buffer from an index: where it ends, and the buffer afterwards. The bytes before and after
+-- the text stay.
 use Prim.Native.Nat.{ℕ, _+_, _≤_}
 use mathlib.Core.Path.{_≡_}
 use mathlib.Core.List.{List}

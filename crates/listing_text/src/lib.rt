@@ -169,7 +169,7 @@ pub fn write_pending(
     ensures { λ r. ⌜ Wrote (now (out .entry)) (now (out .exit)) 0 (shown (listing (before order counts slots singles))) r ⌝ }
 {
     let mut records = [0u8; LISTING_BYTES];
-    let n = record_take::pending(counts, singles);
+    let n = record_take::pending_whole(slots, order, counts, singles);
     record_take::list_all(slots, order, counts, singles, &mut records);
     let at = write_number(out, b"pending", n as u64);
     write_records(out, at, &records, n)
@@ -185,8 +185,8 @@ pub fn write_refusal(out: &mut [u8; TEXT_BYTES], code: u32) -> usize
 // The longest input that is played.
 pub const MOST_BYTES: usize = 65536;
 
-// Plays the list in input on a fresh controller of its flag and writes the listing, or its refusal, from the start of out.
-// Answers the length of the text.
+// Plays the list in input on a fresh controller of its flag. Writes the listing, or the refusal, from the start of out,
+// and answers the length of the text.
 pub fn print_list(input: &[u8], out: &mut [u8; TEXT_BYTES]) -> usize
     ensures text { λ r. ⌜ (r ≡ length (printed (now (input .entry)))) × (now (out .exit) ≡ printed (now (input .entry)) ++ drop r (now (out .entry))) ⌝ }
     ensures fits { λ r. ⌜ (r ≤ length (now (out .exit))) × (r ≡ length (take r (now (out .exit)))) ⌝ }

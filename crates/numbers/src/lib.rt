@@ -1,4 +1,5 @@
-// Inner crate: group numbers, the limits, kinds of small numbers that must not be confused, big-endian numbers, and records of 72 bytes.
+// Inner crate: group numbers, the limits, kinds of small numbers that must not be confused, big-endian numbers, and
+// records of 72 bytes.
 ghost use mathlib.Core.Path.{_≡_};
 ghost use Prim.Native.Nat.{_+_, _*_, _^_, _≤_, _<_};
 ghost use lib.ListN.{length};

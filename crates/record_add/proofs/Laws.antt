@@ -1,27 +1,19 @@
--- Laws of the records in given bytes, of the lent memory that they join, and of their check. Assumes nothing.
-use mathlib.Core.Path.{_≡_, refl, sym, ap, _∙_}
-use mathlib.Core.Bool.{Bool, true, false, _&&_}
-use mathlib.Core.Logic.{_⊎_, ⊎-elim}
-use mathlib.Core.Option.{some}
-use mathlib.Core.List.{List, [], _∷_, _++_, flatten, append-nil}
-use Prim.Native.Nat.{ℕ, zero, suc, _+_, _-_, _*_, _/_, _%_, _^_, _≤_, _<_}
-use native.Mathlib.Numerals.{add-one}
-use native.Mathlib.Omega.{arith}
-use lib.ListN.{length, take, drop, getD, set, replicate, length-append}
-use lib.Seq.{take-all, take-suc, take-take, drop-drop, take-set-lt, take-set-le, getD-set-same, getD-set-other, getD-take}
-use lib.Dec.{leb}
+-- Laws of the records in given bytes, of the lent memory that they join, and of their check.
+use Rattle.numbers.proofs.Basics.{_≡_, refl, sym, ap, _∙_, Bool, true, false, _&&_, _⊎_, ⊎-elim, some, List, [], _∷_}
+use Rattle.numbers.proofs.Basics.{_++_, flatten, ℕ, zero, suc, _+_, _-_, _*_, _/_, _%_, _^_, _≤_, _<_, add-zero}
+use Rattle.numbers.proofs.Basics.{add-one, arith, length, take, drop, getD, set, replicate, length-append, drop-drop}
+use Rattle.numbers.proofs.Basics.{take-set-lt, take-set-le, getD-set-same, getD-set-other, getD-take, leb, eq-eqb}
+use Rattle.numbers.proofs.Basics.{ne-eqb, le-leb, lt-leb, leb-true, leb-false}
 use denote.Enum.Declared.{tagOf}
-use borrow.Author.Tests.{eq-eqb, ne-eqb, le-leb, lt-leb, leb-true, leb-false}
-use Rattle.rules.specs.Bytes.{choose, number, bytes, part, field}
+use Rattle.rules.specs.Bytes.{choose, bytes, part, field}
 use Rattle.rules.specs.State as rules
 use Rattle.rules.specs.State.{Limits, State, Record, Pending, withPending, kind, subclass, addIo, addAs, add, addAll, firstOr, mergedOr, queued}
 use Rattle.rules.specs.Outcome.{refuse, need_else_⨾_}
 use Rattle.rules.specs.Requests.{recordsIn, kindAccepted, allAccepted, wants, allWant, enqueueBytes, enqueue, enqueues, adapterInterrupt, request}
 use Rattle.rules.proofs.Checks.{passes, fails, both}
-use Rattle.rules.proofs.Lists.{flatten-append}
-use Rattle.numbers.proofs.Laws.{drop-take}
+use Rattle.numbers.proofs.Laws.{field-part}
 use Rattle.store_queues.specs.Queues.{total, queues, Held}
-use Rattle.store_queues.proofs.Laws.{length-queues, length-flatten-queues}
+use Rattle.store_queues.proofs.Laws.{length-queues, flatten-queues, length-flatten-queues}
 use Rattle.store_singles.specs.Singles.{serviceOf, mchkOf}
 use Rattle.numbers.specs.declared.Subclass.{Subclass}
 use Rattle.answers.specs.declared.Answer.{Answer}
@@ -36,18 +28,9 @@ use Rattle.store.specs.Memory.{pendingOf}
 use Rattle.record_add.specs.Cases.{asCase, kindOf, checkFrom, answerTo}
 
 -- ---- a record within bytes
-pub field-part : (at n from : ℕ) (b : List ℕ) → at + n ≤ 72 → field at n (part from 72 b) ≡ field (from + at) n b
-field-part at n from b h =
-    let e : 72 ≡ at + (72 - at) = omega arith in
-    ap (λ (k : ℕ). number (take n (drop at (take k (drop from b))))) e
-    ∙ ap (λ (l : List ℕ). number (take n l)) (drop-take at (72 - at) (drop from b))
-    ∙ ap number (take-take n (72 - at) (drop at (drop from b)) (omega arith) ∙ ap (λ (l : List ℕ). take n l) (drop-drop at from b))
-
 pub kind-at-is : (at t : ℕ) (b : List ℕ) → t ≡ field at 8 b → kind (part at 72 b) ≡ rules.kindOf t
 unfolding kind
-kind-at-is at t b e =
-    let z : at + 0 ≡ at = omega arith in
-    ap rules.kindOf (field-part 0 8 at b (omega arith) ∙ ap (λ (k : ℕ). field k 8 b) z ∙ sym e)
+kind-at-is at t b e = rw (field-part 0 8 72 at b (omega arith), add-zero, e)
 
 -- the rules' kind that a case stands for
 abbrev pub kindFor : Kind → rules.Kind
@@ -140,49 +123,36 @@ check-bad (r ∷ rs) place n j e =
     step-bad (kindAccepted (kind r)) (allAccepted rs) (checkFrom (suc place) (n + wants (kind r)) rs) place j e
     (check-bad rs (suc place) (n + wants (kind r)) j)
 
--- what the answer to checked records tells
+-- what the answer to checked records tells: all are taken and there is room, or the rules refuse them with its code
 module _ (rs : List Record) (n q room : ℕ) (a : Answer) where
-  pub answer-good : a ≡ answerTo (checkFrom 0 0 rs) n q room → a .code ≡ 0
-      → (a ≡ answered 0 n) × (allAccepted rs ≡ true) × (q + allWant rs ≤ room)
-  unfolding choose answerTo
-  answer-good e h = go (checkFrom 0 0 rs) refl e
-    where
-      roomy : (w : ℕ) → Good w ≡ checkFrom 0 0 rs → (t : Bool) → leb (q + w) room ≡ t
-          → a ≡ choose t (answered 0 n) (answered 16 0)
-          → (a ≡ answered 0 n) × (allAccepted rs ≡ true) × (q + allWant rs ≤ room)
-      roomy w c true r e =
-          let g = check-good rs 0 0 w c in
-          (e, g .0, omega (arith, g .1, leb-true (q + w) room r))
-      roomy w c false r e = let z : ⊥ = omega (arith, h, ap (λ (x : Answer). x .code) e) in absurd z
+  pub data Told : Type 0 where
+    good : a ≡ answered 0 n → allAccepted rs ≡ true → q + allWant rs ≤ room → Told
+    bad : (k : ℕ) → 0 < k → a ≡ answered k 0 → ((L : Limits) (s : State) → queued (s .pending) ≡ q → L .room ≡ room → enqueues L s rs ≡ refuse k) → Told
 
-      go : (x : Checked) → x ≡ checkFrom 0 0 rs → a ≡ answerTo x n q room
-          → (a ≡ answered 0 n) × (allAccepted rs ≡ true) × (q + allWant rs ≤ room)
-      go (Good w) c e = roomy w c (leb (q + w) room) refl e
-      go (BadAt j) c e = let z : ⊥ = omega (arith, h, ap (λ (x : Answer). x .code) e) in absurd z
-
-  pub answer-bad : a ≡ answerTo (checkFrom 0 0 rs) n q room → (a .code ≡ 0 → ⊥) → (L : Limits) (s : State) → queued (s .pending) ≡ q → L .room ≡ room
-      → (a ≡ answered (a .code) 0) × (enqueues L s rs ≡ refuse (a .code))
+  pub told : a ≡ answerTo (checkFrom 0 0 rs) n q room → Told
   unfolding choose answerTo enqueues
-  answer-bad e h L s eq er = go (checkFrom 0 0 rs) refl e
+  told e = go (checkFrom 0 0 rs) refl e
     where
-      with-code : (k : ℕ) → a ≡ answered k 0 → enqueues L s rs ≡ refuse k
-          → (a ≡ answered (a .code) 0) × (enqueues L s rs ≡ refuse (a .code))
-      with-code k e f =
-          let c : a .code ≡ k = ap (λ (x : Answer). x .code) e in
-          (e ∙ (λ i. answered (sym c i) 0), f ∙ ap refuse (sym c))
-
-      full : (w : ℕ) → Good w ≡ checkFrom 0 0 rs → (t : Bool) → leb (q + w) room ≡ t
-          → a ≡ choose t (answered 0 n) (answered 16 0)
-          → (a ≡ answered (a .code) 0) × (enqueues L s rs ≡ refuse (a .code))
-      full w c true r e = absurd (h (ap (λ (x : Answer). x .code) e))
-      full w c false r e =
+      by-room : (w : ℕ) → Good w ≡ checkFrom 0 0 rs → (t : Bool) → leb (q + w) room ≡ t → a ≡ choose t (answered 0 n) (answered 16 0) → Told
+      by-room w c true r e = let g = check-good rs 0 0 w c in good e (g .0) (omega (arith, leb-true (q + w) room r))
+      by-room w c false r e =
           let g = check-good rs 0 0 w c in
-          with-code 16 e (passes _ _ _ (g .0) ∙ fails _ _ _ (lt-leb _ (L .room) (omega (arith, eq, er, g .1, leb-false (q + w) room r))))
+          bad 16 (omega arith) e (λ L s eq er. passes _ _ _ (g .0) ∙ fails _ _ _ (lt-leb _ (L .room) (omega (arith, leb-false (q + w) room r))))
 
-      go : (x : Checked) → x ≡ checkFrom 0 0 rs → a ≡ answerTo x n q room
-          → (a ≡ answered (a .code) 0) × (enqueues L s rs ≡ refuse (a .code))
-      go (Good w) c e = full w c (leb (q + w) room) refl e
-      go (BadAt j) c e = with-code 22 e (fails _ _ _ (check-bad rs 0 0 j c))
+      go : (x : Checked) → x ≡ checkFrom 0 0 rs → a ≡ answerTo x n q room → Told
+      go (Good w) c e = by-room w c (leb (q + w) room) refl e
+      go (BadAt j) c e = bad 22 (omega arith) e (λ L s eq er. fails _ _ _ (check-bad rs 0 0 j c))
+
+  pub answer-good : Told → a .code ≡ 0 → (a ≡ answered 0 n) × (allAccepted rs ≡ true) × (q + allWant rs ≤ room)
+  answer-good (good e t r) h = (e, t, r)
+  answer-good (bad k p e f) h = absurd (omega (arith, ap (λ (x : Answer). x .code) e))
+
+  pub answer-bad : Told → (a .code ≡ 0 → ⊥) → (L : Limits) (s : State) → queued (s .pending) ≡ q → L .room ≡ room
+      → (a ≡ answered (a .code) 0) × (enqueues L s rs ≡ refuse (a .code))
+  answer-bad (good e t r) h L s eq er = absurd (h (ap (λ (x : Answer). x .code) e))
+  answer-bad (bad k p e f) h L s eq er =
+      let c : k ≡ a .code = sym (ap (λ (x : Answer). x .code) e) in
+      (e ∙ ap (λ (x : ℕ). answered x 0) c, f L s eq er ∙ ap refuse c)
 
 -- a record wants at most one place
 wants-few : (k : rules.Kind) → wants k ≤ 1
@@ -272,19 +242,10 @@ pub want-next : (i n : ℕ) (b : List ℕ) → i < n → allWant (recordsFrom i 
 unfolding allWant
 want-next i n b h = rw (records-next i n b h)
 
-flatten-one : (q : List Record) → flatten (q ∷ []) ≡ q
-unfolding flatten
-flatten-one q = append-nil q
-
 pub queued-total : (o c b g : List ℕ) → Held o c → queued (pendingOf o c b g) ≡ total c
 unfolding pendingOf
 queued-total o c b g h =
-    let Q : List (List Record) = queues o c b in
-    let k : length Q ≡ 9 = length-queues o c h b in
-    let f : flatten Q ≡ flatten (take 8 Q) ++ getD Q 8 [] =
-    ap flatten (sym (take-all 9 Q (omega arith)) ∙ take-suc Q 8 [] (omega arith)) ∙ flatten-append (take 8 Q) (getD Q 8 [] ∷ [])
-    ∙ ap (λ (t : List Record). flatten (take 8 Q) ++ t) (flatten-one (getD Q 8 [])) in
-    sym (length-append (flatten (take 8 Q)) (getD Q 8 [])) ∙ ap length (sym f) ∙ length-flatten-queues o c h b
+    rw (← length-append (flatten (take 8 (queues o c b))) (getD (queues o c b) 8 []), flatten-queues o c h b) (length-flatten-queues o c h b)
 
 -- ---- an adapter's interrupt
 pub interrupt-bytes : (isc : ℕ) → isc ≤ 7 → set (set (replicate 72 0) 4 4) 16 (128 + isc * 8) ≡ adapterInterrupt isc
@@ -309,14 +270,17 @@ module _ (L : Limits) (s : State) (attr : ℕ) (b : List ℕ) (h : attr ≡ 0 �
     checking : request L s enqueue attr b ≡ enqueues L s (recordsIn (attr / 72) b)
     checking = enqueuing ∙ passes _ _ _ (le-leb attr (length b) f)
 
+    decided : Told (recordsIn (attr / 72) b) (attr / 72) q (L .room) a
+    decided = told (recordsIn (attr / 72) b) (attr / 72) q (L .room) a ea
+
     pub enqueue-good : a .code ≡ 0 → p ≡ addAll (recordsIn (attr / 72) b) (s .pending) → Answers L s b (request L s enqueue attr b) a (withPending p s) b
     unfolding enqueues
     enqueue-good h ep =
-        let g = answer-good (recordsIn (attr / 72) b) (attr / 72) q (L .room) a ea h in
+        let g = answer-good _ _ _ _ _ decided h in
         accepted L s b _ a (attr / 72) (withPending p s) [] b
         (checking ∙ passes _ _ _ (g .1) ∙ passes _ _ _ (le-leb _ (L .room) (omega (arith, eq, g .2))) ∙ rw (length-records (attr / 72) b, ep)) (g .0) refl
 
     pub enqueue-bad : (a .code ≡ 0 → ⊥) → p ≡ s .pending → Answers L s b (request L s enqueue attr b) a (withPending p s) b
     enqueue-bad h ep =
-        let g = answer-bad (recordsIn (attr / 72) b) (attr / 72) q (L .room) a ea h L s eq refl in
+        let g = answer-bad _ _ _ _ _ decided h L s eq refl in
         refused L s b _ a (a .code) p (sym ep) (checking ∙ g .1) (g .0)

@@ -25,10 +25,12 @@ asCase rules.Kind.other isc = Other
 abbrev pub kindOf : Record → Kind
 kindOf r = asCase (kind r) (subclass r)
 
--- 01, group 2: all records are of types taken and want so many places of the nine queues, or the place of the first that is not
+-- 01, group 2: every record has an accepted type, and so many of them go to a queue; or the index of the first record
+-- of another type
 unfoldable pub checkFrom : ℕ → ℕ → List Record → Checked
 checkFrom place n [] = Good n
-checkFrom place n (r ∷ rs) = choose (kindAccepted (kind r)) (checkFrom (suc place) (n + wants (kind r)) rs) (BadAt place)
+checkFrom place n (r ∷ rs) =
+    choose (kindAccepted (kind r)) (checkFrom (suc place) (n + wants (kind r)) rs) (BadAt place)
 
 -- 01, group 2 and 'Codes and the order of checks': the answer to n checked records, by the types, then by the room
 unfoldable pub answerTo : Checked → (n queued room : ℕ) → Answer

@@ -61,13 +61,14 @@ pub fn kind_at(b: &[u8], at: usize) -> Kind
     Kind::Other
 }
 
-// All records are of types taken and want so many places of the nine queues; or the place of the first that is not.
+// Every record has an accepted type, and so many of them go to a queue; or the index of the first record of another
+// type.
 pub enum Checked {
     Good(usize),
     BadAt(usize),
 }
 
-// The first n records of b.
+// Checks the first n records of b.
 pub fn check(b: &[u8], n: usize) -> Checked
     requires { ⌜ (n * 72 ≤ enqueueBytes) × (n * 72 ≤ length (now b)) ⌝ }
     ensures { λ r. ⌜ r ≡ checkFrom 0 0 (recordsIn n (now (b .entry))) ⌝ }

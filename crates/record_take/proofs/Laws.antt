@@ -1,30 +1,26 @@
--- Laws of the pending records in lent memory: the listing, what a removal leaves, and the four cases of the take. Assumes nothing.
-use mathlib.Core.Path.{_≡_, refl, sym, ap, _∙_}
-use mathlib.Core.Bool.{Bool, true, false, not, _&&_, true≢false}
-use mathlib.Core.Logic.{_⊎_, inl, inr}
-use mathlib.Core.Option.{Option, none, some}
-use mathlib.Core.List.{List, [], _∷_, _++_, flatten, append-assoc, append-nil}
-use Prim.Native.Nat.{ℕ, zero, suc, _+_, _*_, _/_, _%_, _≤_, _<_}
-use native.Mathlib.Nat.{not-suc-le-zero}
-use native.Mathlib.Omega.{arith}
-use borrow.Author.Tests.{le-leb, lt-leb, ne-eqb}
-use lib.ListN.{length, take, drop, getD, set, replicate, length-append, length-take, length-drop}
-use lib.Bits.{bitAnd}
-use lib.Dec.{eqb}
-use lib.Seq.{take-all, take-suc, take-at, drop-at, drop-drop, take-set-le, take-set-lt, getD-take, getD-set-same, getD-set-other, paste, length-paste}
+-- Laws of the pending records in lent memory: the listing, what a removal leaves, and the four cases of the take.
+use Rattle.numbers.proofs.Basics.{_≡_, refl, sym, ap, _∙_, Bool, true, false, not, _&&_, true≢false, _⊎_, inl, inr}
+use Rattle.numbers.proofs.Basics.{Option, none, some, List, [], _∷_, _++_, flatten, append-assoc, append-nil, ℕ, zero}
+use Rattle.numbers.proofs.Basics.{suc, _+_, _*_, _/_, _%_, _≤_, _<_, not-suc-le-zero, arith, length, take, drop, getD}
+use Rattle.numbers.proofs.Basics.{length-append, length-take, length-drop, take-all, take-at, drop-at, drop-drop}
+use Rattle.numbers.proofs.Basics.{take-set-le, take-set-lt, getD-take, getD-set-same, getD-set-other, paste}
+use Rattle.numbers.proofs.Basics.{length-paste, eqb, bitAnd, le-leb, lt-leb, ne-eqb}
 use Rattle.rules.specs.Bytes.{choose, byte, part, field}
 use Rattle.rules.specs.State.{Limits, State, Record, Pending, nothing, withPending, single, listing}
 use Rattle.rules.specs.Outcome.{refuse, accept}
-use Rattle.rules.specs.Requests.{isZero, isFor, withoutFirst, request, clearIoIrq, clearsIo, removes, clears, getsAll}
+use Rattle.rules.specs.Requests.{isZero, withoutFirst, request, clearIoIrq, clearsIo, removes, clears, getsAll}
+use Rattle.rules.specs.MoveList.{oneIf}
 use Rattle.rules.specs.Take.{firstAllowed, orElse, handMchk, handService, handDone, handIo, handed, handsOut, takes}
 use Rattle.rules.proofs.Checks.{passes, fails}
-use Rattle.rules.proofs.Lists.{flatten-append}
+use Rattle.rules.specs.Invariant.{All, Whole}
+use Rattle.rules.proofs.Lists.{all-append, flatten-append}
 use Rattle.answers.specs.Answers.{Answers, answered}
 use Rattle.answers.proofs.Laws.{same-state, accepted}
 use Rattle.answers.specs.declared.Answer.{Answer}
-use Rattle.store_queues.specs.Slots.{removeAt}
+use Rattle.store_queues.specs.Slots.{slotCount, removeAt}
+use Rattle.store_queues.proofs.Slots.{length-slot}
 use Rattle.store_queues.specs.Queues.{total, waiting, queues, withoutAt, Held}
-use Rattle.store_queues.proofs.Laws.{length-queues, length-queue, length-flatten-queues}
+use Rattle.store_queues.proofs.Laws.{length-queues, length-queue, flatten-queues, length-flatten-queues, all-queued}
 use Rattle.store_queues.proofs.Counts.{waiting-bit}
 use Rattle.store_singles.specs.Singles.{ifThere, serviceOf, mchkOf}
 use Rattle.store_singles.proofs.Laws.{absent-if, there-if}
@@ -38,18 +34,12 @@ use Rattle.record_take.specs.declared.Next.the-variants as next
 use Rattle.record_take.specs.Next.{withQueues, handsQueued, handedNext}
 
 -- ---- the listing of nine queues and two records
-whole : (qs : List (List Record)) → length qs ≡ 9 → flatten (take 8 qs) ++ getD qs 8 [] ≡ flatten qs
-unfolding flatten
-whole qs h =
-    sym (ap flatten (sym (take-all 9 qs (omega arith)) ∙ take-suc qs 8 [] (omega arith)) ∙ flatten-append (take 8 qs) (getD qs 8 [] ∷ [])
-    ∙ ap (λ (l : List Record). flatten (take 8 qs) ++ l) (append-nil (getD qs 8 [])))
-
 module _ (o c b g : List ℕ) (h : Held o c) where
   pub listing-is : listing (pendingOf o c b g) ≡ (flatten (queues o c b) ++ single (serviceOf g)) ++ single (mchkOf g)
   unfolding listing pendingOf
   listing-is =
       sym (append-assoc (flatten (take 8 (queues o c b))) (getD (queues o c b) 8 []) _)
-      ∙ rw (whole (queues o c b) (length-queues o c h b)) (sym (append-assoc (flatten (queues o c b)) (single (serviceOf g)) (single (mchkOf g))))
+      ∙ rw (flatten-queues o c h b) (sym (append-assoc (flatten (queues o c b)) (single (serviceOf g)) (single (mchkOf g))))
 
   pub length-listing : length (listing (pendingOf o c b g)) ≡ total c + length (single (serviceOf g)) + length (single (mchkOf g))
   length-listing = rw (listing-is, length-append, length-append, length-flatten-queues o c h b)
@@ -73,16 +63,28 @@ module _ (g : List ℕ) (t : Bool) where
   mchk-absent = absent-if (byte 145 g) (part 72 72 g) t
 
 -- one for a record that is there
-one-there : (n : ℕ) (r : Record) (t : Bool) → t ≡ not (eqb n 0) → choose t 1 0 ≡ length (single (ifThere n r))
-unfolding choose
+one-there : (n : ℕ) (r : Record) (t : Bool) → t ≡ not (eqb n 0) → oneIf t ≡ length (single (ifThere n r))
 one-there n r true e = rw (there-if n r true e refl)
 one-there n r false e = rw (absent-if n r false e refl)
 
 pub count-is : (o c b g : List ℕ) (q x y : ℕ) (t u : Bool) → Held o c → q ≡ total c → t ≡ not (eqb (byte 144 g) 0)
-    → u ≡ not (eqb (byte 145 g) 0) → x ≡ choose t 1 0 → y ≡ choose u 1 0 → q + x + y ≡ length (listing (pendingOf o c b g))
+    → u ≡ not (eqb (byte 145 g) 0) → x ≡ oneIf t → y ≡ oneIf u → q + x + y ≡ length (listing (pendingOf o c b g))
 unfolding serviceOf mchkOf
 count-is o c b g q x y t u h eq et eu ex ey =
     rw (eq, ex, ey, one-there (byte 144 g) (part 0 72 g) t et, one-there (byte 145 g) (part 72 72 g) u eu) (sym (length-listing o c b g h))
+
+-- every record of the listing is whole
+one-whole : (n at : ℕ) (g : List ℕ) → at + 72 ≤ length g → All Whole (single (ifThere n (part at 72 g)))
+unfolding ifThere
+one-whole zero at g h = tt
+one-whole (suc n) at g h = (simp (length-take, length-drop) (omega arith), tt)
+
+pub whole-listing : (o c b g : List ℕ) → Held o c → ((k : ℕ) → getD o k 0 < slotCount) → slotCount * 72 ≤ length b → length g ≡ 146
+    → All Whole (listing (pendingOf o c b g))
+unfolding serviceOf mchkOf
+whole-listing o c b g h f m q =
+    let both = all-append Whole (flatten (queues o c b)) (single (serviceOf g)) (all-queued Whole b o c (λ k. length-slot 72 slotCount b (getD o k 0) (f k) m)) (one-whole (byte 144 g) 0 g (omega arith)) in
+    rw (listing-is o c b g h) (all-append Whole (flatten (queues o c b) ++ single (serviceOf g)) (single (mchkOf g)) both (one-whole (byte 145 g) 72 g (omega arith)))
 
 -- ---- what stands in out: the records l, and out's own bytes from n on
 pub record Wrote (out d : List ℕ) (l : List Record) (n : ℕ) : Type 0 where
@@ -143,19 +145,6 @@ module _ (qs : List (List Record)) (i k : ℕ) (h : i < 8) where
 pub queues-left : (o c u v b g : List ℕ) (qs : List (List Record)) → queues u v b ≡ qs → pendingOf u v b g ≡ withQueues qs (pendingOf o c b g)
 unfolding pendingOf
 queues-left o c u v b g qs e = rw e
-
-module _ (o c b g d : List ℕ) where
-  pub mchk-left : mchkOf d ≡ none → serviceOf d ≡ serviceOf g
-      → let p = pendingOf o c b g in
-      pendingOf o c b d ≡ record { io = p .io; done = p .done; service = p .service; mchk = none }
-  unfolding pendingOf
-  mchk-left e f = rw (e, f)
-
-  pub service-left : serviceOf d ≡ none → mchkOf d ≡ mchkOf g
-      → let p = pendingOf o c b g in
-      pendingOf o c b d ≡ record { io = p .io; done = p .done; service = none; mchk = p .mchk }
-  unfolding pendingOf
-  service-left e f = rw (e, f)
 
 -- ---- CLEAR_IO_IRQ: the word is the subchannel's id and number
 module _ (b : List ℕ) (w : ℕ) (e : w ≡ field 0 2 b * 65536 + field 2 2 b) where
@@ -270,18 +259,14 @@ module _ (o c b g : List ℕ) (h : Held o c) where
 module _ (o c b g : List ℕ) (m : ℕ) (e k : Bool) where
   pub hands-mchk : (d r : List ℕ) → k ≡ true → mchkOf g ≡ some r → mchkOf d ≡ none → serviceOf d ≡ serviceOf g
       → handed (pendingOf o c b g) m e k ≡ some (record { given = r; left = pendingOf o c b d })
-  unfolding handed orElse choose
-  hands-mchk d r f u x y =
-      let v : pendingOf o c b g .mchk ≡ some r = unfold pendingOf in u in
-      rw (mchk-left o c b g d x y, f, v)
+  unfolding handed orElse choose pendingOf
+  hands-mchk d r f u x y = rw (f, u, x, y)
 
   module _ (n₁ : NoMchk (pendingOf o c b g) k) where
     pub hands-service : (d r : List ℕ) → e ≡ true → serviceOf g ≡ some r → serviceOf d ≡ none → mchkOf d ≡ mchkOf g
         → handed (pendingOf o c b g) m e k ≡ some (record { given = r; left = pendingOf o c b d })
-    unfolding handed orElse choose
-    hands-service d r f u x y =
-        let v : pendingOf o c b g .service ≡ some r = unfold pendingOf in u in
-        rw (service-left o c b g d x y, n₁, f, v)
+    unfolding handed orElse choose pendingOf
+    hands-service d r f u x y = rw (f, x, y, n₁, u)
 
     module _ (n₂ : NoService (pendingOf o c b g) e) (v : Next) (t : handsQueued (pendingOf o c b g) m e ≡ handedNext v (queues o c b) (pendingOf o c b g)) where
       by-next : handed (pendingOf o c b g) m e k ≡ handedNext v (queues o c b) (pendingOf o c b g)
@@ -323,10 +308,7 @@ module _ (s : State) (p : Pending) (n attr : ℕ) (e : s .pending ≡ p) (f : n 
   unfolding getsAll
   lists-all h = passes _ _ _ (le-leb (72 * length (listing (s .pending))) attr (rw e (omega arith))) ∙ rw (e, f)
 
--- what was written is as long as the place where the old bytes go on
-pub wrote-long : (p : Pending) (b d : List ℕ) → 72 * length (listing p) ≤ length b → length d ≡ length b → d ≡ flatten (listing p) ++ drop (72 * length (listing p)) b
-    → d ≡ flatten (listing p) ++ drop (length (flatten (listing p))) b
-wrote-long p b d h l e =
-    let n : ℕ = 72 * length (listing p) in
-    let k : length (flatten (listing p)) ≡ n = omega (arith, ap length e, length-append (flatten (listing p)) (drop n b), length-drop n b) in
-    rw k e
+-- what is written fills the place up to where the old bytes go on
+pub records-size : (rs : List Record) (b d : List ℕ) → 72 * length rs ≤ length b → length d ≡ length b → d ≡ flatten rs ++ drop (72 * length rs) b
+    → length (flatten rs) ≡ 72 * length rs
+records-size rs b d h l e = omega (arith, ap length e, length-append (flatten rs) (drop (72 * length rs) b), length-drop (72 * length rs) b)

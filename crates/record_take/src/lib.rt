@@ -1,13 +1,15 @@
-// Inner crate: records that are counted, listed, removed or handed out: CLEAR_IRQS, GET_ALL_IRQS, CLEAR_IO_IRQ and the guest take.
+// Inner crate: records that are counted, listed, removed or handed out: CLEAR_IRQS, GET_ALL_IRQS, CLEAR_IO_IRQ and the
+// guest take.
 ghost use mathlib.Core.Path.{_≡_};
 ghost use mathlib.Core.List.{List, _++_, flatten};
 ghost use Prim.Native.Nat.{ℕ, _*_, _≤_};
 ghost use lib.ListN.{length, drop};
-ghost use Rattle.rules.specs.Bytes.{choose};
 ghost use Rattle.rules.specs.State.{Limits, State, withPending, listing};
 ghost use Rattle.rules.specs.Requests.{clearIrqs, getAllIrqs, clearIoIrq, request};
+ghost use Rattle.rules.specs.MoveList.{oneIf};
 ghost use Rattle.rules.specs.Take.{takes};
-ghost use Rattle.store_queues.specs.Slots.{mostPending};
+ghost use Rattle.rules.specs.Invariant.{All, Whole};
+ghost use Rattle.store_queues.specs.Slots.{slotCount, mostPending};
 ghost use Rattle.store_queues.specs.Queues.{queues, Counted, Held};
 ghost use Rattle.answers.specs.Answers.{Answers, answered};
 ghost use Rattle.store.specs.Memory.{pendingOf};
@@ -26,7 +28,7 @@ use numbers::Subchannel;
 use store_search::Found;
 
 fn one_if(t: bool) -> usize
-    ensures { λ r. ⌜ (r ≡ choose t 1 0) × (r ≤ 1) ⌝ }
+    ensures { λ r. ⌜ (r ≡ oneIf t) × (r ≤ 1) ⌝ }
 {
     if t { 1 } else { 0 }
 }
@@ -39,6 +41,22 @@ pub fn pending(counts: &[usize; COUNTS], singles: &[u8; SINGLES_BYTES]) -> usize
     store_queues::queued(counts)
         + one_if(store_singles::has_service(singles))
         + one_if(store_singles::has_mchk(singles))
+}
+
+// How many records are pending, every one of 72 bytes. The slots and their order come as slices: of a slice it is known
+// that each byte is below 256, so that it names a slot.
+pub fn pending_whole(
+    slots: &[u8],
+    order: &[u8],
+    counts: &[usize; COUNTS],
+    singles: &[u8; SINGLES_BYTES],
+) -> usize
+    requires { ⌜ Held (now order) (now counts) × (length (now slots) ≡ slotCount * 72) ⌝ }
+    ensures { λ r. ⌜ (r ≡ length (listing (before order counts slots singles))) × All Whole (listing (before order counts slots singles)) × (r ≤ mostPending) ⌝ }
+{
+    // Borrowed as a slice: the proof learns the array's length from the borrow.
+    let _g: &[u8] = singles;
+    pending(counts, singles)
 }
 
 // Group 3: nothing is pending any more.
@@ -160,17 +178,17 @@ fn next_queued(
     slots: &[u8; SLOT_BYTES],
     order: &[u8; ORDER_BYTES],
     counts: &[usize; COUNTS],
-    mask: u8,
+    subclasses: u8,
     external: bool,
 ) -> Next
     requires { ⌜ Held (now order) (now counts) ⌝ }
     ensures place { λ r. ⌜ NextIn (now (counts .entry)) r ⌝ }
-    ensures hands { λ r. ⌜ ((singles : List ℕ) → handsQueued (pendingOf (now (order .entry)) (now (counts .entry)) (now (slots .entry)) singles) mask external ≡ handedNext r (queues (now (order .entry)) (now (counts .entry)) (now (slots .entry))) (pendingOf (now (order .entry)) (now (counts .entry)) (now (slots .entry)) singles)) ⌝ }
+    ensures hands { λ r. ⌜ ((singles : List ℕ) → handsQueued (pendingOf (now (order .entry)) (now (counts .entry)) (now (slots .entry)) singles) subclasses external ≡ handedNext r (queues (now (order .entry)) (now (counts .entry)) (now (slots .entry))) (pendingOf (now (order .entry)) (now (counts .entry)) (now (slots .entry)) singles)) ⌝ }
 {
     if external && 0 < store_queues::count(counts, store_queues::done()) {
         return Next::At(store_queues::done(), 0);
     }
-    let allowed = mask & store_queues::nonempty(counts);
+    let allowed = subclasses & store_queues::nonempty(counts);
     let Found::At(isc, at) = store_search::find(slots, order, counts, allowed, true, Subchannel(0))
     else {
         return Next::None;
@@ -184,13 +202,13 @@ pub fn take(
     order: &mut [u8; ORDER_BYTES],
     counts: &mut [usize; COUNTS],
     singles: &mut [u8; SINGLES_BYTES],
-    mask: u8,
+    subclasses: u8,
     external: bool,
     mcheck: bool,
     out: &mut [u8],
 ) -> Answer
     requires { ⌜ Held (now order) (now counts) ⌝ }
-    ensures { λ r. ⌜ ((L : Limits) (s : State) → s .pending ≡ before order counts slots singles → Answers L s (now (out .entry)) (takes s mask external mcheck (now (out .entry))) r (withPending (pendingOf (now (order .exit)) (now (counts .exit)) (now (slots .entry)) (now (singles .exit))) s) (now (out .exit))) × ((HeldAfter order counts) × (((r .code ≡ 0 → ⊥) → Stays order × Stays counts × Stays singles × Stays out))) ⌝ }
+    ensures { λ r. ⌜ ((L : Limits) (s : State) → s .pending ≡ before order counts slots singles → Answers L s (now (out .entry)) (takes s subclasses external mcheck (now (out .entry))) r (withPending (pendingOf (now (order .exit)) (now (counts .exit)) (now (slots .entry)) (now (singles .exit))) s) (now (out .exit))) × ((HeldAfter order counts) × (((r .code ≡ 0 → ⊥) → Stays order × Stays counts × Stays singles × Stays out))) ⌝ }
 {
     if out.len() < 72 {
         return answers::refuse(EFAULT);
@@ -205,7 +223,7 @@ pub fn take(
         store_singles::drop_service(singles);
         return a;
     }
-    let Next::At(q, at) = next_queued(slots, order, counts, mask, external) else {
+    let Next::At(q, at) = next_queued(slots, order, counts, subclasses, external) else {
         return answers::accept(0); // the buffer is not touched
     };
     let a = hand(out, store_queues::read(slots, order, counts, q, at));

@@ -1,9 +1,5 @@
--- Laws of the lent memory as pending records. Assumes nothing.
-use mathlib.Core.Path.{_≡_}
-use mathlib.Core.Option.{none}
-use mathlib.Core.List.{List, []}
-use Prim.Native.Nat.{ℕ}
-use lib.ListN.{replicate}
+-- Laws of the lent memory as pending records.
+use Rattle.numbers.proofs.Basics.{_≡_, none, List, [], ℕ, replicate}
 use Rattle.rules.specs.State.{nothing}
 use Rattle.store_queues.specs.Queues.{queues}
 use Rattle.store_singles.specs.Singles.{serviceOf, mchkOf}

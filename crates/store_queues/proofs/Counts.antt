@@ -1,16 +1,11 @@
--- Laws of the counts: their sum, the mask of the queues that have records, and one count that changes. Assumes nothing.
-use mathlib.Core.Path.{_≡_, refl, sym, ap, _∙_}
-use mathlib.Core.Bool.{true, false, not}
-use mathlib.Core.List.{List, [], _∷_}
-use Prim.Native.Nat.{ℕ, zero, suc, _+_, _-_, _*_, _/_, _%_, _^_, _≤_, _<_}
-use native.Mathlib.Nat.{not-suc-le-zero, le-of-suc-le-suc, div-div-eq-div-mul, pow-suc, mul-comm}
-use native.Mathlib.Numerals.{add-one}
-use native.Mathlib.Omega.{arith}
-use lib.Dec.{eqb}
-use lib.ListN.{length, take, drop, getD, set, replicate, length-set}
-use lib.Seq.{take-set-lt, take-set-le, length-take-le, getD-take, getD-drop, getD-set-same, getD-set-other, drop-drop}
-use borrow.Author.Tests.{eq-eqb, ne-eqb}
+-- Laws of the counts: their sum, the mask of the queues that have records, and one count that changes.
+use Rattle.numbers.proofs.Basics.{_≡_, refl, sym, ap, _∙_, true, List, [], _∷_, ℕ, zero, suc, _+_, _-_, _*_, _/_, _%_}
+use Rattle.numbers.proofs.Basics.{_^_, _≤_, _<_, not-suc-le-zero, le-of-suc-le-suc, div-div-eq-div-mul, pow-suc}
+use Rattle.numbers.proofs.Basics.{mul-comm, add-one, arith, length, take, drop, getD, set, replicate, length-set}
+use Rattle.numbers.proofs.Basics.{take-set-lt, take-set-le, length-take-le, getD-take, getD-drop, getD-set-same}
+use Rattle.numbers.proofs.Basics.{getD-set-other, drop-drop, eq-eqb}
 use Rattle.rules.specs.State.{hasBit, bit}
+use Rattle.numbers.proofs.Laws.{each-subclass}
 use Rattle.store_queues.specs.Slots.{slotCount}
 use Rattle.store_queues.specs.Queues.{each, total, waiting, sum, some, bits, Counted}
 
@@ -64,15 +59,15 @@ unfolding some
 some-one zero f = absurd (f refl)
 some-one (suc n) f = refl
 
-times : (x w : ℕ) → x ≤ 1 → x * w ≤ w
-times zero w h = omega arith
-times (suc zero) w h = omega arith
-times (suc (suc x)) w h = absurd (omega arith)
+some-times : (n w : ℕ) → some n * w ≤ w
+unfolding some
+some-times zero w = omega arith
+some-times (suc n) w = omega arith
 
 bits-small : (w : ℕ) (ns : List ℕ) → bits w ns ≤ 2 * w - 1
 unfolding bits
 bits-small w [] = omega arith
-bits-small w (n ∷ ns) = omega (arith, bits-small (w / 2) ns, times (some n) w (some-small n))
+bits-small w (n ∷ ns) = omega (arith, bits-small (w / 2) ns, some-times n w)
 
 pub halves : (w i : ℕ) → w / 2 / 2 ^ i ≡ w / 2 ^ suc i
 halves w i = div-div-eq-div-mul w 2 (2 ^ i) ∙ ap (λ (x : ℕ). w / x) (mul-comm 2 (2 ^ i) ∙ sym (pow-suc 2 i))
@@ -101,19 +96,14 @@ module _ (ns : List ℕ) where
   eight : bits 128 ns ≡ some (getD ns 0 0) * 128 + (some (getD ns 1 0) * 64 + (some (getD ns 2 0) * 32 + (some (getD ns 3 0) * 16 + (some (getD ns 4 0) * 8 + (some (getD ns 5 0) * 4 + (some (getD ns 6 0) * 2 + (some (getD ns 7 0) * 1)))))))
   eight = omega (arith, bits-from 128 0, bits-from 64 1, bits-from 32 2, bits-from 16 3, bits-from 8 4, bits-from 4 5, bits-from 2 6, bits-from 1 7, bits-none (drop 8 ns))
 
-  small : (i : ℕ) → some (getD ns i 0) ≤ 1
-  small i = some-small (getD ns i 0)
+  abbrev Small : ℕ → Type 0
+  Small i = some (getD ns i 0) ≤ 1
 
-  digit : (i : ℕ) → i ≤ 7 → bits 128 ns / bit i % 2 ≡ some (getD ns i 0)
-  digit zero h = omega (arith, eight, small 0, small 1, small 2, small 3, small 4, small 5, small 6, small 7)
-  digit (suc zero) h = omega (arith, eight, small 0, small 1, small 2, small 3, small 4, small 5, small 6, small 7)
-  digit (suc (suc zero)) h = omega (arith, eight, small 0, small 1, small 2, small 3, small 4, small 5, small 6, small 7)
-  digit (suc (suc (suc zero))) h = omega (arith, eight, small 0, small 1, small 2, small 3, small 4, small 5, small 6, small 7)
-  digit (suc (suc (suc (suc zero)))) h = omega (arith, eight, small 0, small 1, small 2, small 3, small 4, small 5, small 6, small 7)
-  digit (suc (suc (suc (suc (suc zero))))) h = omega (arith, eight, small 0, small 1, small 2, small 3, small 4, small 5, small 6, small 7)
-  digit (suc (suc (suc (suc (suc (suc zero)))))) h = omega (arith, eight, small 0, small 1, small 2, small 3, small 4, small 5, small 6, small 7)
-  digit (suc (suc (suc (suc (suc (suc (suc zero))))))) h = omega (arith, eight, small 0, small 1, small 2, small 3, small 4, small 5, small 6, small 7)
-  digit (suc (suc (suc (suc (suc (suc (suc (suc i)))))))) h = absurd (omega arith)
+  digit : Small 0 × Small 1 × Small 2 × Small 3 × Small 4 × Small 5 × Small 6 × Small 7 → (i : ℕ) → i ≤ 7 → bits 128 ns / bit i % 2 ≡ some (getD ns i 0)
+  digit s =
+      let e = eight in
+      each-subclass (λ i. bits 128 ns / bit i % 2 ≡ some (getD ns i 0))
+      (omega arith) (omega arith) (omega arith) (omega arith) (omega arith) (omega arith) (omega arith) (omega arith)
 
 -- the bit of a queue that has records is in the mask
 pub bit-there : (c : List ℕ) → Counted c → (i : ℕ) → i < 9 → (getD c i 0 ≡ 0 → ⊥) → 128 / 2 ^ i ≤ waiting c
@@ -136,7 +126,8 @@ module _ (c : List ℕ) (h : Counted c) where
   pub waiting-bit : (i : ℕ) → i ≤ 7 → (getD c i 0 ≡ 0 → ⊥) → hasBit i (waiting c) ≡ true
   unfolding hasBit
   waiting-bit i k f =
-      let e : waiting c / bit i % 2 ≡ some (getD c i 0) = rw (h .marked, ← getD-take 9 c i 0 (omega arith)) (digit (each c) i k) in
+      let s : (i : ℕ) → some (getD (each c) i 0) ≤ 1 = λ i. some-small (getD (each c) i 0) in
+      let e : waiting c / bit i % 2 ≡ some (getD c i 0) = rw (h .marked, ← getD-take 9 c i 0 (omega arith)) (digit (each c) (s 0, s 1, s 2, s 3, s 4, s 5, s 6, s 7) i k) in
       eq-eqb _ 1 (e ∙ some-one (getD c i 0) f)
 
 -- ---- one count changes, and with it the total and the mask

@@ -1,27 +1,25 @@
--- Laws of the queues: what the order and the counts say of them, and what a record more and a record less leave. Assumes nothing.
-use mathlib.Core.Path.{_≡_, refl, sym, ap, _∙_, subst}
-use mathlib.Core.Bool.{Bool, true, false}
-use mathlib.Core.List.{List, [], _∷_, _++_, flatten, map, map-append, append-assoc, append-nil}
-use Prim.Native.Nat.{ℕ, zero, suc, _+_, _-_, _*_, _/_, _^_, _≤_, _<_}
-use native.Mathlib.Nat.{not-suc-le-zero, le-of-suc-le-suc}
-use native.Mathlib.Numerals.{add-one}
-use native.Mathlib.Omega.{arith}
-use lib.Dec.{eqb}
-use lib.ListN.{length, take, drop, getD, set, replicate, length-append, length-drop, length-map, length-set}
-use lib.Seq.{getD-take, getD-drop, take-all, take-suc, paste, length-paste, take-paste}
-use borrow.Author.Tests.{eqb-true, ne-eqb}
+-- Laws of the queues: what the order and the counts say of them, and what a record more and a record less leave.
+use Rattle.numbers.proofs.Basics.{_≡_, refl, sym, ap, _∙_, subst, Bool, true, false, List, [], _∷_, _++_, flatten}
+use Rattle.numbers.proofs.Basics.{map, map-append, append-assoc, append-nil, ℕ, zero, suc, _+_, _-_, _*_, _/_, _^_}
+use Rattle.numbers.proofs.Basics.{_≤_, _<_, not-suc-le-zero, le-of-suc-le-suc, add-one, arith, length, take, drop}
+use Rattle.numbers.proofs.Basics.{getD, set, replicate, length-append, length-drop, length-map, length-set, getD-take}
+use Rattle.numbers.proofs.Basics.{getD-drop, take-all, take-suc, paste, length-paste, take-paste, eqb, eqb-true}
+use Rattle.numbers.proofs.Basics.{ne-eqb}
 use Rattle.rules.specs.Bytes.{choose}
 use Rattle.rules.specs.State.{Record}
 use Rattle.rules.specs.Invariant.{All}
 use Rattle.rules.proofs.Lists.{all-append, flatten-append}
-use Rattle.numbers.proofs.Laws.{part-same, drop-past}
+use Rattle.numbers.proofs.Laws.{map-set, getD-map, part-same, drop-past}
 use Rattle.store_queues.specs.Slots.{slotCount, removeAt, slot, occurs, Apart, Stored}
 use Rattle.store_queues.proofs.Slots.{map-removeAt, occurs-append, occurs-out, occurs-self, occurs-set, maps-lack}
 use Rattle.store_queues.specs.Queues.{row, rows, each, total, waiting, used, spare, listed, queues, withoutAt, sum, some, bits, upFrom, Held, Appended, Removed, Emptied}
-use Rattle.store_queues.proofs.Rows.{length-row, row-at, row-more, row-stored, row-down, row-beside, row-past, length-rows, rows-at, rows-changed, map-set, getD-map}
+use Rattle.store_queues.proofs.Rows.{length-row, row-at, row-more, row-stored, row-down, row-beside, row-past, length-rows, rows-at, rows-changed}
 use Rattle.store_queues.proofs.Counts.{sum-next, length-each, count-small, Changed, counted-again, some-one, all-zero}
 
 -- ---- the queues
+flatten-next : {A : Type 0} (l : List (List A)) (k : ℕ) → k < length l → flatten (take (k + 1) l) ≡ flatten (take k l) ++ getD l k []
+flatten-next l k h = rw (add-one, take-suc l k [] h, flatten-append) (unfold flatten in rw append-nil)
+
 length-listed : (b o : List ℕ) (q : ℕ) (ns : List ℕ) → q * slotCount + length ns * slotCount ≤ length o → sum ns ≤ slotCount
     → length (flatten (map (listed b) (rows o q ns))) ≡ sum ns
 unfolding rows sum flatten
@@ -29,6 +27,16 @@ length-listed b o q [] h k = refl
 length-listed b o q (n ∷ ns) h k =
     let l : length (row o q n) ≡ n = length-row o q (omega arith) n (omega arith) in
     rw (length-append, length-map (row o q n) (slot 72 b), l, length-listed b o (suc q) ns (omega arith) (omega arith))
+
+-- the records that a row names
+module _ (b o : List ℕ) (q : ℕ) (h : q * slotCount + slotCount ≤ length o) (n : ℕ) (k : n ≤ slotCount) where
+  pub length-named : length (listed b (row o q n)) ≡ n
+  length-named = length-map (row o q n) (slot 72 b) ∙ length-row o q h n k
+
+  pub named-at : (at : ℕ) → at < n → getD (listed b (row o q n)) at [] ≡ slot 72 b (getD o (q * slotCount + at) 0)
+  named-at at f =
+      let l : length (row o q n) ≡ n = length-row o q h n k in
+      getD-map (slot 72 b) (row o q n) at 0 [] (omega arith) ∙ ap (slot 72 b) (row-at o q h n at f)
 
 module _ (o c : List ℕ) (h : Held o c) where
   eachs : length (each c) ≡ 9
@@ -52,17 +60,20 @@ module _ (o c : List ℕ) (h : Held o c) where
     unfolding queues
     length-queues = length-map (used o c) (listed b) ∙ length-used
 
+    -- those of the subclasses, then the ninth
+    pub flatten-queues : flatten (take 8 (queues o c b)) ++ getD (queues o c b) 8 [] ≡ flatten (queues o c b)
+    flatten-queues =
+        sym (flatten-next (queues o c b) 8 (omega (arith, length-queues))) ∙ ap flatten (take-all 9 (queues o c b) (omega (arith, length-queues)))
+
     queue-is : (q : ℕ) → q < 9 → getD (queues o c b) q [] ≡ listed b (row o q (getD c q 0))
     unfolding queues
     queue-is q k = getD-map (listed b) (used o c) q [] [] (omega (arith, length-used)) ∙ ap (listed b) (row-used q k)
 
     pub length-queue : (q : ℕ) → q < 9 → length (getD (queues o c b) q []) ≡ getD c q 0
-    length-queue q k = rw (queue-is q k, length-map (row o q (getD c q 0)) (slot 72 b)) (length-row o q (within q (omega arith)) (getD c q 0) (count-fits q k))
+    length-queue q k = rw (queue-is q k) (length-named b o q (within q (omega arith)) (getD c q 0) (count-fits q k))
 
     pub queue-record : (q at : ℕ) → q < 9 → at < getD c q 0 → getD (getD (queues o c b) q []) at [] ≡ slot 72 b (getD o (q * slotCount + at) 0)
-    queue-record q at k f =
-        let l : length (row o q (getD c q 0)) ≡ getD c q 0 = length-row o q (within q (omega arith)) (getD c q 0) (count-fits q k) in
-        rw (queue-is q k, getD-map (slot 72 b) (row o q (getD c q 0)) at 0 [] (omega arith), row-at o q (within q (omega arith)) (getD c q 0) at f)
+    queue-record q at k f = rw (queue-is q k) (named-at b o q (within q (omega arith)) (getD c q 0) (count-fits q k) at f)
 
     pub length-flatten-queues : length (flatten (queues o c b)) ≡ total c
     unfolding queues
@@ -305,9 +316,6 @@ reset-leaves o u c l eu ec =
     })
 
 -- ---- the listing
-flatten-next : {A : Type 0} (l : List (List A)) (k : ℕ) → k < length l → flatten (take (k + 1) l) ≡ flatten (take k l) ++ getD l k []
-flatten-next l k h = rw (add-one, take-suc l k [] h, flatten-append) (unfold flatten in rw append-nil)
-
 -- a copy, and behind it another
 paste-on : (d g r : List ℕ) (at m w : ℕ) → length g ≡ m → length r ≡ w → at + m + w ≤ length d → paste (paste d at g m) (at + m) r w ≡ paste d at (g ++ r) (m + w)
 paste-on d g r at m w lg lr h =

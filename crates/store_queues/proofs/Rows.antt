@@ -1,13 +1,9 @@
--- Laws of rows of slot numbers: an entry that is stored, entries that move down, and the rows together. Assumes nothing.
-use mathlib.Core.Path.{_≡_, refl, sym, ap, ap₂, _∙_}
-use mathlib.Core.List.{List, [], _∷_, _++_, map, append-assoc}
-use Prim.Native.Nat.{ℕ, zero, suc, _+_, _-_, _*_, _≤_, _<_}
-use native.Mathlib.Nat.{not-suc-le-zero, le-of-suc-le-suc}
-use native.Mathlib.Numerals.{add-one}
-use native.Mathlib.Decide.{decLt}
-use native.Mathlib.Omega.{arith}
-use lib.ListN.{length, take, drop, getD, set, length-drop}
-use lib.Seq.{length-take-le, take-suc, take-suc-set, take-set-le, drop-set-lt, drop-set-add, drop-append-le, drop-drop, take-take, take-paste, getD-take, getD-drop, paste}
+-- Laws of rows of slot numbers: an entry that is stored, entries that move down, and the rows together.
+use Rattle.numbers.proofs.Basics.{_≡_, refl, sym, ap, ap₂, _∙_, List, [], _∷_, _++_, append-assoc, ℕ, zero, suc, _+_}
+use Rattle.numbers.proofs.Basics.{_-_, _*_, _≤_, _<_, not-suc-le-zero, le-of-suc-le-suc, add-one, decLt, arith}
+use Rattle.numbers.proofs.Basics.{length, take, drop, getD, set, length-drop, length-take-le, take-suc, take-suc-set}
+use Rattle.numbers.proofs.Basics.{take-set-le, drop-set-lt, drop-set-add, drop-append-le, drop-drop, take-take}
+use Rattle.numbers.proofs.Basics.{take-paste, getD-take, getD-drop, paste}
 use Rattle.numbers.proofs.Laws.{drop-take, drop-past, part-before}
 use Rattle.store_queues.specs.Slots.{slotCount, removeAt}
 use Rattle.store_queues.specs.Queues.{row, rows}
@@ -114,14 +110,3 @@ rows-changed u o q (n ∷ ns) (suc i) m x h f e =
     ap₂ (λ (y : List ℕ) (t : List (List ℕ)). y ∷ t) (rw (let z : q + 0 ≡ q = omega arith in z) at (e 0 (λ w. omega (arith, w)) (omega arith)))
     (rows-changed u o (suc q) ns i m x (le-of-suc-le-suc h) (rw (let z : q + suc i ≡ suc q + i = omega arith in z) at f)
     (λ j w k. rw (let z : q + suc j ≡ suc q + j = omega arith in z) at (e (suc j) (λ v. w (omega (arith, v))) (omega arith))))
-
--- a list mapped, with one element set
-pub map-set : {A B : Type 0} (f : A → B) (l : List A) (i : ℕ) (x : A) → map f (set l i x) ≡ set (map f l) i (f x)
-map-set f [] i x = refl
-map-set f (y ∷ l) zero x = refl
-map-set f (y ∷ l) (suc i) x = ap (λ (t : List _). f y ∷ t) (map-set f l i x)
-
-pub getD-map : {A B : Type 0} (f : A → B) (l : List A) (k : ℕ) (d : A) (z : B) → k < length l → getD (map f l) k z ≡ f (getD l k d)
-getD-map f [] k d z h = absurd (not-suc-le-zero h)
-getD-map f (x ∷ l) zero d z h = refl
-getD-map f (x ∷ l) (suc k) d z h = getD-map f l k d z (le-of-suc-le-suc h)

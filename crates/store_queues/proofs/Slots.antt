@@ -1,55 +1,32 @@
--- Laws of slots and of lists of slot numbers. Assumes nothing.
-use mathlib.Core.Path.{_≡_, refl, sym, ap, _∙_}
-use mathlib.Core.Bool.{Bool, true, false}
-use mathlib.Core.List.{List, [], _∷_, _++_, map, map-append, flatten}
-use Prim.Native.Nat.{ℕ, zero, suc, _+_, _-_, _*_, _≤_, _<_}
-use native.Mathlib.Nat.{zero-add, suc-add, not-suc-le-zero, le-of-suc-le-suc, suc-mul, mul-le-mul-right}
-use native.Mathlib.Numerals.{add-one}
-use native.Mathlib.Decide.{decLt}
-use native.Mathlib.Omega.{arith}
-use lib.Dec.{eqb}
-use lib.ListN.{length, take, drop, getD, set, length-drop, length-append}
-use lib.Seq.{split-at, getD-drop, length-take-le, paste}
-use borrow.Author.Tests.{eqb-false, eq-eqb}
+-- Laws of slots and of lists of slot numbers.
+use Rattle.numbers.proofs.Basics.{_≡_, refl, sym, ap, _∙_, Bool, true, false, List, [], _∷_, _++_, map, map-append}
+use Rattle.numbers.proofs.Basics.{flatten, ℕ, zero, suc, _+_, _-_, _*_, _≤_, _<_, zero-add, suc-add, not-suc-le-zero}
+use Rattle.numbers.proofs.Basics.{le-of-suc-le-suc, suc-mul, mul-le-mul-right, add-one, decLt, arith, length, take}
+use Rattle.numbers.proofs.Basics.{drop, getD, set, length-drop, split-at, getD-drop, length-take-le, paste, eqb}
+use Rattle.numbers.proofs.Basics.{eqb-false, eq-eqb}
 use Rattle.rules.specs.Bytes.{choose}
-use Rattle.numbers.proofs.Laws.{paste-more, drop-past, part-same, part-before}
+use Rattle.numbers.proofs.Laws.{map-take, map-drop, paste-more, drop-past, getD-past, part-same, part-before}
 use Rattle.store_queues.specs.Slots.{removeAt, slot, occurs}
 
 -- ---- a turn of move_down
 module _ {ℓ} {A : Type ℓ} where
-  -- what lies past a copy is as it was
-  getD-past : (d : List A) (at : ℕ) (s : List A) (n k : ℕ) (z : A) → at + n ≤ k → at ≤ length d → n ≤ length s → getD (paste d at s n) k z ≡ getD d k z
-  getD-past d at s n k z h f g =
-      let e : k + 0 ≡ k = omega arith in
-      rw (← e) (sym (getD-drop k (paste d at s n) 0 z) ∙ ap (λ (l : List A). getD l 0 z) (drop-past d at s n k h f g) ∙ getD-drop k d 0 z)
-
-  pub down-turn : (b d : List A) (lo end i : ℕ) (z : A) → lo ≤ i → i < end → end + 1 ≤ length d
-      → b ≡ paste d lo (drop (lo + 1) d) (i - lo) → set b i (getD b (i + 1) z) ≡ paste d lo (drop (lo + 1) d) (i + 1 - lo)
-  down-turn b d lo end i z h k f e =
+  pub down-turn : (b d : List A) (lo end i : ℕ) (z : A) → lo ≤ i → i < end → end + 1 ≤ length d → length b ≡ length d → b ≡ paste d lo (drop (lo + 1) d) (i - lo)
+      → (lo ≤ i + 1) × (i + 1 ≤ end) × (length (set b i (getD b (i + 1) z)) ≡ length d) × (set b i (getD b (i + 1) z) ≡ paste d lo (drop (lo + 1) d) (i + 1 - lo))
+  down-turn b d lo end i z h k f l e =
       let s : List A = drop (lo + 1) d in
       let ls : length s ≡ length d - (lo + 1) = length-drop (lo + 1) d in
       let next : i + 1 - lo ≡ i - lo + 1 = omega arith in
       let at : i + 1 ≡ lo + 1 + (i - lo) = omega arith in
       let v : getD b (i + 1) z ≡ getD s (i - lo) z =
-      ap (λ (l : List A). getD l (i + 1) z) e ∙ getD-past d lo s (i - lo) (i + 1) z (omega arith) (omega arith) (omega arith)
-      ∙ ap (λ (j : ℕ). getD d j z) at ∙ sym (getD-drop (lo + 1) d (i - lo) z) in
-      rw (v, next) (paste-more b d lo s (i - lo) i z (omega arith) (omega arith) (omega arith) e)
+      rw (e, getD-past d lo s (i - lo) (i + 1) z (omega arith) (omega arith) (omega arith), at) (sym (getD-drop (lo + 1) d (i - lo) z)) in
+      let t = paste-more b d lo s (i - lo) i (end - lo) z (omega arith) (omega arith) (omega arith) (omega arith) l e in
+      (omega arith, omega arith, rw v (t .1), rw (v, next) (t .2))
 
 -- ---- one less
 module _ {A B : Type 0} (f : A → B) where
-  map-take : (k : ℕ) (l : List A) → map f (take k l) ≡ take k (map f l)
-  map-take zero l = refl
-  map-take (suc k) [] = refl
-  map-take (suc k) (x ∷ l) = ap (λ (t : List B). f x ∷ t) (map-take k l)
-
-  map-drop : (k : ℕ) (l : List A) → map f (drop k l) ≡ drop k (map f l)
-  map-drop zero l = refl
-  map-drop (suc k) [] = refl
-  map-drop (suc k) (x ∷ l) = map-drop k l
-
   pub map-removeAt : (k : ℕ) (l : List A) → map f (removeAt k l) ≡ removeAt k (map f l)
   unfolding removeAt
-  map-removeAt k l = map-append f (take k l) (drop (k + 1) l) ∙ (λ i. map-take k l i ++ map-drop (k + 1) l i)
+  map-removeAt k l = map-append f (take k l) (drop (k + 1) l) ∙ (λ i. map-take f k l i ++ map-drop f (k + 1) l i)
 
 -- ---- how often an entry stands
 choose-add : (t : Bool) (m n : ℕ) → choose t (suc (m + n)) (m + n) ≡ choose t (suc m) m + n

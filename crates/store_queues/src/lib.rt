@@ -1,7 +1,7 @@
-// Inner crate: nine queues, each a row of slot numbers, oldest first, with a count for each; and a row of the free slots.
+// Inner crate: nine queues. Each is a row of slot numbers, oldest first, with a count. One more row has the free slots.
 ghost use mathlib.Core.Path.{_≡_};
-ghost use Prim.Native.Nat.{_+_, _-_, _≤_, ℕ, _*_, _<_};
-ghost use lib.ListN.{length, drop, getD, replicate};
+ghost use Prim.Native.Nat.{_+_, _-_, _≤_, _*_, _<_};
+ghost use lib.ListN.{length, drop, getD};
 ghost use lib.Seq.{paste};
 ghost use Rattle.store_queues.specs.Slots.{slot, Stored, slotCount};
 ghost use mathlib.Core.List.{[], _++_, flatten};
@@ -87,7 +87,8 @@ pub fn slot_of(o: &[u8; ORDER_BYTES], q: Queue, at: usize) -> u8
     o[i]
 }
 
-// Appends r to a queue, where the queues hold n records. The record is written first: its bytes then go from register to slot.
+// Appends r to a queue; the queues hold n records together. The record is written before the order and the counts:
+// so its bytes go straight from registers to the slot.
 pub fn append(
     b: &mut [u8; SLOT_BYTES],
     o: &mut [u8; ORDER_BYTES],
@@ -193,24 +194,12 @@ fn free_all(o: &mut [u8])
     }
 }
 
-// All counts are 0.
-fn zero(c: &mut [usize])
-    requires { ⌜ length (now c) ≡ 11 ⌝ }
-    ensures { λ _. ⌜ now (c .exit) ≡ replicate 11 0 ⌝ }
-{
-    let mut i = 0;
-    while i < COUNTS {
-        c[i] = 0;
-        i += 1;
-    }
-}
-
 // No record is left, and every slot is free, whatever was there before.
 pub fn reset(o: &mut [u8; ORDER_BYTES], c: &mut [usize; COUNTS])
     ensures { λ _. ⌜ Emptied (now (o .exit)) (now (c .exit)) ⌝ }
 {
     free_all(o);
-    zero(c);
+    *c = [0usize; COUNTS];
 }
 
 // No record is left.

@@ -1,22 +1,13 @@
--- Laws of the search over queues, and of what the rules do at the place that it finds. Assumes nothing.
-use mathlib.Core.Path.{_≡_, refl, sym, ap, _∙_}
-use mathlib.Core.Bool.{Bool, true, false, _&&_}
-use mathlib.Core.Option.{none, some}
-use mathlib.Core.List.{List, [], _∷_, _++_}
-use Prim.Native.Nat.{ℕ, zero, suc, _+_, _-_, _*_, _/_, _%_, _^_, _≤_, _<_, min}
-use native.Mathlib.Nat.{not-suc-le-zero}
-use native.Mathlib.Numerals.{add-one}
-use native.Mathlib.Omega.{arith}
-use borrow.Author.Tests.{eqb-true, eqb-false, eq-eqb, ne-eqb}
-use lib.Bits.{bitAnd, and-step}
-use lib.Dec.{eqb}
-use lib.ListN.{length, take, drop, getD, set, length-take, drop-of-length-le}
-use lib.Seq.{drop-cons, drop-drop, take-take, getD-take}
+-- Laws of the search over queues, and of what the rules do at the place that it finds.
+use Rattle.numbers.proofs.Basics.{_≡_, refl, sym, ap, _∙_, Bool, true, false, _&&_, none, some, List, [], _∷_, ℕ}
+use Rattle.numbers.proofs.Basics.{zero, suc, _+_, _-_, _*_, _/_, _%_, _^_, _≤_, _<_, min, add-one, arith, length}
+use Rattle.numbers.proofs.Basics.{take, drop, getD, length-take, drop-of-length-le, drop-cons, getD-take, eqb, bitAnd}
+use Rattle.numbers.proofs.Basics.{and-step, eqb-true, eqb-false, eq-eqb, ne-eqb}
 use Rattle.rules.specs.Bytes.{choose, field}
 use Rattle.rules.specs.State.{Record, bit, hasBit}
-use Rattle.rules.specs.Requests.{isFor, consTo, without, orIn, withoutFirst}
+use Rattle.rules.specs.Requests.{consTo, without, orIn, withoutFirst}
 use Rattle.rules.specs.Take.{firstAllowed, keep}
-use Rattle.numbers.proofs.Laws.{drop-take}
+use Rattle.numbers.proofs.Laws.{field-part, each-subclass}
 use Rattle.store_queues.specs.Slots.{removeAt, slot}
 use Rattle.store_queues.specs.Queues.{withoutAt}
 use Rattle.store_queues.proofs.Counts.{halves}
@@ -25,13 +16,6 @@ use Rattle.store_search.specs.declared.Found.the-variants.{At, None}
 use Rattle.store_search.specs.Search.{isForWord, wanted, searchQueue, searchQueues, leftAt, handedAt}
 
 -- ---- a record is for a subchannel by one word of its slot, which is two halves
-field-slot : (at n w : ℕ) (b : List ℕ) (s : ℕ) → at + n ≤ w → field at n (slot w b s) ≡ field (s * w + at) n b
-unfolding slot
-field-slot at n w b s h =
-    let e : at + (w - at) ≡ w = omega arith in
-    let d : drop at (take w (drop (s * w) b)) ≡ take (w - at) (drop at (drop (s * w) b)) = rw e at (drop-take at (w - at) (drop (s * w) b)) in
-    rw (d, take-take n (w - at) (drop at (drop (s * w) b)) (omega arith), drop-drop)
-
 -- two words are equal where their halves are
 word-halves : (x y w : ℕ) (s t : Bool) → y < 65536 → eqb x (w / 65536) ≡ s → eqb y (w % 65536) ≡ t → eqb (x * 65536 + y) w ≡ (s && t)
 word-halves x y w true true h e f = eq-eqb (x * 65536 + y) w (omega (arith, h, eqb-true x (w / 65536) e, eqb-true y (w % 65536) f))
@@ -39,22 +23,21 @@ word-halves x y w true false h e f = ne-eqb (x * 65536 + y) w (λ k. eqb-false y
 word-halves x y w false t h e f = ne-eqb (x * 65536 + y) w (λ k. eqb-false x (w / 65536) e (omega (arith, h, k)))
 
 pub is-for-at : (b : List ℕ) (s w p v : ℕ) → p ≡ s * 72 + 8 → v ≡ field p 2 b * 65536 + field (p + 2) 2 b → field (p + 2) 2 b < 65536 → eqb v w ≡ isForWord w (slot 72 b s)
+unfolding slot
 is-for-at b s w p v ep ev h =
-    let x : field 8 2 (slot 72 b s) ≡ field p 2 b = rw ep (field-slot 8 2 72 b s (omega arith)) in
-    let y : field 10 2 (slot 72 b s) ≡ field (p + 2) 2 b =
-    field-slot 10 2 72 b s (omega arith) ∙ ap (λ (j : ℕ). field j 2 b) (let z : s * 72 + 10 ≡ p + 2 = omega arith in z) in
-    rw (ev, x, y) (word-halves (field p 2 b) (field (p + 2) 2 b) w _ _ h refl refl)
+    let z : s * 72 + 10 ≡ p + 2 = omega arith in
+    rw (ev, field-part 8 2 72 (s * 72) b (omega arith), field-part 10 2 72 (s * 72) b (omega arith), z, ← ep) (word-halves _ _ w _ _ h refl refl)
 
 -- ---- the search of the first eight, turn by turn
-module _ (qs : List (List Record)) (f : Record → Bool) (mask i : ℕ) where
-  pub search-over : 8 ≤ i → searchQueues f mask i (drop i (take 8 qs)) ≡ None
+module _ (qs : List (List Record)) (f : Record → Bool) (subclasses i : ℕ) where
+  pub search-over : 8 ≤ i → searchQueues f subclasses i (drop i (take 8 qs)) ≡ None
   unfolding searchQueues
   search-over h = rw (drop-of-length-le (take 8 qs) {i = i} (rw length-take (omega arith)))
 
   abbrev pub later : Found
-  later = searchQueues f mask (i + 1) (drop (i + 1) (take 8 qs))
+  later = searchQueues f subclasses (i + 1) (drop (i + 1) (take 8 qs))
 
-  pub search-queue : i < 8 → length qs ≡ 9 → searchQueues f mask i (drop i (take 8 qs)) ≡ choose (hasBit i mask) (searchQueue f i 0 (getD qs i []) later) later
+  pub search-queue : i < 8 → length qs ≡ 9 → searchQueues f subclasses i (drop i (take 8 qs)) ≡ choose (hasBit i subclasses) (searchQueue f i 0 (getD qs i []) later) later
   unfolding searchQueues
   search-queue h nine =
       let n : i < length (take 8 qs) = rw length-take (omega arith) in
@@ -90,13 +73,13 @@ unfolding searchQueue
 from-queue f n k [] later h = h
 from-queue f n k (r ∷ q) later h = from-choose n (f r) _ _ (omega arith) (from-queue f n (suc k) q later h)
 
-from : (f : Record → Bool) (mask n : ℕ) (qs : List (List Record)) → From n (searchQueues f mask n qs)
+from : (f : Record → Bool) (subclasses n : ℕ) (qs : List (List Record)) → From n (searchQueues f subclasses n qs)
 unfolding searchQueues
-from f mask n [] = tt
-from f mask n (q ∷ qs) =
-    let v = searchQueues f mask (suc n) qs in
-    let l = from-less n v (from f mask (suc n) qs) in
-    from-choose n (hasBit n mask) (searchQueue f n 0 q v) v (from-queue f n 0 q v l) l
+from f subclasses n [] = tt
+from f subclasses n (q ∷ qs) =
+    let v = searchQueues f subclasses (suc n) qs in
+    let l = from-less n v (from f subclasses (suc n) qs) in
+    from-choose n (hasBit n subclasses) (searchQueue f n 0 q v) v (from-queue f n 0 q v l) l
 
 -- the subclass counted from n on
 abbrev past : ℕ → Found → Found
@@ -125,13 +108,13 @@ unfolding choose
 choose-same true a = refl
 choose-same false a = refl
 
-take-from : (n mask : ℕ) (qs : List (List Record)) → firstAllowed n mask qs ≡ handedAt (past n (searchQueues (λ r. true) mask n qs)) qs
+take-from : (n subclasses : ℕ) (qs : List (List Record)) → firstAllowed n subclasses qs ≡ handedAt (past n (searchQueues (λ r. true) subclasses n qs)) qs
 unfolding firstAllowed searchQueue searchQueues choose
-take-from n mask [] = refl
-take-from n mask ([] ∷ qs) =
-    rw (choose-same, take-from (suc n) mask qs) (keep-next n [] qs (searchQueues (λ r. true) mask (suc n) qs) (from (λ r. true) mask (suc n) qs))
-take-from n mask ((r ∷ q) ∷ qs) =
-    rw (take-from (suc n) mask qs) (take-here (hasBit n mask) n r q qs (searchQueues (λ r. true) mask (suc n) qs) (from (λ r. true) mask (suc n) qs))
+take-from n subclasses [] = refl
+take-from n subclasses ([] ∷ qs) =
+    rw (choose-same, take-from (suc n) subclasses qs) (keep-next n [] qs (searchQueues (λ r. true) subclasses (suc n) qs) (from (λ r. true) subclasses (suc n) qs))
+take-from n subclasses ((r ∷ q) ∷ qs) =
+    rw (take-from (suc n) subclasses qs) (take-here (hasBit n subclasses) n r q qs (searchQueues (λ r. true) subclasses (suc n) qs) (from (λ r. true) subclasses (suc n) qs))
 
 -- ---- the clear
 data Look (f : Record → Bool) (q : List Record) : Type 0 where
@@ -153,15 +136,7 @@ look f (r ∷ q) = look-on f r q (f r) refl (look f q)
 
 every-bit : (n : ℕ) → n ≤ 7 → hasBit n 255 ≡ true
 unfolding hasBit
-every-bit zero h = refl
-every-bit (suc zero) h = refl
-every-bit (suc (suc zero)) h = refl
-every-bit (suc (suc (suc zero))) h = refl
-every-bit (suc (suc (suc (suc zero)))) h = refl
-every-bit (suc (suc (suc (suc (suc zero))))) h = refl
-every-bit (suc (suc (suc (suc (suc (suc zero)))))) h = refl
-every-bit (suc (suc (suc (suc (suc (suc (suc zero))))))) h = refl
-every-bit (suc (suc (suc (suc (suc (suc (suc (suc n)))))))) h = absurd (omega arith)
+every-bit = each-subclass (λ n. hasBit n 255 ≡ true) refl refl refl refl refl refl refl refl
 
 cons-next : (n : ℕ) (q : List Record) (qs : List (List Record)) (v : Found) → From (suc n) v → consTo q (leftAt (past (suc n) v) qs) ≡ leftAt (past n v) (q ∷ qs)
 unfolding withoutAt
@@ -185,16 +160,16 @@ clear-from f n (q ∷ qs) h =
     (clear-here f n q qs (searchQueues f 255 (suc n) qs) (from f 255 (suc n) qs) (look f q))
 
 -- what the rules do at what the search answers: the subchannel's first record, and any record of an allowed subclass
-module _ (any : Bool) (word mask : ℕ) (qs : List (List Record)) (v : Found) (e : v ≡ searchQueues (wanted any word) mask 0 (take 8 qs)) where
-  pub cleared : any ≡ false → mask ≡ 255 → withoutFirst (isForWord word) (take 8 qs) ≡ leftAt v (take 8 qs)
+module _ (any : Bool) (word subclasses : ℕ) (qs : List (List Record)) (v : Found) (e : v ≡ searchQueues (wanted any word) subclasses 0 (take 8 qs)) where
+  pub cleared : any ≡ false → subclasses ≡ 255 → withoutFirst (isForWord word) (take 8 qs) ≡ leftAt v (take 8 qs)
   cleared a m =
       clear-from (isForWord word) 0 (take 8 qs) (omega (arith, length-take 8 qs))
       ∙ ap (λ (u : Found). leftAt u (take 8 qs)) (past-none _ ∙ sym (e ∙ (λ i. searchQueues (wanted (a i) word) (m i) 0 (take 8 qs))))
 
-  pub handed-out : any ≡ true → firstAllowed 0 mask (take 8 qs) ≡ handedAt v (take 8 qs)
+  pub handed-out : any ≡ true → firstAllowed 0 subclasses (take 8 qs) ≡ handedAt v (take 8 qs)
   handed-out a =
-      take-from 0 mask (take 8 qs)
-      ∙ ap (λ (u : Found). handedAt u (take 8 qs)) (past-none _ ∙ sym (e ∙ (λ i. searchQueues (wanted (a i) word) mask 0 (take 8 qs))))
+      take-from 0 subclasses (take 8 qs)
+      ∙ ap (λ (u : Found). handedAt u (take 8 qs)) (past-none _ ∙ sym (e ∙ (λ i. searchQueues (wanted (a i) word) subclasses 0 (take 8 qs))))
 
 -- ---- a mask without the subclasses that have no records
 one-digit : (a b : ℕ) → min (a % 2) (b % 2) < 2
@@ -208,22 +183,16 @@ digit-and (suc k) a b =
     let e : bitAnd a b / 2 ≡ bitAnd (a / 2) (b / 2) = omega (arith, and-step a b, one-digit a b) in
     rw (← halves (bitAnd a b) k, ← halves a k, ← halves b k, e) (digit-and k (a / 2) (b / 2))
 
-bit-and : (i a b : ℕ) → i ≤ 7 → bitAnd a b / bit i % 2 ≡ min (a / bit i % 2) (b / bit i % 2)
-bit-and zero a b h = digit-and 7 a b
-bit-and (suc zero) a b h = digit-and 6 a b
-bit-and (suc (suc zero)) a b h = digit-and 5 a b
-bit-and (suc (suc (suc zero))) a b h = digit-and 4 a b
-bit-and (suc (suc (suc (suc zero)))) a b h = digit-and 3 a b
-bit-and (suc (suc (suc (suc (suc zero))))) a b h = digit-and 2 a b
-bit-and (suc (suc (suc (suc (suc (suc zero)))))) a b h = digit-and 1 a b
-bit-and (suc (suc (suc (suc (suc (suc (suc zero))))))) a b h = digit-and 0 a b
-bit-and (suc (suc (suc (suc (suc (suc (suc (suc i)))))))) a b h = absurd (omega arith)
+bit-and : (a b i : ℕ) → i ≤ 7 → bitAnd a b / bit i % 2 ≡ min (a / bit i % 2) (b / bit i % 2)
+bit-and a b =
+    each-subclass (λ i. bitAnd a b / bit i % 2 ≡ min (a / bit i % 2) (b / bit i % 2))
+    (digit-and 7 a b) (digit-and 6 a b) (digit-and 5 a b) (digit-and 4 a b) (digit-and 3 a b) (digit-and 2 a b) (digit-and 1 a b) (digit-and 0 a b)
 
 -- a bit of two masks is that of the one where the other has it
 pub has-both : (i a b : ℕ) → i ≤ 7 → hasBit i b ≡ true → hasBit i (bitAnd a b) ≡ hasBit i a
 unfolding hasBit
 has-both i a b h k =
-    let e : bitAnd a b / bit i % 2 ≡ a / bit i % 2 = omega (arith, bit-and i a b h, eqb-true (b / bit i % 2) 1 k) in
+    let e : bitAnd a b / bit i % 2 ≡ a / bit i % 2 = omega (arith, bit-and a b i h, eqb-true (b / bit i % 2) 1 k) in
     rw e
 
 -- masks that agree on the subclasses that have records

@@ -20,17 +20,17 @@ isForWord w r = isFor (w / 65536) (w % 65536) r
 abbrev pub wanted : Bool → ℕ → Record → Bool
 wanted any w r = any || isForWord w r
 
--- A search over queues, the first of which is that of subclass isc: the first record that is wanted, of a subclass that
--- the mask allows. Found are its subclass and its place in the queue. A queue is searched from place k on.
+-- A search over queues, the first of which is that of subclass isc: the first record that is wanted, of one of the
+-- subclasses. Found are its subclass and its place in the queue. A queue is searched from place k on.
 unfoldable pub searchQueue : (Record → Bool) → ℕ → ℕ → List Record → Found → Found
 searchQueue f isc k [] later = later
 searchQueue f isc k (r ∷ q) later = choose (f r) (At (record { 0 = isc }) k) (searchQueue f isc (suc k) q later)
 
 unfoldable pub searchQueues : (Record → Bool) → ℕ → ℕ → List (List Record) → Found
-searchQueues f mask isc [] = None
-searchQueues f mask isc (q ∷ qs) =
-    let later = searchQueues f mask (suc isc) qs in
-    choose (hasBit isc mask) (searchQueue f isc 0 q later) later
+searchQueues f subclasses isc [] = None
+searchQueues f subclasses isc (q ∷ qs) =
+    let later = searchQueues f subclasses (suc isc) qs in
+    choose (hasBit isc subclasses) (searchQueue f isc 0 q later) later
 
 -- the record found is in the queue of its subclass
 abbrev pub FoundIn : List ℕ → Found → Type 0

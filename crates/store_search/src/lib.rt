@@ -26,18 +26,18 @@ fn is_for(b: &[u8; SLOT_BYTES], s: u8, word: Subchannel) -> bool
     numbers::read_word(b, numbers::index(s) * 72 + 8) == word.0
 }
 
-// The first record in listing order of a subclass that the mask allows, and for the subchannel unless any will do.
+// The first record in listing order of one of the subclasses, and for the subchannel unless any will do.
 pub fn find(
     b: &[u8; SLOT_BYTES],
     o: &[u8; ORDER_BYTES],
     c: &[usize; COUNTS],
-    mask: u8,
+    subclasses: u8,
     any: bool,
     word: Subchannel,
 ) -> Found
     requires { ⌜ Held (now o) (now c) ⌝ }
-    ensures clears { λ r. ⌜ (any ≡ false → mask ≡ 255 → withoutFirst (isForWord (word .0)) (take 8 (queues (now (o .entry)) (now (c .entry)) (now (b .entry)))) ≡ leftAt r (take 8 (queues (now (o .entry)) (now (c .entry)) (now (b .entry))))) ⌝ }
-    ensures hands { λ r. ⌜ (any ≡ true → firstAllowed 0 mask (take 8 (queues (now (o .entry)) (now (c .entry)) (now (b .entry)))) ≡ handedAt r (take 8 (queues (now (o .entry)) (now (c .entry)) (now (b .entry))))) ⌝ }
+    ensures clears { λ r. ⌜ (any ≡ false → subclasses ≡ 255 → withoutFirst (isForWord (word .0)) (take 8 (queues (now (o .entry)) (now (c .entry)) (now (b .entry)))) ≡ leftAt r (take 8 (queues (now (o .entry)) (now (c .entry)) (now (b .entry))))) ⌝ }
+    ensures hands { λ r. ⌜ (any ≡ true → firstAllowed 0 subclasses (take 8 (queues (now (o .entry)) (now (c .entry)) (now (b .entry)))) ≡ handedAt r (take 8 (queues (now (o .entry)) (now (c .entry)) (now (b .entry))))) ⌝ }
     ensures place { λ r. ⌜ FoundIn (now (c .entry)) r ⌝ }
 {
     let mut found = Found::None;
@@ -45,7 +45,7 @@ pub fn find(
     'search: while isc < 8 {
         let q = store_queues::of(Subclass(isc));
         let n = store_queues::count(c, q);
-        let allowed = adapters::has_bit(Subclass(isc), mask);
+        let allowed = adapters::has_bit(Subclass(isc), subclasses);
         let mut k = 0;
         while allowed && k < n {
             if any || is_for(b, store_queues::slot_of(o, q, k), word) {

@@ -1,20 +1,13 @@
--- Laws of the two records in their bytes, and of the merge. Assumes nothing.
-use mathlib.Core.Path.{_≡_, refl, sym, ap, _∙_}
-use mathlib.Core.Bool.{Bool, true, false, not}
-use mathlib.Core.Option.{none, some}
-use mathlib.Core.List.{List, [], _∷_, _++_, zipWith, append-assoc}
-use Prim.Native.Nat.{ℕ, zero, suc, _+_, _-_, _≤_, _<_, min}
-use native.Mathlib.Nat.{add-zero}
-use native.Mathlib.Decide.{decLt}
-use native.Mathlib.Omega.{arith}
-use borrow.Author.Tests.{eqb-true, eqb-false, not-true, not-false}
-use lib.ListN.{length, take, drop, getD, set, length-take, length-drop, drop-of-length-le}
-use lib.Dec.{eqb}
-use lib.Bits.{bitOr}
-use lib.Seq.{take-add, take-all, take-at, drop-at, take-take, take-set-le, drop-drop, getD-drop, getD-set-same, getD-set-other, set-out, length-take-le, length-paste, paste}
+-- Laws of the two records in their bytes, and of the merge.
+use Rattle.numbers.proofs.Basics.{_≡_, refl, sym, ap, _∙_, Bool, true, false, not, none, some, List, [], _∷_, _++_}
+use Rattle.numbers.proofs.Basics.{zipWith, append-assoc, ℕ, zero, suc, _+_, _-_, _≤_, _<_, min, decLt, arith, length}
+use Rattle.numbers.proofs.Basics.{take, drop, getD, set, length-take, length-drop, drop-of-length-le, take-add}
+use Rattle.numbers.proofs.Basics.{take-all, take-at, drop-at, take-take, take-set-le, drop-drop, getD-drop}
+use Rattle.numbers.proofs.Basics.{getD-set-same, getD-set-other, set-out, length-take-le, length-paste, paste, eqb}
+use Rattle.numbers.proofs.Basics.{bitOr, eqb-true, eqb-false, not-true, not-false}
 use Rattle.rules.specs.Bytes.{byte, part}
 use Rattle.rules.specs.State.{Record, merged, mergedOr}
-use Rattle.numbers.proofs.Laws.{drop-take, paste-more, part-same, part-before, drop-past}
+use Rattle.numbers.proofs.Laws.{drop-take, paste-more, part-same, part-before, getD-past}
 use Rattle.store_singles.specs.Singles.{ifThere, serviceOf, mchkOf}
 
 pub absent : (n : ℕ) (r : Record) → n ≡ 0 → ifThere n r ≡ none
@@ -39,34 +32,36 @@ within [] i h = absurd (h refl)
 within (x ∷ g) zero h = omega arith
 within (x ∷ g) (suc i) h = omega (arith, within g i h)
 
-pub cleared : (g : List ℕ) (i : ℕ) → byte i (set g i 0) ≡ 0
+cleared : (g : List ℕ) (i : ℕ) → byte i (set g i 0) ≡ 0
 cleared [] i = refl
 cleared (x ∷ g) zero = refl
 cleared (x ∷ g) (suc i) = cleared g i
-
--- what stands past a copy
-byte-past : (d : List ℕ) (at : ℕ) (s : List ℕ) (n i : ℕ) → at + n ≤ i → at ≤ length d → n ≤ length s → byte i (paste d at s n) ≡ byte i d
-byte-past d at s n i h k f = simp (getD-drop, add-zero) at (ap (λ (l : List ℕ). getD l 0 0) (drop-past d at s n i h k f))
 
 -- the flag at j is set: the part before it, and the other record
 module _ (g : List ℕ) (at j x : ℕ) (h : at + 72 ≤ j) where
   part-set : part at 72 (set g j x) ≡ part at 72 g
   part-set = sym (drop-take at 72 (set g j x)) ∙ ap (λ (l : List ℕ). drop at l) (take-set-le (at + 72) g j x h) ∙ drop-take at 72 g
 
-  pub other : (i : ℕ) → (i ≡ j → ⊥) → ifThere (byte i (set g j x)) (part at 72 (set g j x)) ≡ ifThere (byte i g) (part at 72 g)
+  other : (i : ℕ) → (i ≡ j → ⊥) → ifThere (byte i (set g j x)) (part at 72 (set g j x)) ≡ ifThere (byte i g) (part at 72 g)
   other i k = rw (getD-set-other g j i x 0 k, part-set)
 
--- a record is saved and its flag at j set: it is there, and the other one stays
-module _ (g : List ℕ) (at : ℕ) (r : List ℕ) (j : ℕ) (h : at + 72 ≤ j) (k : j < length g) (w : length r ≡ 72) where
-  pub saved : ifThere (byte j (set (paste g at r 72) j 1)) (part at 72 (set (paste g at r 72) j 1)) ≡ some r
-  unfolding ifThere
-  saved =
-      let e : length (paste g at r 72) ≡ length g = length-paste g at r 72 (omega arith) (omega arith) in
-      rw (getD-set-same (paste g at r 72) j 1 0 (omega arith), part-set (paste g at r 72) at j 1 h) (ap some (part-same g at r 72 (omega arith) w))
+-- a record is saved at `at` and its flag at j set: it is there, and the other one, at `from` with its flag at i, stays
+pub stored : (g : List ℕ) (at : ℕ) (r : List ℕ) (j : ℕ) → at + 72 ≤ j → j < length g → length r ≡ 72 → (from i : ℕ) → from + 72 ≤ j → at + 72 ≤ i → (i ≡ j → ⊥)
+    → part from 72 (paste g at r 72) ≡ part from 72 g
+    → let d = set (paste g at r 72) j 1 in
+    (ifThere (byte j d) (part at 72 d) ≡ some r) × (ifThere (byte i d) (part from 72 d) ≡ ifThere (byte i g) (part from 72 g))
+unfolding ifThere
+stored g at r j h k w from i f b n e =
+    let p : List ℕ = paste g at r 72 in
+    let l : length p ≡ length g = length-paste g at r 72 (omega arith) (omega arith) in (
+      rw (getD-set-same p j 1 0 (omega arith), part-set p at j 1 h) (ap some (part-same g at r 72 (omega arith) w)),
+      other p from j 1 f i n ∙ rw (e, getD-past g at r 72 i 0 b (omega arith) (omega arith)),
+    )
 
-  pub kept : (from i : ℕ) → from + 72 ≤ j → at + 72 ≤ i → (i ≡ j → ⊥) → part from 72 (paste g at r 72) ≡ part from 72 g
-      → ifThere (byte i (set (paste g at r 72) j 1)) (part from 72 (set (paste g at r 72) j 1)) ≡ ifThere (byte i g) (part from 72 g)
-  kept from i f b n e = other (paste g at r 72) from j 1 f i n ∙ rw (e, byte-past g at r 72 i b (omega arith) (omega arith))
+-- a flag at j is cleared: its record is not there, and the other one stays
+pub dropped : (g : List ℕ) (at j i : ℕ) (r : Record) → at + 72 ≤ j → (i ≡ j → ⊥)
+    → (ifThere (byte j (set g j 0)) r ≡ none) × (ifThere (byte i (set g j 0)) (part at 72 (set g j 0)) ≡ ifThere (byte i g) (part at 72 g))
+dropped g at j i r h n = (absent _ r (cleared g j), other g at j 0 h i n)
 
 module _ (f : ℕ → ℕ → ℕ) where
   length-zipWith : (xs ys : List ℕ) → length (zipWith f xs ys) ≡ min (length xs) (length ys)
@@ -112,15 +107,15 @@ module _ (g r : List ℕ) (k : length r ≡ 72) where
         | yes h ↦
             let x : getD (ors g r) i 0 ≡ bitOr (byte (80 + i) g) (byte (8 + i) r) =
             getD-zipWith bitOr (drop 80 g) (drop 8 r) i (simp length-drop (omega arith)) (simp length-drop (omega arith)) ∙ simp getD-drop in
-            let y : byte (80 + i) b ≡ byte (80 + i) g = rw e (byte-past g 80 (ors g r) i (80 + i) (omega arith) (omega arith) (omega arith)) in
-            rw (y, ← x) (paste-more b g 80 (ors g r) i (80 + i) 0 refl h (omega arith) e)
+            let y : byte (80 + i) b ≡ byte (80 + i) g = rw e (getD-past g 80 (ors g r) i (80 + i) 0 (omega arith) (omega arith) (omega arith)) in
+            rw (y, ← x) (paste-more b g 80 (ors g r) i (80 + i) 16 0 refl h (omega arith) f l e .2)
         | no h ↦
             set-out b (80 + i) _ (omega arith) ∙ e ∙ rw (take-all i (ors g r) (omega arith), take-all (i + 1) (ors g r) (omega arith), drop-of-length-le g {i = 80 + i} (omega arith), drop-of-length-le g {i = 80 + (i + 1)} (omega arith))
       ]
 
   module _ (h : 96 ≤ length g) where
     merged-flag : (i : ℕ) → 96 ≤ i → byte i (both g r) ≡ byte i g
-    merged-flag i f = rw (← merge-all g r) (byte-past g 80 (ors g r) 16 i f (omega arith) (omega (arith, length-ors)))
+    merged-flag i f = rw (← merge-all g r) (getD-past g 80 (ors g r) 16 i 0 f (omega arith) (omega (arith, length-ors)))
 
     merged-part : part 72 72 (both g r) ≡ merged (part 72 72 g) r
     unfolding merged

@@ -1,12 +1,6 @@
 -- `list_form::form` meets its contract: the checks in order, each one's test as the code has it.
-use Prim.Native.Nat.{_≤_}
-use mathlib.Core.Path.{_≡_, sym, ap, _∙_}
-use mathlib.Core.Bool.{true, _&&_}
-use native.Mathlib.Omega.{arith}
-use lib.ListN.{length}
-use lib.Dec.{leb, eqb}
-use borrow.Author.Needs.{needs}
-use borrow.Author.Tests.{eq-eqb, ne-eqb, le-leb, lt-leb, not-true, not-false}
+use Rattle.numbers.proofs.Basics.{_≡_, sym, ap, _∙_, true, _&&_, _≤_, arith, length, leb, eqb, eq-eqb, ne-eqb, le-leb}
+use Rattle.numbers.proofs.Basics.{lt-leb, not-true, not-false, needs}
 use Rattle.rules.specs.State.{Limits, State}
 use Rattle.rules.specs.MoveList.{oneIf, headerBytes, countIn, tableOffsetIn, payloadOffsetIn, payloadOffset, formed, mostRequests, plays}
 use Rattle.rules.proofs.Checks.{passes, fails}

@@ -1,7 +1,5 @@
 -- `list_form::offsets` meets its contract, by its tests.
-use mathlib.Core.Path.{_∙_, sym}
-use borrow.Author.Needs.{needs}
-use borrow.Author.Tests.{eq-eqb, ne-eqb}
+use Rattle.numbers.proofs.Basics.{_∙_, sym, eq-eqb, ne-eqb, needs}
 use Rattle.rules.specs.MoveList.{tableOffsetIn, payloadOffsetIn, payloadOffset}
 use Rattle.list_form.proofs.offsets.Statement.{statement}
 use Rattle.list_form.proofs.offsets.Tie as tie

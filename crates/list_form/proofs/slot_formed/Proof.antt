@@ -1,8 +1,5 @@
 -- `list_form::slot_formed` meets its contract, by its tests.
-use Prim.Native.Nat.{_+_, _*_}
-use mathlib.Core.Path.{_∙_, sym}
-use borrow.Author.Needs.{needs}
-use borrow.Author.Tests.{eq-eqb, ne-eqb}
+use Rattle.numbers.proofs.Basics.{_∙_, sym, _+_, _*_, eq-eqb, ne-eqb, needs}
 use Rattle.list_form.specs.Form.{slotAt}
 use Rattle.list_form.proofs.Laws.{inside}
 use Rattle.list_form.proofs.slot_formed.Statement.{statement}

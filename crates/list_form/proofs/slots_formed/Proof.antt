@@ -1,10 +1,6 @@
--- The invariant: the check of what is left, from where the next payload begins, comes to what the check of all comes to.
-use Prim.Native.Nat.{_+_, _-_, _*_, _^_, _≤_}
-use mathlib.Core.Path.{_≡_, sym, _∙_}
-use native.Mathlib.Omega.{arith}
-use lib.ListN.{length, drop}
-use borrow.Author.Needs.{needs}
-use borrow.Author.Tests.{not-true, not-false}
+-- The invariant: checking the entries that are left, from where the next payload begins, gives what checking all gives.
+use Rattle.numbers.proofs.Basics.{_≡_, sym, _∙_, _+_, _-_, _*_, _^_, _≤_, arith, length, drop, not-true, not-false}
+use Rattle.numbers.proofs.Basics.{needs}
 use Rattle.rules.specs.MoveList.{headerBytes, payloadOffset, tableEntriesIn, formed}
 use Rattle.list_form.specs.Form.{slotAt}
 use Rattle.list_form.proofs.Laws.{inside, slotsFrom, slots-all, formed-next, formed-stops, formed-ends}
@@ -19,23 +15,11 @@ Inv-loop list count at₀ i₀ at i =
 abbrev μ-loop : tie.MeasureT-loop
 μ-loop list count at₀ i₀ at i = count - i
 
-loop-holds : tie.Need-loop-holds Inv-loop μ-loop
-loop-holds c = (omega arith, omega arith, rw slots-all)
-
-slot-formed-requires : tie.Need-slot-formed-requires Inv-loop μ-loop
-slot-formed-requires c κs = (omega arith, omega arith)
-
 returns : tie.Need-returns Inv-loop μ-loop
 returns c =
     let a = c .before .before .before .before .before .args in
     let l = c .before .before .before .loop in
     sym (l .inv .2 ∙ formed-stops (length (a .list .now)) (l .at) (l .i) (a .count) (a .list .now) (c .before .before .loop-test .taken) (sym (c .before .slot-formed .ensures) ∙ not-true _ (c .if1 .taken)))
-
-read-be-requires : tie.Need-read-be-requires Inv-loop μ-loop
-read-be-requires c κs = (omega arith, omega arith)
-
-add-at-2 : tie.Need-add-at-2 Inv-loop μ-loop
-add-at-2 c = omega (arith, c .read-be .ensures .1)
 
 loop-again : tie.Need-loop-again Inv-loop μ-loop
 loop-again c =
@@ -58,5 +42,7 @@ returns-2 c =
 pub slots-formed-spec : {M : Type 1} → statement M
 slots-formed-spec =
     tie.close
-    (tie.spec Inv-loop μ-loop (λ c. search needs) (λ c. search needs) loop-holds slot-formed-requires returns (λ c. search needs)
-    (λ c. search needs) read-be-requires add-at-2 (λ c. search needs) (λ c. search needs) loop-again returns-2)
+    (tie.spec Inv-loop μ-loop (λ c. search needs) (λ c. search needs) (λ c. (omega arith, omega arith, rw slots-all))
+    (λ c κs. (omega arith, omega arith)) returns (λ c. search needs) (λ c. search needs)
+    (λ c κs. (omega arith, omega arith)) (λ c. omega (arith, c .read-be .ensures .1)) (λ c. search needs)
+    (λ c. search needs) loop-again returns-2)

@@ -1,6 +1,5 @@
 -- `list_image::look_up` meets its contract, by the test.
-use mathlib.Core.Path.{ap, _∙_}
-use borrow.Author.Needs.{needs}
+use Rattle.numbers.proofs.Basics.{ap, _∙_, needs}
 use Rattle.adapters.specs.Values.{placeOf}
 use Rattle.list_image.proofs.Laws.{read-in, read-out, read-canonical}
 use Rattle.list_image.proofs.look_up.Statement.{statement}

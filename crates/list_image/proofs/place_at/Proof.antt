@@ -1,8 +1,5 @@
 -- `list_image::place_at` meets its contract: past the end the byte reads as 0.
-use borrow.Author.Needs.{needs}
-use mathlib.Core.Path.{sym, ap, _∙_}
-use lib.ListN.{List·getD-eq-default}
-use native.Mathlib.Omega.{arith}
+use Rattle.numbers.proofs.Basics.{sym, ap, _∙_, arith, List·getD-eq-default, needs}
 use Rattle.list_image.specs.Image.{unpacked}
 use Rattle.list_image.proofs.place_at.Statement.{statement}
 use Rattle.list_image.proofs.place_at.Tie as tie

@@ -1,10 +1,5 @@
 -- The invariant: those counted and those left are all.
-use Prim.Native.Nat.{_+_, _-_, _≤_}
-use mathlib.Core.Path.{_≡_}
-use native.Mathlib.Omega.{arith}
-use mathlib.Core.List.{[]}
-use lib.ListN.{length, getD}
-use borrow.Author.Needs.{needs}
+use Rattle.numbers.proofs.Basics.{_≡_, _+_, _-_, _≤_, arith, length, getD, needs}
 use Rattle.list_image.specs.Image.{imageSize, unpacked}
 use Rattle.list_write.specs.Parts.{each, isWritten}
 use Rattle.list_write.proofs.Entries.{eachFrom, each-last, count-turn}
@@ -17,15 +12,12 @@ Inv-loop modify image n₀ i₀ n i = (i ≤ imageSize) × (n ≤ i) × (n + len
 abbrev μ-loop : tie.MeasureT-loop
 μ-loop modify image n₀ i₀ n i = imageSize - i
 
-loop-holds : tie.Need-loop-holds Inv-loop μ-loop
-loop-holds c = (omega arith, omega arith, omega arith)
-
 loop-again : tie.Need-loop-again Inv-loop μ-loop
 loop-again c =
     let a = c .before .before .before .before .before .args in
     let l = c .before .before .before .before .loop in
     let t : c .before .is-written .result ≡ isWritten (a .modify) (unpacked (getD (a .t1) (l .i) 0)) = rw (c .before .before .unpack .ensures) at (c .before .is-written .ensures) in
-    (omega arith, omega arith, omega (arith, l .inv .2, c .flag-of .ensures .0, count-turn (a .modify) (l .i) (a .t1) (search needs) (c .before .is-written .result) t [] [] 0))
+    (omega arith, omega arith, omega (arith, l .inv .2, c .flag-of .ensures .0, count-turn (a .modify) (l .i) (a .t1) (search needs) (c .before .is-written .result) t))
 
 returns : tie.Need-returns Inv-loop μ-loop
 returns c =
@@ -37,5 +29,6 @@ returns c =
 pub count-spec : {M : Type 1} → statement M
 count-spec =
     tie.close
-    (tie.spec Inv-loop μ-loop loop-holds (λ c. search needs) (λ c κs. search needs) (λ c κs. search needs) (λ c κs. search needs)
-    (λ c. search needs) (λ c. search needs) (λ c. search needs) loop-again returns)
+    (tie.spec Inv-loop μ-loop (λ c. (omega arith, omega arith, omega arith)) (λ c. search needs)
+    (λ c κs. search needs) (λ c κs. search needs) (λ c κs. search needs) (λ c. search needs) (λ c. search needs)
+    (λ c. search needs) loop-again returns)

@@ -3,14 +3,9 @@ use borrow.Author.Tests.{not-true, not-false}
 use Rattle.list_write.proofs.is_written.Statement.{statement}
 use Rattle.list_write.proofs.is_written.Tie as tie
 
-returns : tie.Need-returns
-returns c = rw (not-true (c .before .before .args .p .used) (c .if1 .taken))
-
-returns-2 : tie.Need-returns-2
-returns-2 c = rw (not-false (c .before .before .before .args .p .used) (c .before .if1 .left), c .if2 .taken)
-
-returns-3 : tie.Need-returns-3
-returns-3 c = rw (not-false (c .before .before .before .args .p .used) (c .before .if1 .left), c .if2 .left)
-
 pub is-written-spec : {M : Type 1} → statement M
-is-written-spec = tie.close (tie.spec returns returns-2 returns-3)
+is-written-spec =
+    tie.close
+    (tie.spec (λ c. rw (not-true (c .before .before .args .p .used) (c .if1 .taken)))
+    (λ c. rw (not-false (c .before .before .before .args .p .used) (c .before .if1 .left), c .if2 .taken))
+    (λ c. rw (not-false (c .before .before .before .args .p .used) (c .before .if1 .left), c .if2 .left)))

@@ -1,9 +1,5 @@
 -- The invariant: what is left, put behind what is there now, comes to what all comes to.
-use Prim.Native.Nat.{_+_, _-_, _*_, _≤_}
-use mathlib.Core.Path.{_≡_, refl, sym, _∙_}
-use native.Mathlib.Omega.{arith}
-use lib.ListN.{length, getD}
-use borrow.Author.Needs.{needs}
+use Rattle.numbers.proofs.Basics.{_≡_, refl, sym, _∙_, _+_, _-_, _*_, _≤_, arith, length, getD, needs}
 use Rattle.rules.specs.MoveList.{oneIf, payloads}
 use Rattle.list_image.specs.Image.{imageSize, unpacked}
 use Rattle.list_image.proofs.Packed.{unpacked-isc}
@@ -29,16 +25,10 @@ room : (c : tie.After-is-written Inv-loop μ-loop) → let l = c .before .before
     l .a + sizeOf m * oneIf (c .is-written .result) + sizeOf m * length (eachFrom m (l .i + 1) (c .before .before .before .before .before .args .t3)) ≤ length (l .out)
 room c =
     let l = c .before .before .before .loop in
-    room-turn (c .before .before .before .before .before .args .modify) (l .i) (c .before .before .before .before .before .args .t3) (search needs) (c .is-written .result) (on-is c) (l .out) (l .out) (l .a) _ _ (l .inv .2)
-
-loop-holds : tie.Need-loop-holds Inv-loop μ-loop
-loop-holds c = let s = c .before in (omega arith, refl, s .pre, refl)
+    room-turn (c .before .before .before .before .before .args .modify) (l .i) (c .before .before .before .before .before .args .t3) (search needs) _ (on-is c) (l .a) _ _ (l .inv .2)
 
 put-payload-requires : tie.Need-put-payload-requires Inv-loop μ-loop
 put-payload-requires c κs = (rw (c .before .before .unpack .ensures) (unpacked-isc (getD (c .before .before .before .before .before .before .args .t3) (c .before .before .before .before .loop .i) 0)), omega (arith, room (c .before)))
-
-add-a : tie.Need-add-a Inv-loop μ-loop
-add-a c = omega (arith, room (c .before .before .before .before .before), c .size-if .ensures .0)
 
 loop-again : tie.Need-loop-again Inv-loop μ-loop
 loop-again c =
@@ -54,9 +44,6 @@ loop-again c =
           (rw (c .before .before .before .before .before .before .unpack .ensures) at (c .before .before .before .put-payload .ensures))),
     )
 
-same-length : tie.Need-same-length Inv-loop μ-loop
-same-length c = c .before .loop .inv .1
-
 returns : tie.Need-returns Inv-loop μ-loop
 unfolding payloads
 returns c =
@@ -68,5 +55,6 @@ returns c =
 pub put-adapter-payloads-spec : {M : Type 1} → statement M
 put-adapter-payloads-spec =
     tie.close
-    (tie.spec Inv-loop μ-loop loop-holds (λ c. search needs) (λ c κs. search needs) (λ c κs. search needs) put-payload-requires
-    (λ c κs. search needs) add-a (λ c. search needs) (λ c. search needs) loop-again same-length returns)
+    (tie.spec Inv-loop μ-loop (λ c. let s = c .before in (omega arith, refl, s .pre, refl)) (λ c. search needs)
+    (λ c κs. search needs) (λ c κs. search needs) put-payload-requires (λ c κs. search needs) (λ c. search needs)
+    (λ c. search needs) (λ c. search needs) loop-again (λ c. c .before .loop .inv .1) returns)

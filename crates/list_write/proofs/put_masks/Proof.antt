@@ -1,8 +1,5 @@
 -- `list_write::put_masks` meets its contract, by its test.
-use Prim.Native.Nat.{_+_, _*_}
-use mathlib.Core.Path.{_∙_}
-use native.Mathlib.Omega.{arith}
-use borrow.Author.Needs.{needs}
+use Rattle.numbers.proofs.Basics.{_∙_, _+_, _*_, arith, needs}
 use Rattle.rules.specs.Bytes.{choose, bytes}
 use Rattle.rules.proofs.Codec.{length-bytes}
 use Rattle.list_write.proofs.Entries.{put-none, put-paste}
@@ -23,12 +20,8 @@ returns c =
     (c .before .before .write-be .ensures ∙ put-paste (a .out .now) (a .at) (bytes 2 (c .before .before .before .before .wide .result * 256 + c .before .before .before .wide2 .result)) 2 (length-bytes 2 _)
     ∙ rw (e .0, f .0, two-bytes (a .simm) (a .nimm) (rw (← e .0) (e .1)) (rw (← f .0) (f .1))))
 
-returns-2 : tie.Need-returns-2
-unfolding choose
-returns-2 c = rw (c .if1 .left) (put-none _ _)
-
 pub put-masks-spec : {M : Type 1} → statement M
 put-masks-spec =
     tie.close
-    (tie.spec (λ c κs. search needs) (λ c. search needs) (λ c κs. search needs) (λ c. search needs) write-be-requires (λ c. search needs)
-    returns returns-2)
+    (tie.spec (λ c κs. search needs) (λ c. search needs) (λ c κs. search needs) (λ c. search needs) write-be-requires
+    (λ c. search needs) returns (λ c. unfold choose in rw (c .if1 .left) (put-none _ _)))

@@ -1,20 +1,10 @@
 -- `list_write::put_payload` meets its contract: nothing, a MODIFY or a REGISTER.
-use Prim.Native.Nat.{ℕ, _+_, _≤_}
-use mathlib.Core.Path.{_≡_}
-use mathlib.Core.Bool.{true}
-use native.Mathlib.Omega.{arith}
+use Rattle.numbers.proofs.Basics.{_≡_, true, _+_, _≤_, arith, length, not-true, not-false, needs}
 use denote.Ref.{now}
-use lib.ListN.{length}
-use borrow.Author.Needs.{needs}
-use borrow.Author.Tests.{not-true, not-false}
 use Rattle.rules.specs.Bytes.{choose}
 use Rattle.list_write.proofs.Entries.{put-none, payload-room, modify-put, register-put}
 use Rattle.list_write.proofs.put_payload.Statement.{statement}
 use Rattle.list_write.proofs.put_payload.Tie as tie
-
-returns : tie.Need-returns
-unfolding choose
-returns c = rw (not-true (c .before .before .args .on) (c .if1 .taken)) (put-none _ _)
 
 -- there is a payload, and room for it
 module _ (c : tie.Else1) where
@@ -26,12 +16,6 @@ module _ (c : tie.Else1) where
 
   room : (start .args .at + 8 ≤ length (now (start .args .out))) × (start .args .modify ≡ true → start .args .at + 16 ≤ length (now (start .args .out)))
   room = payload-room (start .args .on) (start .args .modify) _ _ (start .pre .1) wanted
-
-write-be-requires : tie.Need-write-be-requires
-write-be-requires c κs = let r = room (c .before) .0 in (omega arith, omega arith)
-
-write-be-requires-2 : tie.Need-write-be-requires-2
-write-be-requires-2 c κs = let r = room (c .before .before .before .before .before .before) .0 in (omega arith, omega arith)
 
 write-be-requires-3 : tie.Need-write-be-requires-3
 write-be-requires-3 c κs =
@@ -71,7 +55,10 @@ returns-3 c =
 pub put-payload-spec : {M : Type 1} → statement M
 put-payload-spec =
     tie.close
-    (tie.spec returns write-be-requires (λ c. search needs) write-be-requires-2 (λ c. search needs) write-be-requires-3 (λ c. search needs)
-    returns-2 (λ c κs. search needs) (λ c. search needs) (λ c κs. search needs) (λ c. search needs) (λ c. search needs)
-    (λ c κs. search needs) (λ c. search needs) (λ c. search needs) (λ c κs. search needs) (λ c. search needs) (λ c. search needs)
-    write-be-requires-4 (λ c. search needs) returns-3)
+    (tie.spec (λ c. unfold choose in rw (not-true (c .before .before .args .on) (c .if1 .taken)) (put-none _ _))
+    (λ c κs. let r = room (c .before) .0 in (omega arith, omega arith)) (λ c. search needs)
+    (λ c κs. let r = room (c .before .before .before .before .before .before) .0 in (omega arith, omega arith))
+    (λ c. search needs) write-be-requires-3 (λ c. search needs) returns-2 (λ c κs. search needs) (λ c. search needs)
+    (λ c κs. search needs) (λ c. search needs) (λ c. search needs) (λ c κs. search needs) (λ c. search needs)
+    (λ c. search needs) (λ c κs. search needs) (λ c. search needs) (λ c. search needs) write-be-requires-4
+    (λ c. search needs) returns-3)

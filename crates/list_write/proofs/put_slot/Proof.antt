@@ -1,21 +1,16 @@
 -- `list_write::put_slot` meets its contract, by its test.
-use native.Mathlib.Omega.{arith}
-use borrow.Author.Needs.{needs}
+use Rattle.numbers.proofs.Basics.{arith, needs}
 use Rattle.rules.specs.Bytes.{choose}
 use Rattle.list_write.proofs.Entries.{put-none}
 use Rattle.list_write.proofs.put_slot.Statement.{statement}
 use Rattle.list_write.proofs.put_slot.Tie as tie
 
-put-five-requires : tie.Need-put-five-requires
-put-five-requires c κs = (omega arith, omega (arith, rw (c .before .if1 .taken) at (c .before .before .before .pre)))
-
 returns : tie.Need-returns
 unfolding choose
 returns c = rw (c .before .before .before .before .if1 .taken) (c .before .before .put-five .ensures)
 
-returns-2 : tie.Need-returns-2
-unfolding choose
-returns-2 c = rw (c .if1 .left) (put-none _ _)
-
 pub put-slot-spec : {M : Type 1} → statement M
-put-slot-spec = tie.close (tie.spec put-five-requires (λ c. search needs) returns returns-2)
+put-slot-spec =
+    tie.close
+    (tie.spec (λ c κs. (omega arith, omega (arith, rw (c .before .if1 .taken) at (c .before .before .before .pre))))
+    (λ c. search needs) returns (λ c. unfold choose in rw (c .if1 .left) (put-none _ _)))

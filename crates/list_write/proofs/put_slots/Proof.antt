@@ -1,9 +1,5 @@
 -- The invariant: what is left, put behind what is there now, comes to what all comes to.
-use Prim.Native.Nat.{_+_, _-_, _*_, _≤_}
-use mathlib.Core.Path.{_≡_, refl, sym, _∙_}
-use native.Mathlib.Omega.{arith}
-use lib.ListN.{length, getD}
-use borrow.Author.Needs.{needs}
+use Rattle.numbers.proofs.Basics.{_≡_, sym, _∙_, _+_, _-_, _*_, _≤_, arith, length, getD, needs}
 use Rattle.rules.specs.MoveList.{oneIf, writtenTable}
 use Rattle.list_image.specs.Image.{imageSize, unpacked}
 use Rattle.list_write.specs.Parts.{put, each, isWritten}
@@ -28,19 +24,7 @@ room : (c : tie.After-is-written Inv-loop μ-loop) → let l = c .before .before
     l .a + 24 * oneIf (c .is-written .result) + 24 * length (eachFrom (c .before .before .before .before .before .before .before .args .modify) (l .i + 1) (c .before .before .before .before .before .before .before .args .t4)) ≤ length (l .out)
 room c =
     let l = c .before .before .before .loop in
-    room-turn (c .before .before .before .before .before .before .before .args .modify) (l .i) (c .before .before .before .before .before .before .before .args .t4) (search needs) (c .is-written .result) (on-is c) (l .out) (l .out) (l .a) 24 _ (l .inv .3)
-
-loop-holds : tie.Need-loop-holds Inv-loop μ-loop
-loop-holds c = let s = c .before .before .before in (omega arith, refl, omega arith, s .pre .1, refl)
-
-put-slot-requires : tie.Need-put-slot-requires Inv-loop μ-loop
-put-slot-requires c κs = omega (arith, room (c .before))
-
-add-a : tie.Need-add-a Inv-loop μ-loop
-add-a c = omega (arith, room (c .before .before .before .before .before), c .flag-of .ensures .0)
-
-add-p : tie.Need-add-p Inv-loop μ-loop
-add-p c = omega (arith, c .size-if .ensures .1, c .before .before .before .before .before .before .before .before .before .loop .inv .2, c .before .before .before .before .before .before .before .before .before .before .before .before .before .pre .0, c .before .before .before .before .before .before .before .before .loop-test .taken)
+    room-turn (c .before .before .before .before .before .before .before .args .modify) (l .i) (c .before .before .before .before .before .before .before .args .t4) (search needs) _ (on-is c) (l .a) 24 _ (l .inv .3)
 
 loop-again : tie.Need-loop-again Inv-loop μ-loop
 loop-again c =
@@ -57,9 +41,6 @@ loop-again c =
           (rw (c .before .before .before .before .before .before .before .before .before .before .before .group-of .ensures, c .before .before .before .before .before .before .before .before .before .before .size-of .ensures .0) at (c .before .before .before .before .put-slot .ensures))),
     )
 
-same-length : tie.Need-same-length Inv-loop μ-loop
-same-length c = c .before .loop .inv .1
-
 returns : tie.Need-returns Inv-loop μ-loop
 unfolding writtenTable
 returns c =
@@ -71,6 +52,7 @@ returns c =
 pub put-slots-spec : {M : Type 1} → statement M
 put-slots-spec =
     tie.close
-    (tie.spec Inv-loop μ-loop (λ c κs. search needs) (λ c κs. search needs) loop-holds (λ c. search needs) (λ c κs. search needs)
-    (λ c κs. search needs) put-slot-requires (λ c κs. search needs) (λ c. search needs) add-a (λ c κs. search needs) add-p
-    (λ c. search needs) (λ c. search needs) loop-again same-length returns)
+    (tie.spec Inv-loop μ-loop (λ c κs. search needs) (λ c κs. search needs) (λ c. search needs) (λ c. search needs)
+    (λ c κs. search needs) (λ c κs. search needs) (λ c κs. omega (arith, room (c .before))) (λ c κs. search needs)
+    (λ c. search needs) (λ c. search needs) (λ c κs. search needs) (λ c. search needs) (λ c. search needs)
+    (λ c. search needs) loop-again (λ c. c .before .loop .inv .1) returns)

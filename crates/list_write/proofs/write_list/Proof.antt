@@ -1,18 +1,14 @@
--- `list_write::write_list` meets its contract: the length is computed first, and the parts are put one behind the other.
-use Prim.Native.Nat.{_+_, _*_}
-use mathlib.Core.Path.{_≡_, refl, sym, _∙_}
-use mathlib.Core.List.{List}
-use native.Mathlib.Omega.{arith}
-use lib.ListN.{length}
-use borrow.Author.Needs.{needs}
+-- The length is computed first; then the parts are put one behind the other.
+use Rattle.numbers.proofs.Basics.{_≡_, refl, sym, ap, _∙_, List, ℕ, _+_, _*_, arith, length, needs}
 use Rattle.rules.specs.State.{State, Record, listing}
 use Rattle.rules.specs.MoveList.{ListRequest, listRequests, total}
+use Rattle.rules.proofs.Reachable.{length-records}
 use Rattle.store.specs.Memory.{pendingOf}
 use Rattle.answers.proofs.Laws.{not-refused}
 use Rattle.adapters.specs.Values.{deviceOf}
 use Rattle.list_image.specs.Places.{placesOf}
 use Rattle.list_write.specs.declared.Parts.{Parts}
-use Rattle.list_write.specs.Write.{entriesFrom, Counted}
+use Rattle.list_write.specs.Write.{entriesFrom, Counted, Whole}
 use Rattle.list_write.proofs.Laws.{entries-count, entries-size, entries-are, list-put, too-short, written}
 use Rattle.list_write.proofs.write_list.Statement.{statement}
 use Rattle.list_write.proofs.write_list.Tie as tie
@@ -23,7 +19,7 @@ parts c =
     record {
       registers = c .before .before .before .before .before .count .result;
       modifies = c .before .before .before .before .count2 .result;
-      records = c .before .records-pending .result;
+      records = c .before .pending-whole .result;
       masks = c .has-masks .result;
       apf = c .before .before .before .before .before .before .before .args .device .apf;
     }
@@ -41,16 +37,21 @@ counted c =
       modifies = c .before .before .before .before .count2 .ensures .0;
       fewRegisters = c .before .before .before .before .before .count .ensures .1;
       fewModifies = c .before .before .before .before .count2 .ensures .1;
-      fewRecords = c .before .records-pending .ensures .1;
+      fewRecords = c .before .pending-whole .ensures .2;
     }
 
+whole : (c : tie.After-has-masks) → Whole (pending c) (c .before .pending-whole .result)
+whole c =
+    let e = c .before .pending-whole .ensures in
+    record { count = sym (e .0); size = length-records _ (e .1) ∙ ap (λ (n : ℕ). 72 * n) (sym (e .0)) }
+
 count-is : (c : tie.After-entry-count) → length (wanted (c .before)) ≡ c .entry-count .result
-count-is c = entries-count (c .before .before .before .before .before .before .before .before .args .image) (parts (c .before)) (counted (c .before)) (pending (c .before)) _ _ (c .before .before .records-pending .ensures .0) ∙ sym (c .entry-count .ensures .0)
+count-is c = entries-count (c .before .before .before .before .before .before .before .before .args .image) (parts (c .before)) (counted (c .before)) (pending (c .before)) _ _ (whole (c .before)) ∙ sym (c .entry-count .ensures .0)
 
 total-is : (c : tie.After-payload-bytes) → 20 + 24 * c .before .entry-count .result + c .payload-bytes .result ≡ total (wanted (c .before .before))
 total-is c =
     let d = c .before .before .before .before .before .before .before .before .before .args .device in
-    let z = entries-size (c .before .before .before .before .before .before .before .before .before .args .image) (parts (c .before .before)) (counted (c .before .before)) (pending (c .before .before)) (d .simm) (d .nimm) (c .before .before .before .records-pending .ensures .0) in
+    let z = entries-size (c .before .before .before .before .before .before .before .before .before .args .image) (parts (c .before .before)) (counted (c .before .before)) (pending (c .before .before)) (d .simm) (d .nimm) (whole (c .before .before)) in
     rw (count-is (c .before), z, ← c .payload-bytes .ensures .0)
 
 same-entries : (c : tie.After-has-masks) (s : State) → let a = c .before .before .before .before .before .before .before .args in s .ais ≡ a .ais → s .adapters ≡ placesOf (a .image)
@@ -65,12 +66,12 @@ returns c = record {
 
 put-payloads-requires : tie.Need-put-payloads-requires
 put-payloads-requires c κs =
-    (c .before .before .before .before .before .before .before .before .before .before .before .before .before .before .before .before .before .before .before .before .pre, counted (c .before .before .before .before .before .before .before .before .before .before .before .before .before), c .before .before .before .before .before .before .before .before .before .before .before .before .before .before .records-pending .ensures .0, omega (arith, c .before .before .before .before .before .before .before .before .before .before .before .before .entry-count .ensures .1), rw (← c .before .before .before .before .before .before .before .before .before .before .before .payload-bytes .ensures .0) (omega (arith, c .before .before .before .before .before .before .before .before .before .before .if1 .left)))
+    (c .before .before .before .before .before .before .before .before .before .before .before .before .before .before .before .before .before .before .before .before .pre, counted (c .before .before .before .before .before .before .before .before .before .before .before .before .before), whole (c .before .before .before .before .before .before .before .before .before .before .before .before .before), omega (arith, c .before .before .before .before .before .before .before .before .before .before .before .before .entry-count .ensures .1), rw (← c .before .before .before .before .before .before .before .before .before .before .before .payload-bytes .ensures .0) (omega (arith, c .before .before .before .before .before .before .before .before .before .before .if1 .left)))
 
 returns-2 : tie.Need-returns-2
 returns-2 c =
     let a = c .before .before .before .before .before .before .before .before .before .before .before .before .before .before .before .before .before .before .before .before .before .before .before .before .args in
-    let w = c .before .before .before .before .before .before .before .before .before .before .before .before .before .before .before .before .before .before .records-pending .ensures .0 in
+    let w = whole (c .before .before .before .before .before .before .before .before .before .before .before .before .before .before .before .before .before) in
     let g = list-put (a .ais) (wanted (c .before .before .before .before .before .before .before .before .before .before .before .before .before .before .before .before .before)) (a .out .now) _ _ _ _ _ (count-is (c .before .before .before .before .before .before .before .before .before .before .before .before .before .before .before .before)) (total-is (c .before .before .before .before .before .before .before .before .before .before .before .before .before .before .before)) (c .before .before .before .before .before .before .before .before .before .before .before .before .before .before .if1 .left)
     (rw (c .before .before .before .before .before .before .before .before .before .before .before .before .before .flag-of .ensures .0) at (c .before .before .before .before .before .before .before .before .before .before .before .put-five .ensures)) (c .before .before .before .before .before .before .before .put-table .ensures _ (a .device .simm) (a .device .nimm) w) (c .before .before .before .put-payloads .ensures) in record {
       answer = λ L s e1 e2 e3 e4.

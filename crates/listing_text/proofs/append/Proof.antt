@@ -1,10 +1,5 @@
 -- The first i bytes of s stand in out from index at.
-use mathlib.Core.Path.{_≡_, refl}
-use Prim.Native.Nat.{_-_, _≤_}
-use native.Mathlib.Omega.{arith}
-use lib.ListN.{length, length-set}
-use lib.Seq.{paste, paste-zero}
-use borrow.Author.Needs.{needs}
+use Rattle.numbers.proofs.Basics.{_≡_, refl, _-_, _≤_, arith, length, paste, paste-zero, needs}
 use Rattle.numbers.proofs.Laws.{paste-more}
 use Rattle.listing_text.proofs.append.Statement.{statement}
 use Rattle.listing_text.proofs.append.Tie as tie
@@ -15,17 +10,11 @@ Inv-loop out₀ at s i₀ out i = (i ≤ length s) × (length out ≡ length out
 abbrev μ-loop : tie.MeasureT-loop
 μ-loop out₀ at s i₀ out i = length s - i
 
-loop-holds : tie.Need-loop-holds Inv-loop μ-loop
-loop-holds c = (omega arith, refl, paste-zero (c .args .out .now) (c .args .at) (c .args .s .now))
-
 loop-again : tie.Need-loop-again Inv-loop μ-loop
 loop-again c =
     let a = c .before .before .before .args in
-    let l = c .before .before .loop in (
-      omega arith,
-      simp length-set (l .inv .1),
-      paste-more (l .out) (a .out .now) (a .at) (a .s .now) (l .i) _ 0 refl (omega arith) (search needs) (l .inv .2),
-    )
+    let l = c .before .before .loop in
+    paste-more (l .out) (a .out .now) (a .at) (a .s .now) (l .i) _ _ 0 refl (omega arith) (search needs) (omega arith) (l .inv .1) (l .inv .2)
 
 returns : tie.Need-returns Inv-loop μ-loop
 returns c =
@@ -35,5 +24,7 @@ returns c =
 pub append-spec : {M : Type 1} → statement M
 append-spec =
     tie.close
-    (tie.spec Inv-loop μ-loop loop-holds (λ c. search needs) (λ c. search needs) (λ c. search needs) (λ c. search needs) (λ c. search needs)
-    loop-again (λ c. search needs) (λ c. search needs) returns)
+    (tie.spec Inv-loop μ-loop
+    (λ c. (omega arith, refl, paste-zero (c .args .out .now) (c .args .at) (c .args .s .now))) (λ c. search needs)
+    (λ c. search needs) (λ c. search needs) (λ c. search needs) (λ c. search needs) loop-again (λ c. search needs)
+    (λ c. search needs) returns)

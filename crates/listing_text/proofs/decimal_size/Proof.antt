@@ -1,8 +1,5 @@
 -- The digits left of w and those counted are those of v.
-use mathlib.Core.Path.{_≡_}
-use Prim.Native.Nat.{_+_, _≤_}
-use native.Mathlib.Omega.{arith}
-use borrow.Author.Needs.{needs}
+use Rattle.numbers.proofs.Basics.{_≡_, _+_, _≤_, arith, needs}
 use Rattle.rules.specs.Listing.{digitCount}
 use Rattle.listing_text.proofs.Text.{size-one, size-next, size-most}
 use Rattle.listing_text.proofs.decimal_size.Statement.{statement}
@@ -14,14 +11,9 @@ Inv-loop v n₀ w₀ n w = (n + digitCount w w ≡ digitCount v v + 1) × (digit
 abbrev μ-loop : tie.MeasureT-loop
 μ-loop v n₀ w₀ n w = w
 
-loop-holds : tie.Need-loop-holds Inv-loop μ-loop
-loop-holds c = (omega arith, size-most 19 _ _ (omega arith))
-
-loop-again : tie.Need-loop-again Inv-loop μ-loop
-loop-again c = (omega (arith, size-next _ (c .loop-test .taken)), c .before .loop .inv .1)
-
-returns : tie.Need-returns Inv-loop μ-loop
-returns c = omega (arith, size-one (c .before .loop .w) (c .before .loop .w) (omega arith))
-
 pub decimal-size-spec : {M : Type 1} → statement M
-decimal-size-spec = tie.close (tie.spec Inv-loop μ-loop loop-holds (λ c. search needs) (λ c. search needs) loop-again returns)
+decimal-size-spec =
+    tie.close
+    (tie.spec Inv-loop μ-loop (λ c. (omega arith, size-most 19 _ _ (omega arith))) (λ c. search needs)
+    (λ c. search needs) (λ c. (omega (arith, size-next _ (c .loop-test .taken)), c .before .loop .inv .1))
+    (λ c. omega (arith, size-one (c .before .loop .w) (c .before .loop .w) (omega arith))))

@@ -1,8 +1,5 @@
 -- What comes of the list decides the text.
-use mathlib.Core.Path.{_≡_, _∙_}
-use lib.Dec.{eqb}
-use borrow.Author.Tests.{eq-eqb, ne-eqb}
-use borrow.Author.Needs.{needs}
+use Rattle.numbers.proofs.Basics.{_≡_, _∙_, eqb, eq-eqb, ne-eqb, needs}
 use Rattle.rules.specs.Bytes.{choose}
 use Rattle.rules.specs.State.{listing}
 use Rattle.rules.specs.Listing.{shown, refusal, printed}
@@ -18,9 +15,6 @@ answered : (c : tie.After-play-fresh) → let p = c .play-fresh in
     ≡ choose (eqb (p .result .code) 0) (shown (listing (pendingOf (p .last .1 .0) (p .last .1 .1 .0) (p .last .0) (p .last .1 .1 .1 .0)))) (refusal (p .result .code))
 answered c = printed-is _ _ _ (c .before .before .before .before .before .if1 .left) (c .play-fresh .ensures .1)
 
-returns : tie.Need-returns
-returns c = whole _ (c .write-refusal .ensures) (too-long _ (c .before .before .if1 .taken))
-
 returns-2 : tie.Need-returns-2
 returns-2 c = whole _ (c .write-refusal2 .ensures) (answered (c .before .before .before) ∙ passed _ _ _ (ne-eqb _ 0 (c .before .before .if2 .taken)))
 
@@ -32,4 +26,6 @@ returns-3 c =
 pub print-list-spec : {M : Type 1} → statement M
 print-list-spec =
     tie.close
-    (tie.spec (λ c κs. search needs) returns (λ c κs. search needs) (λ c κs. search needs) returns-2 (λ c κs. search needs) returns-3)
+    (tie.spec (λ c κs. search needs)
+    (λ c. whole _ (c .write-refusal .ensures) (too-long _ (c .before .before .if1 .taken))) (λ c κs. search needs)
+    (λ c κs. search needs) returns-2 (λ c κs. search needs) returns-3)

@@ -1,14 +1,9 @@
 -- The n - i lowest digits of v stand in out from index at + i.
-use mathlib.Core.Path.{_≡_, refl}
-use Prim.Native.Nat.{_+_, _-_, _/_, _^_, _≤_}
-use native.Mathlib.Nat.{div-one, pow-zero, mod-lt, lt-of-lt-of-le}
-use native.Mathlib.Omega.{arith}
-use lib.ListN.{length, length-set}
-use lib.Seq.{paste}
-use borrow.Author.Needs.{needs}
-use Rattle.rules.specs.Listing.{digits}
-use Rattle.numbers.proofs.Laws.{paste-none}
-use Rattle.listing_text.proofs.Text.{spell-turn, length-digits}
+use Rattle.numbers.proofs.Basics.{_≡_, refl, _+_, _-_, _/_, _^_, _≤_, div-one, pow-zero, mod-lt, lt-of-lt-of-le}
+use Rattle.numbers.proofs.Basics.{arith, length, length-set, paste, needs}
+use Rattle.rules.specs.Listing.{digit, digits}
+use Rattle.numbers.proofs.Laws.{paste-none, write-turn}
+use Rattle.listing_text.proofs.Text.{length-digits}
 use Rattle.listing_text.proofs.spell.Statement.{statement}
 use Rattle.listing_text.proofs.spell.Tie as tie
 
@@ -25,15 +20,11 @@ loop-holds c =
     let e : a .n - a .n ≡ 0 = omega arith in
     (omega arith, refl, rw (e, pow-zero, div-one), paste-none (a .out .now) (a .at + a .n) (digits (a .base) (a .n - a .n) (a .v)) (a .n - a .n) e)
 
-letter-requires : tie.Need-letter-requires Inv-loop μ-loop
-letter-requires c κs = lt-of-lt-of-le (mod-lt _ (omega arith)) (omega arith)
-
 loop-again : tie.Need-loop-again Inv-loop μ-loop
 loop-again c =
-    let d = c .before .before .before .before in
-    let a = d .args in
+    let a = c .before .before .before .before .args in
     let l = c .before .before .loop in
-    let t = spell-turn (l .out) (a .out .now) (a .at) (a .base) (a .n) (l .i) (a .v) (l .w) (omega arith) (omega arith) (omega arith) (l .inv .2) (l .inv .3) in
+    let t = write-turn digit (λ k. digits (a .base) k (a .v)) (a .base) (a .v) (λ k. unfold digits in refl) (l .out) (a .out .now) (a .at) (a .n) (l .i) (l .w) (omega arith) (omega arith) (omega arith) (l .inv .2) (l .inv .3) in
     (omega arith, simp length-set (l .inv .1), t .0, rw (c .letter .ensures) (t .1))
 
 returns : tie.Need-returns Inv-loop μ-loop
@@ -48,5 +39,6 @@ returns c =
 pub spell-spec : {M : Type 1} → statement M
 spell-spec =
     tie.close
-    (tie.spec Inv-loop μ-loop loop-holds (λ c. search needs) (λ c. search needs) letter-requires (λ c. search needs) (λ c. search needs)
+    (tie.spec Inv-loop μ-loop loop-holds (λ c. search needs) (λ c. search needs)
+    (λ c κs. lt-of-lt-of-le (mod-lt _ (omega arith)) (omega arith)) (λ c. search needs) (λ c. search needs)
     (λ c. search needs) (λ c. search needs) loop-again (λ c. search needs) (λ c. search needs) returns)

@@ -1,6 +1,5 @@
 -- The digits, then what comes after.
-use native.Mathlib.Omega.{arith}
-use borrow.Author.Needs.{needs}
+use Rattle.numbers.proofs.Basics.{arith, needs}
 use Rattle.rules.specs.Listing.{decimal}
 use Rattle.listing_text.proofs.Text.{wrote-then}
 use Rattle.listing_text.proofs.write_decimal.Statement.{statement}
@@ -10,9 +9,7 @@ returns : tie.Need-returns
 unfolding decimal
 returns c =
     let d = c .before .before .before .before .before .before in
-    let e = d .before .before in
-    let n = e .decimal-size .ensures in
-    (rw (← n) (wrote-then (d .spell .ensures .0) (c .before .before .append .ensures)), omega arith)
+    (rw (← (d .before .before .decimal-size .ensures)) (wrote-then (d .spell .ensures .0) (c .before .before .append .ensures)), omega arith)
 
 pub write-decimal-spec : {M : Type 1} → statement M
 write-decimal-spec =

@@ -1,6 +1,5 @@
 -- The digits, then what comes after.
-use native.Mathlib.Omega.{arith}
-use borrow.Author.Needs.{needs}
+use Rattle.numbers.proofs.Basics.{arith, needs}
 use Rattle.listing_text.proofs.Text.{wrote-then}
 use Rattle.listing_text.proofs.write_hex8.Statement.{statement}
 use Rattle.listing_text.proofs.write_hex8.Tie as tie

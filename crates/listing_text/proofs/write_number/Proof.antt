@@ -1,7 +1,5 @@
 -- The word, a space, the number.
-use Prim.Native.Nat.{_≤_}
-use native.Mathlib.Omega.{arith}
-use borrow.Author.Needs.{needs}
+use Rattle.numbers.proofs.Basics.{_≤_, arith, needs}
 use Rattle.rules.specs.Listing.{ascii, digitCount}
 use Rattle.listing_text.proofs.Text.{wrote-then, number-text, size-most}
 use Rattle.listing_text.proofs.write_number.Statement.{statement}

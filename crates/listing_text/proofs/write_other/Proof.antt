@@ -1,6 +1,5 @@
 -- Name and type with `-` after each.
-use native.Mathlib.Omega.{arith}
-use borrow.Author.Needs.{needs}
+use Rattle.numbers.proofs.Basics.{arith, needs}
 use Rattle.rules.specs.Listing.{ascii}
 use Rattle.listing_text.proofs.Text.{wrote-then, other-text}
 use Rattle.listing_text.proofs.write_other.Statement.{statement}

@@ -1,11 +1,11 @@
 -- The place, then what its kind shows.
-use mathlib.Core.Path.{refl}
-use native.Mathlib.Omega.{arith}
-use borrow.Author.Needs.{needs}
+use Rattle.numbers.proofs.Basics.{_≡_, refl, List, [], _∷_, ℕ, arith, needs}
 use Rattle.rules.specs.Bytes.{part}
-use Rattle.rules.specs.Listing.{ascii, name, ofIo}
+use Rattle.rules.specs.Listing.{ascii, hex8, line, name, ofIo, recordLine}
 use Rattle.record_add.specs.declared.Kind.the-variants.{Done, Service, MachineCheck, Other}
-use Rattle.record_add.proofs.Laws.{io-told}
+use Rattle.record_add.specs.declared.Kind.{Kind}
+use Rattle.record_add.proofs.Laws.{io-told, kindFor}
+use Rattle.listing_text.specs.Wrote.{Wrote}
 use Rattle.listing_text.proofs.Text.{wrote-then, io-line, other-line}
 use Rattle.listing_text.proofs.write_record.Statement.{statement}
 use Rattle.listing_text.proofs.write_record.Tie as tie
@@ -32,57 +32,39 @@ returns c =
     let w = wrote-then (h .write-decimal .ensures .0) (c .before .before .write-io .ensures .0) in
     (rw (← io-line (a .place) (a .from) _ (a .b .now) (g .read-be .ensures .0) _ _ (k .0) (k .1) (d .read-be2 .ensures .0)) w, omega (arith, h .write-decimal .ensures .1, c .before .before .write-io .ensures .1))
 
+-- a record of another kind
+other : {d : List ℕ} {j : ℕ} (e : tie.After-kind-at) → let g = e .before .before .before .before in let a = g .before .before .before .before .before .args in
+    (y : Kind) → e .kind-at .result ≡ y → ((w : List ℕ) → ofIo (kindFor y) w ≡ ascii "-")
+    → Wrote (g .write-decimal .last .0) d (g .write-decimal .result) (line (name (kindFor y) ∷ ascii "-" ∷ hex8 (e .before .read-be .result) ∷ ascii "-" ∷ [])) j
+    → Wrote (a .out .now) d (a .at) (recordLine (a .place) (part (a .from) 72 (a .b .now))) j
+unfolding ascii
+other e y f n w =
+    let g = e .before .before .before .before in
+    rw (← other-line _ _ _ _ (e .before .read-be .ensures .0) _ y (e .kind-at .ensures) f n) (wrote-then (g .write-decimal .ensures .0) w)
+
 returns-2 : tie.Need-returns-2
 unfolding ascii name ofIo
 returns-2 c =
-    let j = c .before .before .before .before in
-    let d = j .before in
-    let e = d .before .before in
-    let f = e .before in
-    let g = f .before .before .before in
-    let h = g .before .before .before .before .before in
-    let a = h .args in
-    let w = wrote-then (g .write-decimal .ensures .0) (c .before .before .write-other .ensures .0) in
-    (rw (← other-line (a .place) (a .from) _ (a .b .now) (f .read-be .ensures .0) _ Done (e .kind-at .ensures) (d .enum-told .given .1) (λ w. refl)) w, omega arith)
+    let d = c .before .before .before .before .before in
+    (other (d .before .before) Done (d .enum-told .given .1) (λ w. refl) (c .before .before .write-other .ensures .0), omega arith)
 
 returns-3 : tie.Need-returns-3
 unfolding ascii name ofIo
 returns-3 c =
-    let j = c .before .before .before .before in
-    let d = j .before in
-    let e = d .before .before in
-    let f = e .before in
-    let g = f .before .before .before in
-    let h = g .before .before .before .before .before in
-    let a = h .args in
-    let w = wrote-then (g .write-decimal .ensures .0) (c .before .before .write-other2 .ensures .0) in
-    (rw (← other-line (a .place) (a .from) _ (a .b .now) (f .read-be .ensures .0) _ Service (e .kind-at .ensures) (d .enum-told2 .given .1) (λ w. refl)) w, omega arith)
+    let d = c .before .before .before .before .before in
+    (other (d .before .before) Service (d .enum-told2 .given .1) (λ w. refl) (c .before .before .write-other2 .ensures .0), omega arith)
 
 returns-4 : tie.Need-returns-4
 unfolding ascii name ofIo
 returns-4 c =
-    let j = c .before .before .before .before in
-    let d = j .before in
-    let e = d .before .before in
-    let f = e .before in
-    let g = f .before .before .before in
-    let h = g .before .before .before .before .before in
-    let a = h .args in
-    let w = wrote-then (g .write-decimal .ensures .0) (c .before .before .write-other3 .ensures .0) in
-    (rw (← other-line (a .place) (a .from) _ (a .b .now) (f .read-be .ensures .0) _ MachineCheck (e .kind-at .ensures) (d .enum-told3 .given .1) (λ w. refl)) w, omega arith)
+    let d = c .before .before .before .before .before in
+    (other (d .before .before) MachineCheck (d .enum-told3 .given .1) (λ w. refl) (c .before .before .write-other3 .ensures .0), omega arith)
 
 returns-5 : tie.Need-returns-5
 unfolding ascii name ofIo
 returns-5 c =
-    let j = c .before .before .before .before in
-    let d = j .before in
-    let e = d .before .before in
-    let f = e .before in
-    let g = f .before .before .before in
-    let h = g .before .before .before .before .before in
-    let a = h .args in
-    let w = wrote-then (g .write-decimal .ensures .0) (c .before .before .write-other4 .ensures .0) in
-    (rw (← other-line (a .place) (a .from) _ (a .b .now) (f .read-be .ensures .0) _ Other (e .kind-at .ensures) (d .enum-told4 .given .1) (λ w. refl)) w, omega arith)
+    let d = c .before .before .before .before .before in
+    (other (d .before .before) Other (d .enum-told4 .given .1) (λ w. refl) (c .before .before .write-other4 .ensures .0), omega arith)
 
 pub write-record-spec : {M : Type 1} → statement M
 write-record-spec =

@@ -1,11 +1,5 @@
 -- The lines of the first i records stand in out.
-use mathlib.Core.Path.{_≡_, refl, _∙_}
-use mathlib.Core.List.{[]}
-use Prim.Native.Nat.{_+_, _*_, _-_, _≤_}
-use native.Mathlib.Omega.{arith}
-use lib.ListN.{length}
-use lib.Seq.{paste-zero}
-use borrow.Author.Needs.{needs}
+use Rattle.numbers.proofs.Basics.{_≡_, refl, _∙_, [], _+_, _*_, _-_, _≤_, arith, length, paste-zero, needs}
 use Rattle.rules.specs.Requests.{recordsIn}
 use Rattle.rules.specs.Listing.{linesFrom}
 use Rattle.listing_text.specs.Wrote.{Wrote}
@@ -26,28 +20,23 @@ loop-holds c =
     let a = c .before .before .args in
     (omega arith, omega arith, refl, record { ends = omega arith; fits = omega arith; now = paste-zero (a .out .now) (a .at) [] })
 
-write-record-requires : tie.Need-write-record-requires Inv-loop μ-loop
-write-record-requires c κs = (size-most 2 _ _ (omega arith), omega arith, omega arith)
-
 loop-again : tie.Need-loop-again Inv-loop μ-loop
 loop-again c =
     let d = c .before .before .before .before .before in
-    let e = d .before .before .before in
-    let a = e .args in
     let l = d .loop in
     let x = c .before .before .write-record .ensures in
     let w = wrote-then (l .inv .3) (x .0) in
-    (omega arith, omega arith, wrote-long (x .0) ∙ l .inv .2, rw (← lines-next (l .i) (a .b .now)) w)
+    (omega arith, omega arith, wrote-long (x .0) ∙ l .inv .2, rw (← lines-next (l .i) (d .before .before .before .args .b .now)) w)
 
 returns : tie.Need-returns Inv-loop μ-loop
 returns c =
-    let d = c .before .before .before .before in
     let l = c .before .loop in
-    let e : l .i ≡ d .args .n = omega arith in
+    let e : l .i ≡ c .before .before .before .before .args .n = omega arith in
     rw e at (l .inv .3)
 
 pub write-records-spec : {M : Type 1} → statement M
 write-records-spec =
     tie.close
-    (tie.spec Inv-loop μ-loop loop-holds (λ c. search needs) write-record-requires (λ c. search needs) (λ c. search needs) loop-again
-    (λ c. search needs) returns)
+    (tie.spec Inv-loop μ-loop loop-holds (λ c. search needs)
+    (λ c κs. (size-most 2 _ _ (omega arith), omega arith, omega arith)) (λ c. search needs) (λ c. search needs)
+    loop-again (λ c. search needs) returns)

@@ -1,41 +1,30 @@
 -- The copied bytes of src stand at the start of r.
-use mathlib.Core.Path.{_≡_, refl}
-use Prim.Native.Nat.{_-_, _≤_}
-use native.Mathlib.Omega.{arith}
-use borrow.Author.Needs.{needs}
-use lib.ListN.{length, drop, length-set, length-drop}
-use lib.Seq.{getD-drop, paste}
+use Rattle.numbers.proofs.Basics.{_≡_, _-_, _≤_, arith, length, drop, length-drop, getD-drop, paste, needs}
 use Rattle.numbers.proofs.Laws.{paste-more, paste-all}
 use Rattle.numbers.proofs.load.Statement.{statement}
 use Rattle.numbers.proofs.load.Tie as tie
 
 abbrev Inv-loop : tie.InvT-loop
-Inv-loop src from r₀ i₀ r i = (i ≤ 72) × (length r ≡ 72) × (length r₀ ≡ 72) × (r ≡ paste r₀ 0 (drop from src) i)
+Inv-loop src from r₀ i₀ r i = (i ≤ 72) × (length r ≡ length r₀) × (r ≡ paste r₀ 0 (drop from src) i)
 
 abbrev μ-loop : tie.MeasureT-loop
 μ-loop src from r₀ i₀ r i = 72 - i
 
-loop-holds : tie.Need-loop-holds Inv-loop μ-loop
-loop-holds c = (omega arith, refl, refl, refl)
-
 loop-again : tie.Need-loop-again Inv-loop μ-loop
 loop-again c =
     let a = c .before .before .before .args in
-    let l = c .before .before .loop in (
-      omega arith,
-      simp length-set (l .inv .1),
-      l .inv .2,
-      rw (← getD-drop) (paste-more (l .r) _ 0 (drop (a .from) (a .src .now)) (l .i) (l .i) 0 (omega arith) (omega arith) (simp length-drop (omega arith)) (l .inv .3)),
-    )
+    let l = c .before .before .loop in
+    let s = drop (a .from) (a .src .now) in
+    rw (← getD-drop) (paste-more (l .r) _ 0 s (l .i) (l .i) 72 0 (omega arith) (omega arith) (simp length-drop (omega arith)) (omega arith) (l .inv .1) (l .inv .2))
 
 returns : tie.Need-returns Inv-loop μ-loop
 returns c =
     let a = c .before .before .args in
     let l = c .before .loop in
-    paste-all (l .r) _ (drop (a .from) (a .src .now)) (l .i) 72 (omega arith) (l .inv .2) (l .inv .3)
+    paste-all (l .r) _ (drop (a .from) (a .src .now)) (l .i) 72 (omega arith) (search needs) (l .inv .2)
 
 pub load-spec : {M : Type 1} → statement M
 load-spec =
     tie.close
-    (tie.spec Inv-loop μ-loop loop-holds (λ c. search needs) (λ c. search needs) (λ c. search needs) (λ c. search needs) (λ c. search needs)
-    loop-again returns)
+    (tie.spec Inv-loop μ-loop (λ c. search needs) (λ c. search needs) (λ c. search needs)
+    (λ c. search needs) (λ c. search needs) (λ c. search needs) loop-again returns)

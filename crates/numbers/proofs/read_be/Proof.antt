@@ -1,9 +1,5 @@
 -- The number that the first i bytes say, below 256 ^ i.
-use mathlib.Core.Path.{_≡_, refl}
-use Prim.Native.Nat.{_-_, _^_, _≤_, _<_}
-use native.Mathlib.Omega.{arith}
-use borrow.Author.Needs.{needs}
-use lib.ListN.{take, drop}
+use Rattle.numbers.proofs.Basics.{_≡_, refl, _-_, _^_, _≤_, _<_, arith, take, drop, needs}
 use Rattle.rules.specs.Bytes.{number}
 use Rattle.numbers.proofs.Laws.{read-turn, read-fits}
 use Rattle.numbers.proofs.read_be.Statement.{statement}
@@ -14,10 +10,6 @@ Inv-loop b at n v₀ i₀ v i = (i ≤ n) × (v ≡ number (take i (drop at b)))
 
 abbrev μ-loop : tie.MeasureT-loop
 μ-loop b at n v₀ i₀ v i = n - i
-
-loop-holds : tie.Need-loop-holds Inv-loop μ-loop
-unfolding number
-loop-holds c = (omega arith, refl, omega arith)
 
 mul-v : tie.Need-mul-v Inv-loop μ-loop
 mul-v c =
@@ -45,5 +37,5 @@ returns c =
 pub read-be-spec : {M : Type 1} → statement M
 read-be-spec =
     tie.close
-    (tie.spec Inv-loop μ-loop loop-holds mul-v (λ c. search needs) (λ c. search needs) (λ c κs. search needs) add-v (λ c. search needs)
-    (λ c. search needs) loop-again returns)
+    (tie.spec Inv-loop μ-loop (λ c. unfold number in (omega arith, refl, omega arith)) mul-v (λ c. search needs)
+    (λ c. search needs) (λ c κs. search needs) add-v (λ c. search needs) (λ c. search needs) loop-again returns)

@@ -1,16 +1,13 @@
 -- The two words say what the eight bytes say.
-use Prim.Native.Nat.{_*_, _+_}
-use mathlib.Core.Path.{_∙_}
-use native.Mathlib.Omega.{arith}
-use borrow.Author.Needs.{needs}
-use Rattle.numbers.proofs.Laws.{number-words}
+use Rattle.numbers.proofs.Basics.{sym, _∙_, _*_, _+_, arith, needs}
+use Rattle.numbers.proofs.Laws.{number-parts}
 use Rattle.numbers.proofs.read_doubleword.Statement.{statement}
 use Rattle.numbers.proofs.read_doubleword.Tie as tie
 
 returns : tie.Need-returns
 returns c =
     let a = c .before .before .before .args in
-    let e = number-words (a .b .now) (a .at) (c .before .before .before .pre) in
+    let e = sym (number-parts (a .b .now) (a .at) 4 4 (omega arith)) in
     ((λ i. c .before .read-be .ensures .0 i * 4294967296 + c .read-be2 .ensures .0 i) ∙ e, omega (arith, c .before .read-be .ensures .1, c .read-be2 .ensures .1))
 
 pub read-doubleword-spec : {M : Type 1} → statement M

@@ -1,9 +1,6 @@
 -- The word is the two halves, and each of them has two bytes.
-use Prim.Native.Nat.{_+_}
-use mathlib.Core.Path.{sym, _∙_}
-use native.Mathlib.Omega.{arith}
-use borrow.Author.Needs.{needs}
-use Rattle.numbers.proofs.Laws.{number-halves, pair-small}
+use Rattle.numbers.proofs.Basics.{_∙_, _+_, arith, needs}
+use Rattle.numbers.proofs.Laws.{number-parts, pair-small}
 use Rattle.numbers.proofs.read_word.Statement.{statement}
 use Rattle.numbers.proofs.read_word.Tie as tie
 
@@ -12,7 +9,7 @@ returns c =
     let f = c .before .before in
     let l = f .args .b .now in
     let known = c .before .shared-slice-known .given in (
-      c .read-be .ensures .0 ∙ sym (number-halves l (f .args .at) (f .pre)),
+      c .read-be .ensures .0 ∙ number-parts l (f .args .at) 2 2 (omega arith),
       (pair-small l (f .args .at) (omega arith) (λ i. omega (arith, known i)), pair-small l (f .args .at + 2) (omega arith) (λ i. omega (arith, known i))),
     )
 

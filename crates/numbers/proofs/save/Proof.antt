@@ -1,10 +1,5 @@
 -- The first i bytes of r stand in dst from index at.
-use mathlib.Core.Path.{_≡_, refl}
-use Prim.Native.Nat.{_-_, _≤_}
-use native.Mathlib.Omega.{arith}
-use borrow.Author.Needs.{needs}
-use lib.ListN.{length, length-set}
-use lib.Seq.{paste, paste-zero}
+use Rattle.numbers.proofs.Basics.{_≡_, refl, _-_, _≤_, arith, length, paste, paste-zero, needs}
 use Rattle.numbers.proofs.Laws.{paste-more}
 use Rattle.numbers.proofs.save.Statement.{statement}
 use Rattle.numbers.proofs.save.Tie as tie
@@ -15,25 +10,15 @@ Inv-loop dst₀ at r i₀ dst i = (i ≤ 72) × (length dst ≡ length dst₀) �
 abbrev μ-loop : tie.MeasureT-loop
 μ-loop dst₀ at r i₀ dst i = 72 - i
 
-loop-holds : tie.Need-loop-holds Inv-loop μ-loop
-loop-holds c = (omega arith, refl, paste-zero (c .args .dst .now) (c .args .at) (c .args .t3))
-
 loop-again : tie.Need-loop-again Inv-loop μ-loop
 loop-again c =
     let a = c .before .before .args in
-    let l = c .before .loop in (
-      omega arith,
-      simp length-set (l .inv .1),
-      paste-more (l .dst) (a .dst .now) (a .at) (a .t3) (l .i) _ 0 refl (omega arith) (search needs) (l .inv .2),
-    )
-
-returns : tie.Need-returns Inv-loop μ-loop
-returns c =
-    let e : c .before .loop .i ≡ 72 = omega arith in
-    rw e at (c .before .loop .inv .2)
+    let l = c .before .loop in
+    paste-more (l .dst) (a .dst .now) (a .at) (a .t3) (l .i) _ 72 0 refl (omega arith) (search needs) (omega arith) (l .inv .1) (l .inv .2)
 
 pub save-spec : {M : Type 1} → statement M
 save-spec =
     tie.close
-    (tie.spec Inv-loop μ-loop loop-holds (λ c. search needs) (λ c. search needs) (λ c. search needs) (λ c. search needs) (λ c. search needs)
-    loop-again (λ c. search needs) returns)
+    (tie.spec Inv-loop μ-loop (λ c. (omega arith, refl, paste-zero (c .args .dst .now) (c .args .at) (c .args .t3)))
+    (λ c. search needs) (λ c. search needs) (λ c. search needs) (λ c. search needs) (λ c. search needs) loop-again
+    (λ c. search needs) (λ c. let e : c .before .loop .i ≡ 72 = omega arith in rw e at (c .before .loop .inv .2)))

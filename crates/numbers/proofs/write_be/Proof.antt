@@ -1,11 +1,6 @@
 -- The n - i lowest bytes of v stand in b from index at + i.
-use mathlib.Core.Path.{_≡_, refl}
-use Prim.Native.Nat.{_+_, _-_, _/_, _^_, _≤_}
-use native.Mathlib.Nat.{div-one}
-use native.Mathlib.Omega.{arith}
-use borrow.Author.Needs.{needs}
-use lib.ListN.{length, length-set}
-use lib.Seq.{paste}
+use Rattle.numbers.proofs.Basics.{_≡_, refl, _+_, _-_, _/_, _^_, _≤_, div-one, arith, length, length-set}
+use Rattle.numbers.proofs.Basics.{paste, needs}
 use Rattle.rules.specs.Bytes.{bytes}
 use Rattle.numbers.proofs.Laws.{paste-none, write-turn}
 use Rattle.numbers.proofs.write_be.Statement.{statement}
@@ -27,7 +22,7 @@ loop-again : tie.Need-loop-again Inv-loop μ-loop
 loop-again c =
     let a = c .before .before .args in
     let l = c .before .loop in
-    let t = write-turn (l .b) (a .b .now) (a .at) (a .n) (l .i) (a .v) (l .w) (omega arith) (omega arith) (omega arith) (l .inv .2) (l .inv .3) in
+    let t = write-turn (λ x. x) (λ k. bytes k (a .v)) 256 (a .v) (λ k. unfold bytes in refl) (l .b) (a .b .now) (a .at) (a .n) (l .i) (l .w) (omega arith) (omega arith) (omega arith) (l .inv .2) (l .inv .3) in
     (omega arith, simp length-set (l .inv .1), t .0, t .1)
 
 returns : tie.Need-returns Inv-loop μ-loop

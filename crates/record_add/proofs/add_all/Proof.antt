@@ -1,8 +1,5 @@
--- The invariant: what is left to add, to what is held now, comes to what all come to; and there is room for it; so many are held.
-use native.Mathlib.Omega.{arith}
-use Prim.Native.Nat.{_+_, _-_, _≤_}
-use mathlib.Core.Path.{_≡_, refl, sym, _∙_}
-use borrow.Author.Needs.{needs}
+-- The invariant: the records that are left, added to what is held now, give what all records give; and they have room.
+use Rattle.numbers.proofs.Basics.{_≡_, refl, sym, _∙_, _+_, _-_, _≤_, arith, needs}
 use Rattle.record_add.proofs.Laws.{add-next, add-ends, want-next, recordsFrom, records-all}
 use Rattle.rules.specs.State.{addAll}
 use Rattle.rules.specs.Requests.{recordsIn, allWant}
@@ -35,8 +32,7 @@ loop-again : tie.Need-loop-again Inv-loop μ-loop
 loop-again c =
     let j = c .before .before .before .before .before in
     let m = j .before in
-    let f = m .before .before in
-    let a = f .args in
+    let a = m .before .before .args in
     let v = m .loop .inv in (
       omega arith,
       c .add-one .ensures .1 .1,

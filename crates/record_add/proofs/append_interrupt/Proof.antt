@@ -1,6 +1,5 @@
 -- The interrupt joins the queue of its subclass.
-use native.Mathlib.Omega.{arith}
-use borrow.Author.Needs.{needs}
+use Rattle.numbers.proofs.Basics.{arith, needs}
 use Rattle.record_add.proofs.Laws.{io-joins}
 use Rattle.record_add.proofs.append_interrupt.Statement.{statement}
 use Rattle.record_add.proofs.append_interrupt.Tie as tie

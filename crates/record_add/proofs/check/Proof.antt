@@ -1,11 +1,6 @@
 -- The invariant: what is left to check, from a place with the number wanted so far, comes to what all comes to.
-use mathlib.Core.Logic.{⊎-elim}
-use mathlib.Core.Bool.{true}
-use native.Mathlib.Omega.{arith}
+use Rattle.numbers.proofs.Basics.{_≡_, sym, ap, _∙_, true, ⊎-elim, _+_, _*_, _-_, _≤_, arith, needs}
 use denote.Enum.Declared.{tagOf}
-use Prim.Native.Nat.{_+_, _*_, _-_, _≤_}
-use mathlib.Core.Path.{_≡_, sym, ap, _∙_}
-use borrow.Author.Needs.{needs}
 use Rattle.rules.specs.Bytes.{part}
 use Rattle.rules.specs.State.{Record, kind, subclass}
 use Rattle.rules.specs.Requests.{kindAccepted, wants, recordsIn}
@@ -22,15 +17,11 @@ Inv-loop b n wanted₀ place₀ wanted place =
 abbrev μ-loop : tie.MeasureT-loop
 μ-loop b n wanted₀ place₀ wanted place = n - place
 
-loop-holds : tie.Need-loop-holds Inv-loop μ-loop
-loop-holds c = (omega arith, omega arith, rw records-all)
-
 returns : tie.Need-returns Inv-loop μ-loop
 unfolding kindAccepted
 returns c =
     let j = c .before .before .before .before in
-    let f = j .before .before in
-    let a = f .args in
+    let a = j .before .before .args in
     let r : Record = part (j .loop .place * 72) 72 (a .b .now) in
     let k = kind-known (kind r) (subclass r) _ (c .before .before .kind-at .ensures) ∙ ap kindFor (c .enum-told .given .1) in
     sym (j .loop .inv .2 ∙ check-stops (j .loop .place) (a .n) _ (a .b .now) (c .before .before .before .loop-test .taken) (rw k))
@@ -38,8 +29,7 @@ returns c =
 loop-again : tie.Need-loop-again Inv-loop μ-loop
 loop-again c =
     let j = c .before .before .before in
-    let f = j .before .before in
-    let a = f .args in
+    let a = j .before .before .args in
     let r : Record = part (j .loop .place * 72) 72 (a .b .now) in
     let t = tag-wants (kind r) (subclass r) _ (ap (tagOf the-type) (c .before .kind-at .ensures)) in
     let u : (kindAccepted (kind r) ≡ true) × (c .match .wanted ≡ j .loop .wanted + wants (kind r)) × (c .match .wanted ≤ j .loop .wanted + 1) =
@@ -55,5 +45,6 @@ returns-2 c =
 pub check-spec : {M : Type 1} → statement M
 check-spec =
     tie.close
-    (tie.spec Inv-loop μ-loop loop-holds (λ c. search needs) (λ c κs. search needs) (λ c. search needs) (λ c. search needs) returns
-    (λ c. search needs) (λ c. search needs) loop-again returns-2)
+    (tie.spec Inv-loop μ-loop (λ c. (omega arith, omega arith, rw records-all)) (λ c. search needs)
+    (λ c κs. search needs) (λ c. search needs) (λ c. search needs) returns (λ c. search needs) (λ c. search needs)
+    loop-again returns-2)

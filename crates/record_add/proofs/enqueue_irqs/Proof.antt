@@ -1,11 +1,6 @@
 -- The checks of the rules, in their order; a refusal comes before anything is added.
-use Prim.Native.Nat.{ℕ, _+_, _*_, _/_, _%_, _≤_}
-use mathlib.Core.Path.{_≡_, refl, sym, ap, _∙_}
-use mathlib.Core.Logic.{⊎-elim}
-use native.Mathlib.Omega.{arith}
-use lib.ListN.{length}
-use borrow.Author.Tests.{eq-eqb, ne-eqb, le-leb, lt-leb}
-use borrow.Author.Needs.{needs}
+use Rattle.numbers.proofs.Basics.{_≡_, refl, sym, ap, _∙_, ⊎-elim, ℕ, _+_, _*_, _/_, _≤_, arith, length, eq-eqb}
+use Rattle.numbers.proofs.Basics.{ne-eqb, le-leb, lt-leb, needs}
 use Rattle.rules.specs.State.{Pending, addAll, queued}
 use Rattle.rules.specs.Requests.{enqueueBytes, recordsIn, allWant, request}
 use Rattle.rules.proofs.Checks.{fails}
@@ -14,68 +9,44 @@ use Rattle.store_queues.specs.Slots.{slotCount}
 use Rattle.store_queues.specs.Queues.{total}
 use Rattle.store.specs.Memory.{pendingOf}
 use Rattle.record_add.specs.Cases.{checkFrom, answerTo}
-use Rattle.record_add.proofs.Laws.{queued-total, add-none, answer-good, enqueuing, enqueue-bad, enqueue-good}
+use Rattle.record_add.proofs.Laws.{queued-total, add-none, told, answer-good, enqueuing, enqueue-bad, enqueue-good}
 use Rattle.record_add.proofs.enqueue_irqs.Statement.{statement}
 use Rattle.record_add.proofs.enqueue_irqs.Tie as tie
 
 returns : tie.Need-returns
 unfolding request
-returns c =
-    let f = c .before .before .before in (
-      λ L s er ep. refused L s _ _ _ 22 _ ep
-          (fails _ _ _ (rw (eq-eqb (f .args .attr) 0 (c .before .if1 .taken)))) (c .refuse .ensures),
-      (f .pre .1, λ k. (refl, refl, refl, refl)),
-    )
+returns c = (
+  λ L s er ep. refused L s _ _ _ 22 _ ep (fails _ _ _ (rw (eq-eqb _ 0 (c .before .if1 .taken)))) (c .refuse .ensures),
+  (c .before .before .before .pre .1, λ k. (refl, refl, refl, refl)),
+)
 
 returns-2 : tie.Need-returns-2
 unfolding request
-returns-2 c =
-    let f = c .before .before .before .before in (
-      λ L s er ep. refused L s _ _ _ 22 _ ep
-          (fails _ _ _ (rw (ne-eqb (f .args .attr) 0 (c .before .before .if1 .left), lt-leb (f .args .attr) enqueueBytes (c .before .if2 .taken)))) (c .refuse2 .ensures),
-      (f .pre .1, λ k. (refl, refl, refl, refl)),
-    )
+returns-2 c = (
+  λ L s er ep. refused L s _ _ _ 22 _ ep (fails _ _ _ (rw (ne-eqb _ 0 (c .before .before .if1 .left), lt-leb _ enqueueBytes (c .before .if2 .taken)))) (c .refuse2 .ensures),
+  (c .before .before .before .before .pre .1, λ k. (refl, refl, refl, refl)),
+)
 
 returns-3 : tie.Need-returns-3
 unfolding request
 returns-3 c =
-    let f = c .before .before .before .before .before in
-    let a = f .args in (
+    let d = c .before .before in (
       λ L s er ep. refused L s _ _ _ 22 _ ep
-          (fails _ _ _ (rw (
-            ne-eqb (a .attr) 0 (c .before .before .before .if1 .left),
-            le-leb (a .attr) enqueueBytes (c .before .before .if2 .left),
-            ne-eqb (a .attr % 72) 0 (c .before .if3 .taken),
-          ))) (c .refuse3 .ensures),
-      (f .pre .1, λ k. (refl, refl, refl, refl)),
+          (fails _ _ _ (rw (ne-eqb _ 0 (d .before .if1 .left), le-leb _ enqueueBytes (d .if2 .left), ne-eqb _ 0 (c .before .if3 .taken)))) (c .refuse3 .ensures),
+      (d .before .before .before .pre .1, λ k. (refl, refl, refl, refl)),
     )
 
 returns-4 : tie.Need-returns-4
 returns-4 c =
-    let f = c .before .before .before .before .before .before in
-    let a = f .args in (
+    let d = c .before .before in (
       λ L s er ep. refused L s _ _ _ 14 _ ep
-          (enqueuing L s (a .attr) (a .payload .now) (c .before .before .before .before .if1 .left) (c .before .before .before .if2 .left) (c .before .before .if3 .left)
-          ∙ fails _ _ _ (lt-leb (a .attr) (length (a .payload .now)) (c .before .if4 .taken))) (c .refuse4 .ensures),
-      (f .pre .1, λ k. (refl, refl, refl, refl)),
+          (enqueuing L s _ _ (d .before .before .if1 .left) (d .before .if2 .left) (d .if3 .left) ∙ fails _ _ _ (lt-leb _ _ (c .before .if4 .taken))) (c .refuse4 .ensures),
+      (d .before .before .before .before .pre .1, λ k. (refl, refl, refl, refl)),
     )
-
-answer-to-requires : tie.Need-answer-to-requires
-answer-to-requires c κs =
-    let f = c .before .before .before .before .before .before .before in
-    (omega arith, omega arith, omega (arith, c .queued .ensures, f .pre .1 .counted .few))
 
 -- what is known once it is decided how many records are added
 abbrev start : tie.Joined5 → tie.Start
 start j = j .before .before .before .before .before .before .before .before .before .before
-
-all-counted : (j : tie.Joined5)
-    → queued (pendingOf (start j .args .order .now) (start j .args .counts .now) (start j .args .slots .now) (start j .args .singles .now)) ≡ j .before .before .before .queued .result
-all-counted j =
-    let a = start j .args in
-    queued-total (a .order .now) (a .counts .now) (a .slots .now) (a .singles .now)
-    (start j .pre .1)
-    ∙ sym (j .before .before .before .queued .ensures)
 
 added-fit : (j : tie.Joined5)
     → let b = start j .args .payload .now in
@@ -89,7 +60,7 @@ added-fit j =
     let l = j .before .before .before .before .before .if4 .left in
     ⊎-elim
     (λ t.
-    let g = answer-good (recordsIn n b) n (q .result) (f .args .room) _ (j .before .before .answer-to .ensures) (t .0 .taken) in
+    let g = answer-good _ _ _ _ _ (told (recordsIn n b) n (q .result) (f .args .room) _ (j .before .before .answer-to .ensures)) (t .0 .taken) in
     (omega arith, omega (arith, l), omega (arith, q .ensures, f .pre .0, g .2, ap (λ (n : ℕ). allWant (recordsIn n b)) (t .1))))
     (λ t. (omega arith, omega arith, omega (arith, f .pre .1 .counted .few, ap (λ (n : ℕ). allWant (recordsIn n b)) (t .1))))
     (j .if5 .came)
@@ -109,7 +80,8 @@ returns-5 c =
     let p = c .add-all .ensures .0 in
     let add : ℕ → Pending = λ (n : ℕ). addAll (recordsIn n b) (pendingOf (a .order .now) (a .counts .now) (a .slots .now) (a .singles .now)) in (
       λ L s er ep.
-          let eq : queued (s .pending) ≡ j .before .before .before .queued .result = ap (λ (p : Pending). queued p) ep ∙ all-counted j in
+          let eq : queued (s .pending) ≡ j .before .before .before .queued .result =
+          ap (λ (p : Pending). queued p) ep ∙ queued-total _ _ _ _ (start j .pre .1) ∙ sym (j .before .before .before .queued .ensures) in
           let ea = j .before .before .answer-to .ensures ∙ ap (answerTo (checkFrom 0 0 (recordsIn (a .attr / 72) b)) (a .attr / 72) (j .before .before .before .queued .result)) (sym er) in
           ⊎-elim
           (λ t. enqueue-good L s (a .attr) b (u .before .before .before .if1 .left) (u .before .before .if2 .left) (u .before .if3 .left) (u .if4 .left) _ eq _ ea _
@@ -123,5 +95,5 @@ returns-5 c =
 pub enqueue-irqs-spec : {M : Type 1} → statement M
 enqueue-irqs-spec =
     tie.close
-    (tie.spec (λ c κs. search needs) returns (λ c κs. search needs) returns-2 (λ c κs. search needs) returns-3 (λ c κs. search needs)
-    returns-4 (λ c κs. search needs) answer-to-requires add-all-requires returns-5)
+    (tie.spec (λ c κs. search needs) returns (λ c κs. search needs) returns-2 (λ c κs. search needs) returns-3
+    (λ c κs. search needs) returns-4 (λ c κs. search needs) (λ c κs. search needs) add-all-requires returns-5)

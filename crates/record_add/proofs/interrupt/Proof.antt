@@ -4,8 +4,8 @@ use Rattle.record_add.proofs.Laws.{interrupt-bytes}
 use Rattle.record_add.proofs.interrupt.Statement.{statement}
 use Rattle.record_add.proofs.interrupt.Tie as tie
 
-returns : tie.Need-returns
-returns c = interrupt-bytes (c .before .args .isc .0) (c .before .pre)
-
 pub interrupt-spec : {M : Type 1} → statement M
-interrupt-spec = tie.close (tie.spec (λ c. search needs) (λ c. search needs) (λ c. search needs) (λ c. search needs) returns)
+interrupt-spec =
+    tie.close
+    (tie.spec (λ c. search needs) (λ c. search needs) (λ c. search needs) (λ c. search needs)
+    (λ c. interrupt-bytes (c .before .args .isc .0) (c .before .pre)))

@@ -1,67 +1,36 @@
 -- The type is tested against the numbers of the rules, in their order.
-use borrow.Author.Tests.{le-leb, lt-leb, eq-eqb, ne-eqb}
-use borrow.Author.Needs.{needs}
-use Rattle.rules.specs.Bytes.{choose}
+use Rattle.numbers.proofs.Basics.{_≡_, le-leb, lt-leb, eq-eqb, ne-eqb, needs}
+use Rattle.rules.specs.Bytes.{choose, part}
 use Rattle.rules.specs.State as rules
+use Rattle.rules.specs.State.{kind}
 use Rattle.record_add.specs.Cases.{asCase}
 use Rattle.record_add.proofs.Laws.{kind-at-is}
 use Rattle.record_add.proofs.kind_at.Statement.{statement}
 use Rattle.record_add.proofs.kind_at.Tie as tie
 
+-- the kind by the type that was read
+known : (c : tie.After-read-doubleword) → let a = c .before .before .args in kind (part (a .at) 72 (a .b .now)) ≡ rules.kindOf (c .read-doubleword .result)
+known c = let a = c .before .before .args in kind-at-is (a .at) _ (a .b .now) (c .read-doubleword .ensures .0)
+
 returns : tie.Need-returns
 unfolding asCase choose rules.kindOf
-returns c =
-    let f = c .before .before .before .before in
-    rw (
-      kind-at-is (f .args .at) _ (f .args .b .now) (c .before .before .read-doubleword .ensures .0),
-      le-leb _ 0xfffdffff (c .before .if1 .taken),
-      c .subclass-at .ensures,
-    )
+returns c = rw (known (c .before .before), le-leb _ 0xfffdffff (c .before .if1 .taken), c .subclass-at .ensures)
 
 returns-2 : tie.Need-returns-2
 unfolding asCase choose rules.kindOf
-returns-2 c =
-    let f = c .before .before .before .before in
-    rw (
-      kind-at-is (f .args .at) _ (f .args .b .now) (c .before .before .read-doubleword .ensures .0),
-      lt-leb _ 0xfffdffff (c .before .if1 .left),
-      eq-eqb _ 0xfffe0005 (c .if2 .taken),
-    )
+returns-2 c = rw (known (c .before .before), lt-leb _ 0xfffdffff (c .before .if1 .left), eq-eqb _ 0xfffe0005 (c .if2 .taken))
 
 returns-3 : tie.Need-returns-3
 unfolding asCase choose rules.kindOf
-returns-3 c =
-    let f = c .before .before .before .before .before in
-    rw (
-      kind-at-is (f .args .at) _ (f .args .b .now) (c .before .before .before .read-doubleword .ensures .0),
-      lt-leb _ 0xfffdffff (c .before .before .if1 .left),
-      ne-eqb _ 0xfffe0005 (c .before .if2 .left),
-      eq-eqb _ 0xfffe1000 (c .if3 .taken),
-    )
+returns-3 c = rw (known (c .before .before .before), lt-leb _ 0xfffdffff (c .before .before .if1 .left), ne-eqb _ 0xfffe0005 (c .before .if2 .left), eq-eqb _ 0xfffe1000 (c .if3 .taken))
 
 returns-4 : tie.Need-returns-4
 unfolding asCase choose rules.kindOf
-returns-4 c =
-    let f = c .before .before .before .before .before .before in
-    rw (
-      kind-at-is (f .args .at) _ (f .args .b .now) (c .before .before .before .before .read-doubleword .ensures .0),
-      lt-leb _ 0xfffdffff (c .before .before .before .if1 .left),
-      ne-eqb _ 0xfffe0005 (c .before .before .if2 .left),
-      ne-eqb _ 0xfffe1000 (c .before .if3 .left),
-      eq-eqb _ 0xffff2401 (c .if4 .taken),
-    )
+returns-4 c = rw (known (c .before .before .before .before), lt-leb _ 0xfffdffff (c .before .before .before .if1 .left), ne-eqb _ 0xfffe0005 (c .before .before .if2 .left), ne-eqb _ 0xfffe1000 (c .before .if3 .left), eq-eqb _ 0xffff2401 (c .if4 .taken))
 
 returns-5 : tie.Need-returns-5
 unfolding asCase choose rules.kindOf
-returns-5 c =
-    let f = c .before .before .before .before .before .before in
-    rw (
-      kind-at-is (f .args .at) _ (f .args .b .now) (c .before .before .before .before .read-doubleword .ensures .0),
-      lt-leb _ 0xfffdffff (c .before .before .before .if1 .left),
-      ne-eqb _ 0xfffe0005 (c .before .before .if2 .left),
-      ne-eqb _ 0xfffe1000 (c .before .if3 .left),
-      ne-eqb _ 0xffff2401 (c .if4 .left),
-    )
+returns-5 c = rw (known (c .before .before .before .before), lt-leb _ 0xfffdffff (c .before .before .before .if1 .left), ne-eqb _ 0xfffe0005 (c .before .before .if2 .left), ne-eqb _ 0xfffe1000 (c .before .if3 .left), ne-eqb _ 0xffff2401 (c .if4 .left))
 
 pub kind-at-spec : {M : Type 1} → statement M
 kind-at-spec =

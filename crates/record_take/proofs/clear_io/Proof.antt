@@ -1,11 +1,5 @@
 -- The checks of the rules, in their order; then the first record of the subchannel, or none.
-use borrow.Author.Needs.{needs}
-use Prim.Native.Nat.{_<_}
-use mathlib.Core.Path.{_≡_, refl, _∙_}
-use mathlib.Core.List.{[]}
-use lib.ListN.{getD}
-use borrow.Author.Tests.{le-leb, lt-leb}
-use native.Mathlib.Omega.{arith}
+use Rattle.numbers.proofs.Basics.{refl, _∙_, [], _<_, arith, getD, le-leb, lt-leb, needs}
 use Rattle.rules.specs.Requests.{request, clearsIo}
 use Rattle.rules.proofs.Checks.{passes, fails}
 use Rattle.answers.proofs.Laws.{refused, accepted, not-refused}

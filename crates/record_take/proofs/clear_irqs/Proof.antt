@@ -1,8 +1,5 @@
 -- Nothing is queued any more, and neither service record nor machine check is there.
-use borrow.Author.Needs.{needs}
-use mathlib.Core.Path.{refl, _∙_}
-use mathlib.Core.List.{[]}
-use borrow.Author.Tests.{eq-eqb, ne-eqb}
+use Rattle.numbers.proofs.Basics.{refl, _∙_, [], eq-eqb, ne-eqb, needs}
 use Rattle.rules.specs.Requests.{request}
 use Rattle.rules.proofs.Checks.{passes, fails}
 use Rattle.answers.proofs.Laws.{refused, accepted, not-refused}

@@ -1,17 +1,12 @@
--- `record_take::get_all` meets its contract. Assumes nothing.
-use borrow.Author.Needs.{needs}
-use Prim.Native.Nat.{_*_, _≤_}
-use mathlib.Core.Path.{_≡_, refl, ap, _∙_}
-use mathlib.Core.Bool.{not}
-use native.Mathlib.Omega.{arith}
-use lib.ListN.{length}
-use borrow.Author.Tests.{eq-eqb, ne-eqb, le-leb, lt-leb}
+-- The checks of the rules, in their order; then the listing is written.
+use Rattle.numbers.proofs.Basics.{_≡_, refl, ap, _∙_, not, _*_, _≤_, arith, length, eq-eqb, ne-eqb, le-leb, lt-leb}
+use Rattle.numbers.proofs.Basics.{needs}
 use Rattle.rules.specs.State.{listing}
 use Rattle.rules.specs.Requests.{request}
 use Rattle.rules.proofs.Checks.{passes, fails}
 use Rattle.store.specs.Memory.{pendingOf}
 use Rattle.answers.proofs.Laws.{refused, accepted, not-refused}
-use Rattle.record_take.proofs.Laws.{lists-none, lists-all, wrote-long}
+use Rattle.record_take.proofs.Laws.{lists-none, lists-all, records-size}
 use Rattle.record_take.proofs.get_all.Statement.{statement}
 use Rattle.record_take.proofs.get_all.Tie as tie
 
@@ -36,9 +31,6 @@ returns-3 c =
     let f = d .before .before .before in
     (λ L s e. refused L s _ _ _ 12 _ refl (passes _ _ _ (ap not (ne-eqb _ 0 (d .before .if1 .left))) ∙ passes _ _ _ (le-leb _ _ (d .if2 .left)) ∙ lists-none s _ _ _ e (c .before .before .pending .ensures .0 (f .args .order .now) (f .args .slots .now) (f .pre)) (c .before .if3 .taken)) (c .refuse3 .ensures), λ k. refl)
 
-list-all-requires : tie.Need-list-all-requires
-list-all-requires c κs = (c .before .before .before .before .before .before .pre, room c)
-
 returns-4 : tie.Need-returns-4
 unfolding request
 returns-4 c =
@@ -51,12 +43,14 @@ returns-4 c =
           accepted L s _ _ _ _ s _ _
           (passes _ _ _ (ap not (ne-eqb _ 0 (t .if1 .left))) ∙ passes _ _ _ (le-leb _ _ (f .before .if2 .left)) ∙ lists-all s _ _ _ e n (d .before .before .if3 .left))
           (c .accept .ensures)
-          (wrote-long _ (t .before .before .args .out .now) _ (room (d .before)) l (d .list-all .ensures)),
+          (rw (records-size _ (t .before .before .args .out .now) _ (room (d .before)) l (d .list-all .ensures)) (d .list-all .ensures)),
       not-refused _ _ (c .accept .ensures),
     )
 
 pub get-all-spec : {M : Type 1} → statement M
 get-all-spec =
     tie.close
-    (tie.spec (λ c κs. search needs) returns (λ c κs. search needs) returns-2 (λ c κs. search needs) (λ c. search needs)
-    (λ c κs. search needs) returns-3 list-all-requires (λ c κs. search needs) (λ c. search needs) returns-4)
+    (tie.spec (λ c κs. search needs) returns (λ c κs. search needs) returns-2 (λ c κs. search needs)
+    (λ c. search needs) (λ c κs. search needs) returns-3
+    (λ c κs. (c .before .before .before .before .before .before .pre, room c)) (λ c κs. search needs)
+    (λ c. search needs) returns-4)

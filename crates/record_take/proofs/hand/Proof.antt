@@ -1,9 +1,5 @@
--- `record_take::hand` meets its contract. Assumes nothing.
-use borrow.Author.Needs.{needs}
-use mathlib.Core.Path.{_≡_, _∙_}
-use native.Mathlib.Omega.{arith}
-use lib.ListN.{length}
-use lib.Seq.{take-all}
+-- The record stands at the start of the buffer.
+use Rattle.numbers.proofs.Basics.{_≡_, _∙_, arith, length, take-all, needs}
 use Rattle.record_take.proofs.hand.Statement.{statement}
 use Rattle.record_take.proofs.hand.Tie as tie
 

@@ -1,12 +1,5 @@
--- `record_take::list_all` meets its contract. Assumes nothing.
-use borrow.Author.Needs.{needs}
-use Prim.Native.Nat.{_+_, _*_, _≤_}
-use mathlib.Core.Path.{_≡_, _∙_}
-use mathlib.Core.List.{_++_, flatten}
-use mathlib.Core.Option.{some}
-use mathlib.Core.Logic.{⊎-elim}
-use native.Mathlib.Omega.{arith}
-use lib.ListN.{length}
+-- The queued records, then the service record, then the machine check, one after the other.
+use Rattle.numbers.proofs.Basics.{_≡_, _∙_, ⊎-elim, some, _++_, flatten, _+_, _*_, _≤_, arith, length, needs}
 use Rattle.rules.specs.State.{Record, single}
 use Rattle.store_queues.specs.Queues.{queues, total}
 use Rattle.store_singles.specs.Singles.{serviceOf, mchkOf}
@@ -51,9 +44,6 @@ service c =
 mchk-room : (c : tie.Joined1) (r : Record) → mchkOf (c .before .before .before .before .before .before .before .before .args .singles .now) ≡ some r → c .if1 .at + 72 ≤ length (c .before .before .before .before .before .before .before .before .args .out .now)
 mchk-room c r e = room-more _ _ _ _ (service c) _ r e _ (room (c .before .before))
 
-list-requires : tie.Need-list-requires
-list-requires c κs = (c .before .before .pre .0, fits c)
-
 save-requires : tie.Need-save-requires
 save-requires c κs =
     let d = c .before .before .before in
@@ -64,9 +54,6 @@ save-requires-2 c κs =
     let d = c .before .before .before in
     omega (arith, mchk-room (d .before) _ (mchk-there _ _ _ (d .has-mchk .ensures) (c .before .before .if2 .taken) (c .read-mchk .ensures)), service (d .before) .long)
 
-same-length : tie.Need-same-length
-same-length c = let h = service (c .before .before .before .before .before .before .before) .long in search needs
-
 returns : tie.Need-returns
 returns c =
     let d = c .before .before .before in
@@ -76,9 +63,6 @@ returns c =
     let e = (mchk-there _ _ _ (f .has-mchk .ensures) (d .before .before .if2 .taken) (d .read-mchk .ensures)) in
     c .before .before .save2 .ensures ∙ wrote-all _ _ _ _ _ _ _ (t .pre .0) (one-more _ _ _ _ (service j) _ _ e (search needs) (mchk-room j _ e))
 
-same-length-2 : tie.Need-same-length-2
-same-length-2 c = service (c .before .before) .long
-
 returns-2 : tie.Need-returns-2
 returns-2 c =
     let d = c .before .before .before .before .before .before .before .before .before .before in
@@ -87,5 +71,8 @@ returns-2 c =
 pub list-all-spec : {M : Type 1} → statement M
 list-all-spec =
     tie.close
-    (tie.spec list-requires (λ c κs. search needs) (λ c. search needs) (λ c κs. search needs) (λ c κs. search needs) save-requires
-    (λ c. search needs) (λ c κs. search needs) (λ c κs. search needs) save-requires-2 same-length returns same-length-2 returns-2)
+    (tie.spec (λ c κs. (c .before .before .pre .0, fits c)) (λ c κs. search needs) (λ c. search needs)
+    (λ c κs. search needs) (λ c κs. search needs) save-requires (λ c. search needs) (λ c κs. search needs)
+    (λ c κs. search needs) save-requires-2
+    (λ c. let h = service (c .before .before .before .before .before .before .before) .long in search needs) returns
+    (λ c. service (c .before .before) .long) returns-2)

@@ -1,21 +1,11 @@
 -- A finished page fault where one is there and allowed, else what the search finds.
-use borrow.Author.Needs.{needs}
-use mathlib.Core.Path.{_≡_, refl, sym, ap, _∙_}
-use mathlib.Core.Logic.{_⊎_, inl, inr, ⊎-elim}
-use mathlib.Core.Bool.{false}
-use Prim.Native.Nat.{_<_}
-use native.Mathlib.Omega.{arith}
-use lib.Bits.{bitAnd}
-use lib.ListN.{getD}
-use borrow.Author.Tests.{ltb-true, ltb-false}
+use Rattle.numbers.proofs.Basics.{_≡_, refl, ap, false, _⊎_, inl, inr, ⊎-elim, _<_, arith, getD, bitAnd, ltb-true}
+use Rattle.numbers.proofs.Basics.{ltb-false, needs}
 use Rattle.numbers.specs.declared.Queue.{Queue}
 use Rattle.record_take.specs.declared.Next.the-variants.{At}
 use Rattle.record_take.proofs.Laws.{next-done, no-done, next-none, next-io}
 use Rattle.record_take.proofs.next_queued.Statement.{statement}
 use Rattle.record_take.proofs.next_queued.Tie as tie
-
-count-requires : tie.Need-count-requires
-count-requires c κs = rw (c .done .ensures) (omega arith)
 
 -- the count of finished page faults
 counted : (c : tie.After-count) → c .count .result ≡ getD (c .before .before .before .args .counts .now) 8 0
@@ -46,7 +36,7 @@ returns-2 c =
     let j = n .before in
     let f = j .before in
     let a = f .args in
-    (tt, λ g. next-none (a .order .now) (a .counts .now) (a .slots .now) g (f .pre) (a .mask) _ (a .external) (ap (bitAnd (a .mask)) (n .nonempty .ensures)) (no-done (a .order .now) (a .counts .now) (a .slots .now) g (f .pre) (a .external) (passed j)) _ (d .find .ensures .1 .0 refl) _ refl (c .enum-told .given .1))
+    (tt, λ g. next-none (a .order .now) (a .counts .now) (a .slots .now) g (f .pre) (a .subclasses) _ (a .external) (ap (bitAnd (a .subclasses)) (n .nonempty .ensures)) (no-done (a .order .now) (a .counts .now) (a .slots .now) g (f .pre) (a .external) (passed j)) _ (d .find .ensures .1 .0 refl) _ refl (c .enum-told .given .1))
 
 -- the place that was found
 found : (c : tie.After-isc) → let a = c .before .before .before .before .before .args in
@@ -63,11 +53,12 @@ returns-3 c =
     let a = f .args in
     let p = found i in (
       rw (c .of .ensures) (omega (arith, p .0), p .1),
-      λ g. next-io (a .order .now) (a .counts .now) (a .slots .now) g (f .pre) (a .mask) _ (a .external) (ap (bitAnd (a .mask)) (n .nonempty .ensures)) (no-done (a .order .now) (a .counts .now) (a .slots .now) g (f .pre) (a .external) (passed j)) _ (d .find .ensures .1 .0 refl) _ _ _ (ap (λ (q : Queue). At q (i .isc .given .0 .1 .0)) (c .of .ensures)) (i .isc .given .1) (p .0),
+      λ g. next-io (a .order .now) (a .counts .now) (a .slots .now) g (f .pre) (a .subclasses) _ (a .external) (ap (bitAnd (a .subclasses)) (n .nonempty .ensures)) (no-done (a .order .now) (a .counts .now) (a .slots .now) g (f .pre) (a .external) (passed j)) _ (d .find .ensures .1 .0 refl) _ _ _ (ap (λ (q : Queue). At q (i .isc .given .0 .1 .0)) (c .of .ensures)) (i .isc .given .1) (p .0),
     )
 
 pub next-queued-spec : {M : Type 1} → statement M
 next-queued-spec =
     tie.close
-    (tie.spec (λ c κs. search needs) count-requires (λ c κs. search needs) returns (λ c κs. search needs) (λ c κs. search needs) (λ c. search needs) (λ c. search needs)
-    returns-2 (λ c κs. search needs) returns-3)
+    (tie.spec (λ c κs. search needs) (λ c κs. rw (c .done .ensures) (omega arith)) (λ c κs. search needs) returns
+    (λ c κs. search needs) (λ c κs. search needs) (λ c. search needs) (λ c. search needs) returns-2
+    (λ c κs. search needs) returns-3)

@@ -1,6 +1,5 @@
 -- The queued records, and one for each of the other two.
-use borrow.Author.Needs.{needs}
-use native.Mathlib.Omega.{arith}
+use Rattle.numbers.proofs.Basics.{arith, needs}
 use Rattle.record_take.proofs.Laws.{count-is}
 use Rattle.record_take.proofs.pending.Statement.{statement}
 use Rattle.record_take.proofs.pending.Tie as tie

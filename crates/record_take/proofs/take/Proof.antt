@@ -1,13 +1,8 @@
 -- Machine check, service record, then the next of the queues; each is handed out and then removed.
-use borrow.Author.Needs.{needs}
-use Prim.Native.Nat.{_<_}
-use mathlib.Core.Path.{_≡_, refl}
-use mathlib.Core.Logic.{⊎-elim}
-use native.Mathlib.Omega.{arith}
-use lib.ListN.{length, getD}
-use borrow.Author.Tests.{lt-leb}
+use Rattle.numbers.proofs.Basics.{_≡_, refl, ⊎-elim, _<_, length, getD, lt-leb, needs}
 use Rattle.rules.specs.Take.{takes}
 use Rattle.rules.proofs.Checks.{fails, passed}
+use Rattle.store_queues.specs.Queues.{Held}
 use Rattle.store.specs.Memory.{pendingOf}
 use Rattle.answers.proofs.Laws.{refused, not-refused}
 use Rattle.record_take.proofs.Laws.{service-there, service-absent, mchk-there, mchk-absent, NoMchk, NoService, no-mchk, no-service, hands-mchk, hands-service, hands-nothing, hands-queued, hands, hands-none}
@@ -33,13 +28,12 @@ returns-2 c =
     let t = r .before .before .before in
     let m = t .before in
     let i = m .before .before in
-    let f = i .before .before .before in
     let l : length (r .read-mchk .result) ≡ 72 = search needs in (
       λ L s e.
           hands L s _ _ _ _ _ _ e (i .before .if1 .left) _ _ _ l
           (hands-mchk _ _ _ _ _ _ _ _ _ (i .if2 .taken) (mchk-there _ _ _ (m .has-mchk .ensures) (t .if3 .taken) (r .read-mchk .ensures)) (c .drop-mchk .ensures .0) (c .drop-mchk .ensures .1))
           (n .hand .ensures),
-      (f .pre, not-refused _ _ (n .hand .ensures .0)),
+      (i .before .before .before .pre, not-refused _ _ (n .hand .ensures .0)),
     )
 
 returns-3 : tie.Need-returns-3
@@ -50,13 +44,12 @@ returns-3 c =
     let m = t .before in
     let i = m .before .before in
     let j = i .before in
-    let f = j .before .before .before in
     let l : length (r .read-service .result) ≡ 72 = search needs in (
       λ L s e.
           hands L s _ _ _ _ _ _ e (j .before .if1 .left) _ _ _ l
           (hands-service _ _ _ _ _ _ _ (mchk-passed j) _ _ (i .if4 .taken) (service-there _ _ _ (m .has-service .ensures) (t .if5 .taken) (r .read-service .ensures)) (c .drop-service .ensures .0) (c .drop-service .ensures .1))
           (n .hand2 .ensures),
-      (f .pre, not-refused _ _ (n .hand2 .ensures .0)),
+      (j .before .before .before .pre, not-refused _ _ (n .hand2 .ensures .0)),
     )
 
 returns-4 : tie.Need-returns-4
@@ -73,20 +66,11 @@ returns-4 c =
     )
 
 -- the place of the record
-placed : (c : tie.After-q) → let a = c .before .before .before .before .before .before .before .before .before .args in (c .q .given .0 .0 .0 < 9) × (c .q .given .0 .1 .0 < getD (a .counts .now) (c .q .given .0 .0 .0) 0)
-placed c = rw (c .q .given .1) at (c .before .before .next-queued .ensures .0)
-
-read-requires : tie.Need-read-requires
-read-requires c κs =
-    let j = c .before .before .before .before in
-    let p = placed j in
-    (p .0, p .1, j .before .before .before .before .before .before .before .before .before .pre)
-
-remove-requires : tie.Need-remove-requires
-remove-requires c κs =
-    let j = c .before .before .before .before .before .before .before .before .before .before in
-    let p = placed j in
-    (p .0, p .1, j .before .before .before .before .before .before .before .before .before .pre)
+placed : (c : tie.After-q) → let a = c .before .before .before .before .before .before .before .before .before .args in
+    (c .q .given .0 .0 .0 < 9) × (c .q .given .0 .1 .0 < getD (a .counts .now) (c .q .given .0 .0 .0) 0) × Held (a .order .now) (a .counts .now)
+placed c =
+    let p = rw (c .q .given .1) at (c .before .before .next-queued .ensures .0) in
+    (p .0, p .1, c .before .before .before .before .before .before .before .before .before .pre)
 
 returns-5 : tie.Need-returns-5
 returns-5 c =
@@ -109,4 +93,4 @@ take-spec =
     tie.close
     (tie.spec (λ c κs. search needs) returns (λ c κs. search needs) (λ c κs. search needs) (λ c κs. search needs) (λ c κs. search needs) (λ c. search needs) returns-2
     (λ c κs. search needs) (λ c κs. search needs) (λ c κs. search needs) (λ c κs. search needs) (λ c. search needs) returns-3 (λ c κs. search needs) (λ c. search needs)
-    (λ c. search needs) (λ c κs. search needs) returns-4 read-requires (λ c κs. search needs) remove-requires (λ c. search needs) returns-5)
+    (λ c. search needs) (λ c κs. search needs) returns-4 (λ c κs. placed (c .before .before .before .before)) (λ c κs. search needs) (λ c κs. placed (c .before .before .before .before .before .before .before .before .before .before)) (λ c. search needs) returns-5)

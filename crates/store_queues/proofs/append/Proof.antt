@@ -1,9 +1,5 @@
 -- The last free slot is the queue's next, and the counts follow.
-use Prim.Native.Nat.{ℕ, _+_, _^_, _<_}
-use native.Mathlib.Nat.{div-le-self}
-use native.Mathlib.Omega.{arith}
-use borrow.Author.Needs.{needs}
-use lib.ListN.{getD}
+use Rattle.numbers.proofs.Basics.{ℕ, _+_, _^_, _<_, div-le-self, arith, getD, needs}
 use Rattle.store_queues.specs.Slots.{slotCount}
 use Rattle.store_queues.proofs.Counts.{count-small, waiting-small, mask-stays, mask-set, some-zero, some-one}
 use Rattle.store_queues.proofs.Laws.{append-leaves}
@@ -18,15 +14,6 @@ room : (c : tie.After-mask) → let f = start c in getD (f .args .c .now) (f .ar
 room c =
     let f = start c in
     omega (arith, count-small (f .args .c .now) (f .pre .3 .counted) (f .args .q .0) (f .pre .0), f .pre .1, f .pre .2)
-
-add-o : tie.Need-add-o
-add-o c = omega (arith, room c)
-
-element-write-o : tie.Need-element-write-o
-element-write-o c = omega (arith, room c)
-
-add-c : tie.Need-add-c
-add-c c = omega (arith, room c)
 
 add-c-3 : tie.Need-add-c-3
 add-c-3 c =
@@ -54,6 +41,7 @@ returns-2 c =
 pub append-spec : {M : Type 1} → statement M
 append-spec =
     tie.close
-    (tie.spec (λ c. search needs) (λ c. search needs) (λ c. search needs) (λ c κs. search needs) (λ c. search needs) (λ c. search needs)
-    (λ c. search needs) (λ c. search needs) add-o element-write-o add-c (λ c. search needs) (λ c. search needs) (λ c. search needs) (λ c. search needs)
-    (λ c. search needs) add-c-3 (λ c. search needs) returns returns-2)
+    (tie.spec (λ c. search needs) (λ c. search needs) (λ c. search needs) (λ c κs. search needs) (λ c. search needs)
+    (λ c. search needs) (λ c. search needs) (λ c. search needs) (λ c. omega (arith, room c))
+    (λ c. omega (arith, room c)) (λ c. omega (arith, room c)) (λ c. search needs) (λ c. search needs)
+    (λ c. search needs) (λ c. search needs) (λ c. search needs) add-c-3 (λ c. search needs) returns returns-2)

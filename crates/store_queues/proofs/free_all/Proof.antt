@@ -1,11 +1,5 @@
 -- The entries passed are their own indices in the row.
-use mathlib.Core.Path.{_≡_, ap, _∙_, sym}
-use Prim.Native.Nat.{_+_, _-_, _*_, _≤_}
-use native.Mathlib.Nat.{zero-add}
-use native.Mathlib.Omega.{arith}
-use borrow.Author.Needs.{needs}
-use lib.ListN.{length, set, length-set}
-use lib.Seq.{paste, paste-zero}
+use Rattle.numbers.proofs.Basics.{_≡_, refl, _∙_, _-_, _*_, _≤_, zero-add, arith, length, paste, paste-zero, needs}
 use Rattle.numbers.proofs.Laws.{paste-more}
 use Rattle.store_queues.specs.Slots.{slotCount}
 use Rattle.store_queues.specs.Queues.{upFrom}
@@ -14,7 +8,7 @@ use Rattle.store_queues.proofs.free_all.Statement.{statement}
 use Rattle.store_queues.proofs.free_all.Tie as tie
 
 abbrev Inv-loop : tie.InvT-loop
-Inv-loop o₀ i₀ o i = (i ≤ slotCount) × (length o ≡ 10 * slotCount) × (o ≡ paste o₀ (9 * slotCount) (upFrom 0 slotCount) i)
+Inv-loop o₀ i₀ o i = (i ≤ slotCount) × (length o ≡ length o₀) × (o ≡ paste o₀ (9 * slotCount) (upFrom 0 slotCount) i)
 
 abbrev μ-loop : tie.MeasureT-loop
 μ-loop o₀ i₀ o i = slotCount - i
@@ -24,15 +18,13 @@ loop-again c =
     let a = c .before .before .args in
     let l = c .before .loop in
     let v = up-at 0 slotCount (l .i) (omega arith) ∙ zero-add (l .i) in
-    (omega arith, simp length-set (l .inv .1), ap (set (l .o) (9 * slotCount + l .i)) (sym v) ∙ paste-more (l .o) (a .o .now) (9 * slotCount) (upFrom 0 slotCount) (l .i) (9 * slotCount + l .i) 0 (omega arith) (omega arith) (omega (arith, length-up 0 slotCount)) (l .inv .2))
-
-returns : tie.Need-returns Inv-loop μ-loop
-returns c =
-    let e : c .before .loop .i ≡ slotCount = omega arith in
-    rw e at (c .before .loop .inv .2)
+    rw v at (paste-more (l .o) (a .o .now) (9 * slotCount) (upFrom 0 slotCount) (l .i) _ slotCount 0 refl (omega arith) (omega (arith, length-up 0 slotCount)) (omega arith) (l .inv .1) (l .inv .2))
 
 pub free-all-spec : {M : Type 1} → statement M
 free-all-spec =
     tie.close
-    (tie.spec Inv-loop μ-loop (λ c. (omega arith, c .pre, paste-zero (c .args .o .now) (9 * slotCount) (upFrom 0 slotCount))) (λ c. search needs)
-    (λ c. search needs) (λ c. search needs) (λ c. search needs) (λ c. search needs) (λ c. search needs) loop-again (λ c. search needs) returns)
+    (tie.spec Inv-loop μ-loop
+    (λ c. (omega arith, refl, paste-zero (c .args .o .now) (9 * slotCount) (upFrom 0 slotCount)))
+    (λ c. search needs) (λ c. search needs) (λ c. search needs) (λ c. search needs) (λ c. search needs)
+    (λ c. search needs) loop-again (λ c. search needs)
+    (λ c. let e : c .before .loop .i ≡ slotCount = omega arith in rw e at (c .before .loop .inv .2)))

@@ -1,11 +1,5 @@
 -- The records of the first i queues stand at the start of out.
-use mathlib.Core.Path.{_≡_, refl}
-use mathlib.Core.List.{[], flatten}
-use Prim.Native.Nat.{_+_, _-_, _*_, _≤_}
-use native.Mathlib.Omega.{arith}
-use borrow.Author.Needs.{needs}
-use lib.ListN.{length, take, getD}
-use lib.Seq.{paste, paste-zero}
+use Rattle.numbers.proofs.Basics.{_≡_, flatten, _+_, _-_, _*_, _≤_, arith, length, take, getD, paste, needs}
 use Rattle.store_queues.specs.Queues.{each, queues, sum}
 use Rattle.store_queues.proofs.Laws.{count-fits, queue-fits, queues-turn, list-leaves}
 use Rattle.store_queues.proofs.list.Statement.{statement}
@@ -18,10 +12,6 @@ Inv-loop b o c out₀ at₀ i₀ out at i =
 
 abbrev μ-loop : tie.MeasureT-loop
 μ-loop b o c out₀ at₀ i₀ out at i = 9 - i
-
-loop-holds : tie.Need-loop-holds Inv-loop μ-loop
-unfolding flatten sum
-loop-holds c = (omega arith, refl, refl, refl, paste-zero (c .before .args .out .now) 0 [])
 
 -- what is written of the next queue fits
 room : (c : tie.In-loop Inv-loop μ-loop) → let a = c .before .before .before .args in let l = c .before .loop in l .at + getD (a .c .now) (l .i) 0 * 72 ≤ length (a .out .now)
@@ -36,12 +26,6 @@ list-queue-requires c κs =
     let i = c .before .before in
     let f = i .before .before .before in
     (omega arith, count-fits (f .args .o .now) (f .args .c .now) (f .pre .0) (i .before .loop .i) (omega arith), f .pre .0 .long, omega (arith, room i, i .before .loop .inv .2))
-
-mul-at : tie.Need-mul-at Inv-loop μ-loop
-mul-at c = omega (arith, room (c .before .before .before .before .before))
-
-add-at : tie.Need-add-at Inv-loop μ-loop
-add-at c = omega (arith, room (c .before .before .before .before .before))
 
 loop-again : tie.Need-loop-again Inv-loop μ-loop
 loop-again c =
@@ -65,5 +49,7 @@ returns c =
 pub list-spec : {M : Type 1} → statement M
 list-spec =
     tie.close
-    (tie.spec Inv-loop μ-loop loop-holds (λ c. search needs) (λ c. search needs) list-queue-requires mul-at add-at (λ c. search needs) (λ c. search needs) loop-again
-    (λ c. search needs) returns)
+    (tie.spec Inv-loop μ-loop (λ c. unfold flatten sum in search needs) (λ c. search needs) (λ c. search needs)
+    list-queue-requires (λ c. omega (arith, room (c .before .before .before .before .before)))
+    (λ c. omega (arith, room (c .before .before .before .before .before))) (λ c. search needs) (λ c. search needs)
+    loop-again (λ c. search needs) returns)

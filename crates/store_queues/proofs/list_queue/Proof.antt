@@ -1,15 +1,8 @@
 -- The first k records stand from index at on.
-use mathlib.Core.Path.{_≡_, refl, sym, ap, _∙_}
-use mathlib.Core.List.{[], flatten}
-use Prim.Native.Nat.{_+_, _-_, _*_, _≤_}
-use native.Mathlib.Omega.{arith}
-use borrow.Author.Needs.{needs}
-use lib.ListN.{length, take, getD, length-map}
-use lib.Seq.{paste, paste-zero, take-all}
-use Rattle.store_queues.specs.Slots.{slotCount, slot}
+use Rattle.numbers.proofs.Basics.{_≡_, refl, sym, _∙_, [], flatten, _-_, _*_, _≤_, arith, length, take, getD, paste}
+use Rattle.numbers.proofs.Basics.{paste-zero, take-all, needs}
 use Rattle.store_queues.specs.Queues.{row, listed}
-use Rattle.store_queues.proofs.Rows.{length-row, row-at, getD-map}
-use Rattle.store_queues.proofs.Laws.{list-turn}
+use Rattle.store_queues.proofs.Laws.{length-named, named-at, list-turn}
 use Rattle.store_queues.proofs.list_queue.Statement.{statement}
 use Rattle.store_queues.proofs.list_queue.Tie as tie
 
@@ -31,12 +24,10 @@ loop-again c =
     let l = r .before .before .before .before .loop in
     let f = r .before .before .before .before .before .before in
     let a = f .args in
-    let w = length-row (a .o .now) (a .q .0) (omega arith) (a .n) (f .pre .1) in
     let L = listed (a .b .now) (row (a .o .now) (a .q .0) (a .n)) in
-    let lL : length L ≡ a .n = length-map (row (a .o .now) (a .q .0) (a .n)) (slot 72 (a .b .now)) ∙ w in
+    let n = length-named (a .b .now) (a .o .now) (a .q .0) (omega arith) (a .n) (f .pre .1) in
     let at : r .read-slot .result ≡ getD L (l .k) [] =
-    rw (r .before .slot-of .ensures) at (r .read-slot .ensures)
-    ∙ sym (getD-map (slot 72 (a .b .now)) (row (a .o .now) (a .q .0) (a .n)) (l .k) 0 [] (omega arith) ∙ ap (slot 72 (a .b .now)) (row-at (a .o .now) (a .q .0) (omega arith) (a .n) (l .k) (omega arith))) in
+    rw (r .before .slot-of .ensures) at (r .read-slot .ensures) ∙ sym (named-at (a .b .now) (a .o .now) (a .q .0) (omega arith) (a .n) (f .pre .1) (l .k) (omega arith)) in
     let lr : length (r .read-slot .result) ≡ 72 = search needs in
     let t = list-turn L (a .out .now) (l .out) (a .at) (l .k) (omega arith) (rw at at lr) (l .inv .2) (omega arith) (l .inv .3) in
     (omega arith, search needs, t .0, rw (at, t .1) at (c .before .before .save .ensures))
@@ -46,10 +37,9 @@ returns c =
     let l = c .before .loop in
     let f = c .before .before .before in
     let a = f .args in
-    let L = listed (a .b .now) (row (a .o .now) (a .q .0) (a .n)) in
-    let lL : length L ≡ a .n = length-map (row (a .o .now) (a .q .0) (a .n)) (slot 72 (a .b .now)) ∙ length-row (a .o .now) (a .q .0) (omega arith) (a .n) (f .pre .1) in
+    let n = length-named (a .b .now) (a .o .now) (a .q .0) (omega arith) (a .n) (f .pre .1) in
     let e : l .k ≡ a .n = omega arith in
-    let z : take (a .n) L ≡ L = take-all (a .n) L (omega arith) in
+    let z = take-all (a .n) (listed (a .b .now) (row (a .o .now) (a .q .0) (a .n))) (omega arith) in
     (rw (e, z) at (l .inv .3), rw (e, z) at (l .inv .2))
 
 pub list-queue-spec : {M : Type 1} → statement M

@@ -1,10 +1,5 @@
 -- The entries from lo up to i are those from lo + 1.
-use mathlib.Core.Path.{_≡_, refl}
-use Prim.Native.Nat.{_+_, _-_, _≤_}
-use native.Mathlib.Omega.{arith}
-use borrow.Author.Needs.{needs}
-use lib.ListN.{length, drop, length-set}
-use lib.Seq.{paste}
+use Rattle.numbers.proofs.Basics.{_≡_, refl, _+_, _-_, _≤_, arith, length, drop, paste, needs}
 use Rattle.numbers.proofs.Laws.{paste-none}
 use Rattle.store_queues.proofs.Slots.{down-turn}
 use Rattle.store_queues.proofs.move_down.Statement.{statement}
@@ -25,8 +20,7 @@ loop-again : tie.Need-loop-again Inv-loop μ-loop
 loop-again c =
     let a = c .before .before .before .args in
     let l = c .before .before .loop in
-    let t = down-turn (l .o) (a .o .now) (a .lo) (a .end) (l .i) 0 (omega arith) (omega arith) (omega arith) (l .inv .3) in
-    (omega arith, omega arith, simp length-set (l .inv .2), t)
+    down-turn (l .o) (a .o .now) (a .lo) (a .end) (l .i) 0 (omega arith) (omega arith) (omega arith) (l .inv .2) (l .inv .3)
 
 returns : tie.Need-returns Inv-loop μ-loop
 returns c =

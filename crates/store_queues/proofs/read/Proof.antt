@@ -1,7 +1,5 @@
 -- The record in the slot that the queue's row names.
-use mathlib.Core.Path.{sym, _∙_}
-use native.Mathlib.Omega.{arith}
-use borrow.Author.Needs.{needs}
+use Rattle.numbers.proofs.Basics.{sym, _∙_, arith, needs}
 use Rattle.store_queues.proofs.Laws.{count-fits, queue-record}
 use Rattle.store_queues.proofs.read.Statement.{statement}
 use Rattle.store_queues.proofs.read.Tie as tie

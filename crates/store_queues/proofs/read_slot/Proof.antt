@@ -4,9 +4,8 @@ use Rattle.store_queues.specs.Slots.{slot}
 use Rattle.store_queues.proofs.read_slot.Statement.{statement}
 use Rattle.store_queues.proofs.read_slot.Tie as tie
 
-returns : tie.Need-returns
-unfolding slot
-returns c = rw (c .before .index .ensures .0) at (c .load .ensures)
-
 pub read-slot-spec : {M : Type 1} → statement M
-read-slot-spec = tie.close (tie.spec (λ c κs. search needs) (λ c. search needs) (λ c κs. search needs) returns)
+read-slot-spec =
+    tie.close
+    (tie.spec (λ c κs. search needs) (λ c. search needs) (λ c κs. search needs)
+    (λ c. unfold slot in rw (c .before .index .ensures .0) at (c .load .ensures)))

@@ -1,8 +1,5 @@
 -- The row closes up, the slot is the last of the free ones, and the counts follow.
-use Prim.Native.Nat.{ℕ, _-_, _/_, _^_, _≤_}
-use native.Mathlib.Omega.{arith}
-use borrow.Author.Needs.{needs}
-use lib.ListN.{getD}
+use Rattle.numbers.proofs.Basics.{ℕ, _-_, _/_, _^_, _≤_, arith, getD, needs}
 use Rattle.store_queues.specs.Slots.{slotCount}
 use Rattle.store_queues.specs.Queues.{waiting}
 use Rattle.store_queues.proofs.Counts.{count-small, mask-stays, mask-set, some-zero, some-one, bit-there}
@@ -21,31 +18,10 @@ few f = (count-small (f .args .c .now) (f .pre .2 .counted) (f .args .q .0) (f .
 there : (f : tie.Start) → 128 / 2 ^ (f .args .q .0) ≤ waiting (f .args .c .now)
 there f = bit-there (f .args .c .now) (f .pre .2 .counted) (f .args .q .0) (f .pre .0) (λ z. omega (arith, z, f .pre .1))
 
-add-s : tie.Need-add-s
-add-s c = omega (arith, few c)
-
-element-copy-out-s : tie.Need-element-copy-out-s
-element-copy-out-s c = omega (arith, few c)
-
-add-move-down : tie.Need-add-move-down
-add-move-down c = omega (arith, few (c .before .before .before .before .before))
-
-add-move-down-2 : tie.Need-add-move-down-2
-add-move-down-2 c = omega (arith, few (c .before .before .before .before .before))
-
 move-down-requires : tie.Need-move-down-requires
 move-down-requires c κs =
     let f = c .before .before .before .before .before in
     (omega arith, omega (arith, few f, f .pre .2 .long))
-
-element-write-o : tie.Need-element-write-o
-element-write-o c = omega (arith, few (start c))
-
-sub-c : tie.Need-sub-c
-sub-c c = omega (arith, few (start c))
-
-sub-c-2 : tie.Need-sub-c-2
-sub-c-2 c = omega (arith, there (start (c .before)))
 
 returns : tie.Need-returns
 returns c =
@@ -70,6 +46,10 @@ returns-2 c =
 pub remove-spec : {M : Type 1} → statement M
 remove-spec =
     tie.close
-    (tie.spec (λ c. search needs) add-s element-copy-out-s (λ c. search needs) (λ c. search needs) (λ c. search needs) (λ c. search needs) (λ c. search needs)
-    add-move-down add-move-down-2 move-down-requires (λ c. search needs) element-write-o (λ c. search needs) (λ c. search needs) sub-c (λ c. search needs)
-    (λ c. search needs) sub-c-2 (λ c. search needs) returns returns-2)
+    (tie.spec (λ c. search needs) (λ c. omega (arith, few c)) (λ c. omega (arith, few c)) (λ c. search needs)
+    (λ c. search needs) (λ c. search needs) (λ c. search needs) (λ c. search needs)
+    (λ c. omega (arith, few (c .before .before .before .before .before)))
+    (λ c. omega (arith, few (c .before .before .before .before .before))) move-down-requires (λ c. search needs)
+    (λ c. omega (arith, few (start c))) (λ c. search needs) (λ c. search needs) (λ c. omega (arith, few (start c)))
+    (λ c. search needs) (λ c. search needs) (λ c. omega (arith, there (start (c .before)))) (λ c. search needs)
+    returns returns-2)

@@ -1,8 +1,5 @@
 -- The record lies in its slot, and the bytes of the others are as they were.
-use mathlib.Core.Path.{_≡_}
-use Prim.Native.Nat.{_*_, _≤_}
-use borrow.Author.Needs.{needs}
-use lib.ListN.{length}
+use Rattle.numbers.proofs.Basics.{_≡_, _*_, _≤_, length, needs}
 use Rattle.store_queues.proofs.Slots.{slot-same, slot-other}
 use Rattle.store_queues.proofs.write_slot.Statement.{statement}
 use Rattle.store_queues.proofs.write_slot.Tie as tie

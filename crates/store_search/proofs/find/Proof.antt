@@ -1,13 +1,6 @@
 -- Nothing is found so far, and the search of what is left is the search of the whole.
-use mathlib.Core.Path.{_≡_, refl, sym, ap, _∙_}
-use mathlib.Core.Bool.{Bool, true, false}
-use mathlib.Core.List.{[]}
-use mathlib.Core.Logic.{⊎-elim}
-use Prim.Native.Nat.{ℕ, _+_, _-_, _≤_, _<_}
-use native.Mathlib.Omega.{arith}
-use lib.ListN.{length, take, drop, getD}
-use borrow.Author.Needs.{needs}
-use borrow.Author.Tests.{ltb-true, ltb-false}
+use Rattle.numbers.proofs.Basics.{_≡_, refl, sym, ap, _∙_, Bool, true, false, ⊎-elim, [], _+_, _-_, _≤_, _<_, arith}
+use Rattle.numbers.proofs.Basics.{length, take, drop, getD, ltb-true, ltb-false, needs}
 use Rattle.rules.specs.Bytes.{choose}
 use Rattle.store_queues.specs.Slots.{slotCount}
 use Rattle.store_queues.specs.Queues.{queues}
@@ -19,23 +12,23 @@ use Rattle.store_search.proofs.find.Statement.{statement}
 use Rattle.store_search.proofs.find.Tie as tie
 
 abbrev Inv-loop : tie.InvT-loop
-Inv-loop b o c mask any word found₀ isc q n allowed k₀ found k =
+Inv-loop b o c subclasses any word found₀ isc q n allowed k₀ found k =
     let f = wanted any (word .0) in
     let qs = queues o c b in
     (k ≤ n) × (found ≡ None)
-    × (searchQueues f mask 0 (take 8 qs) ≡ choose allowed (searchQueue f isc k (drop k (getD qs isc [])) (later qs f mask isc)) (later qs f mask isc))
+    × (searchQueues f subclasses 0 (take 8 qs) ≡ choose allowed (searchQueue f isc k (drop k (getD qs isc [])) (later qs f subclasses isc)) (later qs f subclasses isc))
 
 abbrev μ-loop : tie.MeasureT-loop
-μ-loop b o c mask any word found₀ isc q n allowed k₀ found k = n - k
+μ-loop b o c subclasses any word found₀ isc q n allowed k₀ found k = n - k
 
 abbrev Inv-search : tie.InvT-search
-Inv-search b o c mask any word found₀ isc₀ found isc =
+Inv-search b o c subclasses any word found₀ isc₀ found isc =
     let f = wanted any (word .0) in
     let qs = take 8 (queues o c b) in
-    (isc ≤ 8) × (found ≡ None) × (searchQueues f mask 0 qs ≡ searchQueues f mask isc (drop isc qs))
+    (isc ≤ 8) × (found ≡ None) × (searchQueues f subclasses 0 qs ≡ searchQueues f subclasses isc (drop isc qs))
 
 abbrev μ-search : tie.MeasureT-search
-μ-search b o c mask any word found₀ isc₀ found isc = 8 - isc
+μ-search b o c subclasses any word found₀ isc₀ found isc = 8 - isc
 
 -- the queue's records are as many as counted, and no more than a row has
 size : (c : tie.After-count Inv-loop μ-loop Inv-search μ-search)
@@ -65,19 +58,13 @@ turn : (c : tie.Then1 Inv-loop μ-loop Inv-search μ-search)
     let qs = queues (a .o .now) (a .c .now) (a .b .now) in
     let q = getD qs (s .search .isc) [] in
     (x : Bool) → f (getD q (l .loop .k) []) ≡ x
-    → searchQueues f (a .mask) 0 (take 8 qs)
-    ≡ choose x (At (record { 0 = s .search .isc }) (l .loop .k)) (searchQueue f (s .search .isc) (l .loop .k + 1) (drop (l .loop .k + 1) q) (later qs f (a .mask) (s .search .isc)))
+    → searchQueues f (a .subclasses) 0 (take 8 qs)
+    ≡ choose x (At (record { 0 = s .search .isc }) (l .loop .k)) (searchQueue f (s .search .isc) (l .loop .k + 1) (drop (l .loop .k + 1) q) (later qs f (a .subclasses) (s .search .isc)))
 turn c x e =
     let l = c .before .before in
     let z = size (l .before .before) in
     let a = l .before .before .before .before .before .before .args in
     search-record (queues (a .o .now) (a .c .now) (a .b .now)) _ _ _ (l .loop .k) _ _ x (l .loop .inv .2) (c .before .loop-test .taken) (omega (arith, ltb-true, z .0)) e
-
-search-holds : tie.Need-search-holds Inv-loop μ-loop Inv-search μ-search
-search-holds c = (omega arith, refl, refl)
-
-count-requires : tie.Need-count-requires Inv-loop μ-loop Inv-search μ-search
-count-requires c κs = rw (c .of .ensures) (omega arith)
 
 loop-holds : tie.Need-loop-holds Inv-loop μ-loop Inv-search μ-search
 loop-holds c =
@@ -152,8 +139,7 @@ unfolding choose
 returns-2 c =
     let l = c .before .before .before in
     let n = l .before .before in
-    let s = n .before .before .before in
-    let a = s .before .args in
+    let a = n .before .before .before .before .args in
     let qs = queues (a .o .now) (a .c .now) (a .b .now) in
     let z = size n in
     let e = sym (⊎-elim (λ w. turn (c .before) true (rw (w .taken))) (λ w. turn (c .before) true (rw (w .0 .left) (looked (record { before = record { before = record { before = c .before; if2 = w .0 }; slot-of = w .1 }; is-for = w .2 }) ∙ w .3 .taken))) (c .if2 .came)) in
@@ -162,5 +148,7 @@ returns-2 c =
 pub find-spec : {M : Type 1} → statement M
 find-spec =
     tie.close
-    (tie.spec Inv-loop μ-loop Inv-search μ-search search-holds (λ c κs. search needs) count-requires (λ c κs. search needs) loop-holds slot-of-requires
-    (λ c κs. search needs) add-k (λ c. omega (arith, ltb-true)) loop-again (λ c. search needs) (λ c. search needs) search-again returns returns-2)
+    (tie.spec Inv-loop μ-loop Inv-search μ-search (λ c. (omega arith, refl, refl)) (λ c κs. search needs)
+    (λ c κs. rw (c .of .ensures) (omega arith)) (λ c κs. search needs) loop-holds slot-of-requires
+    (λ c κs. search needs) add-k (λ c. omega (arith, ltb-true)) loop-again (λ c. search needs) (λ c. search needs)
+    search-again returns returns-2)

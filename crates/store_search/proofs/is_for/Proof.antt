@@ -1,7 +1,5 @@
 -- One word of the slot is the subchannel's id and number.
-use mathlib.Core.Path.{ap, _∙_}
-use Prim.Native.Nat.{ℕ, _+_, _*_}
-use borrow.Author.Needs.{needs}
+use Rattle.numbers.proofs.Basics.{ap, ℕ, _+_, _*_, needs}
 use Rattle.store_search.proofs.Laws.{is-for-at}
 use Rattle.store_search.proofs.is_for.Statement.{statement}
 use Rattle.store_search.proofs.is_for.Tie as tie

@@ -1,13 +1,9 @@
 -- The first machine check is saved; a second one is merged.
-use mathlib.Core.Path.{_≡_}
-use Prim.Native.Nat.{_<_}
-use native.Mathlib.Omega.{arith}
-use borrow.Author.Needs.{needs}
-use lib.ListN.{length}
+use Rattle.numbers.proofs.Basics.{_≡_, arith, length, needs}
 use Rattle.rules.specs.Bytes.{byte, part}
 use Rattle.numbers.proofs.Laws.{part-before}
 use Rattle.store_singles.specs.Singles.{serviceOf, mchkOf}
-use Rattle.store_singles.proofs.Laws.{absent, saved, kept, second-mchk, second-service}
+use Rattle.store_singles.proofs.Laws.{absent, stored, second-mchk, second-service}
 use Rattle.store_singles.proofs.add_mchk.Statement.{statement}
 use Rattle.store_singles.proofs.add_mchk.Tie as tie
 
@@ -16,12 +12,8 @@ unfolding serviceOf mchkOf
 returns c =
     let a = c .before .before .before .before .args in
     let g = a .g .now in
-    let k : 145 < length g = omega arith in
-    let w : length (a .r) ≡ 72 = omega arith in
-    rw (c .save .ensures, absent (byte 145 g) (part 72 72 g) (c .before .before .if1 .taken)) (
-      saved g 72 (a .r) 145 (omega arith) k w,
-      kept g 72 (a .r) 145 (omega arith) k w 0 144 (omega arith) (omega arith) (omega arith) (part-before g 72 (a .r) 72 0 72 (omega arith) (omega arith)),
-    )
+    rw (c .save .ensures, absent (byte 145 g) (part 72 72 g) (c .before .before .if1 .taken))
+    (stored g 72 (a .r) 145 (omega arith) (omega arith) (omega arith) 0 144 (omega arith) (omega arith) (omega arith) (part-before g 72 (a .r) 72 0 72 (omega arith) (omega arith)))
 
 returns-2 : tie.Need-returns-2
 returns-2 c =

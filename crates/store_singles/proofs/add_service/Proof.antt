@@ -1,13 +1,9 @@
 -- The first service record is saved; a second one changes nothing.
-use mathlib.Core.Path.{_≡_, refl}
-use Prim.Native.Nat.{_<_}
-use native.Mathlib.Omega.{arith}
-use borrow.Author.Needs.{needs}
-use lib.ListN.{length}
+use Rattle.numbers.proofs.Basics.{refl, arith, needs}
 use Rattle.rules.specs.Bytes.{byte, part}
 use Rattle.numbers.proofs.Laws.{drop-past}
 use Rattle.store_singles.specs.Singles.{serviceOf, mchkOf}
-use Rattle.store_singles.proofs.Laws.{absent, there, saved, kept}
+use Rattle.store_singles.proofs.Laws.{absent, there, stored}
 use Rattle.store_singles.proofs.add_service.Statement.{statement}
 use Rattle.store_singles.proofs.add_service.Tie as tie
 
@@ -16,12 +12,8 @@ unfolding serviceOf mchkOf
 returns c =
     let a = c .before .before .before .before .args in
     let g = a .g .now in
-    let k : 144 < length g = omega arith in
-    let w : length (a .r) ≡ 72 = omega arith in
-    rw (c .save .ensures, absent (byte 144 g) (part 0 72 g) (c .before .before .if1 .taken)) (
-      saved g 0 (a .r) 144 (omega arith) k w,
-      kept g 0 (a .r) 144 (omega arith) k w 72 145 (omega arith) (omega arith) (omega arith) (rw (drop-past g 0 (a .r) 72 72 (omega arith) (omega arith) (omega arith))),
-    )
+    rw (c .save .ensures, absent (byte 144 g) (part 0 72 g) (c .before .before .if1 .taken))
+    (stored g 0 (a .r) 144 (omega arith) (omega arith) (omega arith) 72 145 (omega arith) (omega arith) (omega arith) (rw (drop-past g 0 (a .r) 72 72 (omega arith) (omega arith) (omega arith))))
 
 returns-2 : tie.Need-returns-2
 unfolding serviceOf mchkOf

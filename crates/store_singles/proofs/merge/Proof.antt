@@ -1,10 +1,5 @@
 -- The first i of the 16 bytes are merged.
-use mathlib.Core.Path.{_≡_, refl}
-use Prim.Native.Nat.{_-_, _≤_}
-use native.Mathlib.Omega.{arith}
-use borrow.Author.Needs.{needs}
-use lib.ListN.{length, length-set}
-use lib.Seq.{paste, paste-zero}
+use Rattle.numbers.proofs.Basics.{_≡_, refl, _-_, _≤_, arith, length, length-set, paste, paste-zero, needs}
 use Rattle.store_singles.proofs.Laws.{ors, merge-turn, merge-all}
 use Rattle.store_singles.proofs.merge.Statement.{statement}
 use Rattle.store_singles.proofs.merge.Tie as tie
@@ -15,17 +10,11 @@ Inv-loop g₀ r i₀ g i = (i ≤ 16) × (length g ≡ length g₀) × (g ≡ pa
 abbrev μ-loop : tie.MeasureT-loop
 μ-loop g₀ r i₀ g i = 16 - i
 
-loop-holds : tie.Need-loop-holds Inv-loop μ-loop
-loop-holds c = (omega arith, refl, paste-zero (c .args .g .now) 80 (ors (c .args .g .now) (c .args .t2)))
-
 loop-again : tie.Need-loop-again Inv-loop μ-loop
 loop-again c =
     let a = c .before .before .before .args in
-    let l = c .before .before .loop in (
-      omega arith,
-      simp length-set (l .inv .1),
-      merge-turn (a .g .now) (a .t2) (omega arith) (l .g) (l .i) (omega arith) (l .inv .1) (l .inv .2),
-    )
+    let l = c .before .before .loop in
+    (omega arith, simp length-set (l .inv .1), merge-turn (a .g .now) (a .t2) (omega arith) (l .g) (l .i) (omega arith) (l .inv .1) (l .inv .2))
 
 returns : tie.Need-returns Inv-loop μ-loop
 returns c =
@@ -36,5 +25,7 @@ returns c =
 pub merge-spec : {M : Type 1} → statement M
 merge-spec =
     tie.close
-    (tie.spec Inv-loop μ-loop loop-holds (λ c. search needs) (λ c. search needs) (λ c. search needs) (λ c. search needs) (λ c. search needs)
+    (tie.spec Inv-loop μ-loop
+    (λ c. (omega arith, refl, paste-zero (c .args .g .now) 80 (ors (c .args .g .now) (c .args .t2))))
+    (λ c. search needs) (λ c. search needs) (λ c. search needs) (λ c. search needs) (λ c. search needs)
     (λ c. search needs) (λ c. search needs) (λ c. search needs) loop-again returns)

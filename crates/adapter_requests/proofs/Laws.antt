@@ -1,13 +1,8 @@
 -- What a request about a place or about the device record promises, from the outcome that it comes to; and what some requests come to once checks have passed.
-use Prim.Native.Nat.{ℕ, zero, suc, _≤_, _<_}
-use mathlib.Core.Path.{_≡_, refl, ap, sym, _∙_}
-use mathlib.Core.Bool.{Bool, true, false, true≢false}
-use mathlib.Core.List.{List, [], _∷_}
-use native.Mathlib.Omega.{arith}
-use lib.ListN.{length, getD, set, drop}
+use Rattle.numbers.proofs.Basics.{ℕ, zero, suc, _≤_, _<_, _≡_, refl, ap, sym, _∙_, Bool, true, false, true≢false}
+use Rattle.numbers.proofs.Basics.{List, [], _∷_, arith, length, getD, set, drop, leb, eqb, eq-eqb, ne-eqb, eqb-true}
+use Rattle.numbers.proofs.Basics.{le-leb, lt-leb}
 use lib.Seq.{set-getD}
-use lib.Dec.{leb, eqb}
-use borrow.Author.Tests.{eq-eqb, ne-eqb, eqb-true, le-leb, lt-leb}
 use Rattle.rules.specs.Bytes.{choose, field}
 use Rattle.rules.specs.Requests.{setRequest, noRequest, setsApf, request}
 use Rattle.rules.proofs.Checks.{passes, fails, chosen}

@@ -236,10 +236,10 @@ pub fn set_masks(ais: bool, device: Device, attr: u64, payload: &[u8]) -> ModesR
             device,
         };
     }
-    let next = adapters::masks_set(device, payload[0], payload[1]);
+    let masked = adapters::masks_set(device, payload[0], payload[1]);
     ModesReply {
         code: 0,
-        device: next,
+        device: masked,
     }
 }
 
@@ -277,10 +277,8 @@ pub fn set_modes(ais: bool, device: Device, group: u32, attr: u64, payload: &[u8
     if group == AISM_ALL {
         return set_masks(ais, device, attr, payload);
     }
-    ModesReply {
-        code: EINVAL,
-        device,
-    }
+    let code = EINVAL; // no set request has this group
+    ModesReply { code, device }
 }
 
 // Group 11, get: both masks.

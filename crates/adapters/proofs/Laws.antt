@@ -1,9 +1,6 @@
 -- Laws on the bits of a mask and on places.
-use Prim.Native.Nat.{ℕ, zero, suc, _+_, _≤_, _<_}
-use mathlib.Core.Path.{_≡_, refl}
-use mathlib.Core.Bool.{Bool, true, false}
-use native.Mathlib.Omega.{arith}
-use borrow.Author.Tests.{eqb-true, eqb-false}
+use Rattle.numbers.proofs.Basics.{ℕ, zero, suc, _+_, _≤_, _<_, _≡_, refl, Bool, true, false, arith, eqb-true}
+use Rattle.numbers.proofs.Basics.{eqb-false}
 use Rattle.rules.specs.Bytes.{choose}
 use Rattle.rules.specs.State.{free, holds, bit, hasBit}
 use Rattle.adapters.specs.declared.Place.{Place}

@@ -1,6 +1,5 @@
 -- What is known of a controller's limits.
-use Prim.Native.Nat.{ℕ}
-use mathlib.Core.Path.{_≡_, refl, sym, _∙_, subst}
+use Rattle.numbers.proofs.Basics.{ℕ, _≡_, refl, sym, _∙_, subst}
 use Rattle.rules.specs.State.{paperLimits}
 use Rattle.list_image.specs.Image.{imageSize}
 use Rattle.list_play.proofs.Sized.{Sized, paper-sized}

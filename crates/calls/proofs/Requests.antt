@@ -1,11 +1,6 @@
 -- The cases of an injection, and which get request a group number is.
-use Prim.Native.Nat.{ℕ, zero, suc, _≤_, _<_}
-use mathlib.Core.Path.{_≡_, refl, ap, sym, _∙_, subst}
-use mathlib.Core.Bool.{Bool, true, false, _&&_, _||_}
-use mathlib.Core.List.{List, []}
-use lib.ListN.{getD}
-use lib.Dec.{ltb, leb, eqb}
-use borrow.Author.Tests.{lt-ltb, le-ltb}
+use Rattle.numbers.proofs.Basics.{ℕ, zero, suc, _≤_, _<_, _≡_, refl, ap, sym, _∙_, subst, Bool, true, false, _&&_}
+use Rattle.numbers.proofs.Basics.{_||_, List, [], getD, ltb, leb, eqb, lt-ltb, le-ltb}
 use Rattle.rules.specs.Bytes.{choose}
 use Rattle.rules.specs.State as rules
 use Rattle.rules.specs.State.{Limits, Pending, State, withPending, withDevice, addIo, queued}

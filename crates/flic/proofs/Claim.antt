@@ -1,9 +1,5 @@
 -- Demand 3 holds: its statement is specs/Claim.
-use Prim.Native.Nat.{ℕ, _≤_}
-use mathlib.Core.Path.{_≡_, refl, ap, sym, _∙_, subst}
-use mathlib.Core.Bool.{Bool}
-use mathlib.Core.List.{List, [], _∷_, _++_}
-use lib.ListN.{length, take}
+use Rattle.numbers.proofs.Basics.{ℕ, _≤_, _≡_, refl, ap, sym, _∙_, subst, Bool, List, [], _∷_, _++_, length, take}
 use Rattle.rules.specs.State.{Limits, State, fresh}
 use Rattle.rules.specs.Outcome.{Answer as Told, Seen, seen, answering}
 use Rattle.rules.specs.MoveList.{countIn, mostRequests}

@@ -1,9 +1,5 @@
 -- A list of calls on a host: what its callers saw is what the plain machine answers, and the host stands for the machine's state.
-use Prim.Native.Nat.{ℕ}
-use mathlib.Core.Path.{_≡_, refl, ap, sym, _∙_, subst}
-use mathlib.Core.Bool.{Bool}
-use mathlib.Core.List.{List, _∷_}
-use lib.ListN.{length, length-map}
+use Rattle.numbers.proofs.Basics.{ℕ, _≡_, refl, ap, sym, _∙_, subst, Bool, List, _∷_, length, length-map}
 use Rattle.rules.specs.State.{Limits, State}
 use Rattle.rules.specs.Outcome.{result, tell, Seen, seen, answering}
 use Rattle.rules.specs.Machine.{Ask, setAttr, getAttr, guestTake, writeList, playList, Call, outcome, step, answers, after, answerOf}

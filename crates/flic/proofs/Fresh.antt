@@ -3,10 +3,7 @@
 --     finishes    the callee's result goes to the device record and the table, and all is closed
 use Rattle.flic.proofs.Walk.{_≡_, refl, ℕ, Bool, false, first, skips, branches, exec, returns-within, lit, bin, anyQ, afterSeq, Wp, atReturn, w32, [], _∷_, List, length, URA, named, erased, w8, w64, tyInt, tyBool, tyUnit, tyRef, mut, Val, vunit, vint, vbool, vptr, SProp, ent, Memory, Routine, Heap, Env, Calls, Loops, Atoms, Fun, Given, Item, Sq, runs, atRet, ⋆, _$_, !, by, move, look, store, init, stop, hop, fld, from, load, addr, of-opd, and-then, no-more, assigns, land, returns, agg, whole, sub, look-in, FmC, Is, pointee, sliceTy, Room, Triple, _+_, _++_, Ty, tyArray}
 use types.Kit as Kit
-use mathlib.Core.Bool.{not}
-use lib.Dec.{eqb}
-use native.Mathlib.Omega.{arith}
-use borrow.Author.Tests.{eqb-true, eqb-false}
+use Rattle.numbers.proofs.Basics.{not, eqb, arith, eqb-true, eqb-false}
 use Rattle.list_image.specs.Image.{imageSize}
 use mir.Syntax.{place as local, deref, field, copy, int, op2, ne, addrOf, aggregate, rvOpd, Body as Code, seq, assign, cond, call, skip, return}
 use denote.Struct.Laws as LL

@@ -1,12 +1,8 @@
 -- From what the inner functions promise to what the public calls promise.
-use Prim.Native.Nat.{ℕ, _≤_}
-use mathlib.Core.Path.{_≡_, refl, ap, sym, _∙_, subst}
-use mathlib.Core.Bool.{Bool, true, false}
-use mathlib.Core.List.{List, map}
-use native.Mathlib.Omega.{arith}
-use lib.ListN.{length, getD, take, replicate, length-take, length-replicate, length-map, List·getD-map}
-use lib.Dec.{eqb}
-use borrow.Author.Tests.{eq-eqb, ne-eqb, eqb-true, eqb-false}
+use Rattle.numbers.proofs.Basics.{ℕ, _≤_, _≡_, refl, ap, sym, _∙_, subst, Bool, true, false, List, map, arith, length}
+use Rattle.numbers.proofs.Basics.{getD, take, replicate, length-take, length-map, List·getD-map, eqb, eq-eqb, ne-eqb}
+use Rattle.numbers.proofs.Basics.{eqb-true, eqb-false}
+use lib.ListN.{length-replicate}
 use Rattle.rules.specs.Bytes.{choose}
 use Rattle.rules.specs.State.{Limits, State, free, fresh, paperLimits, withPending}
 use Rattle.rules.specs.Outcome.{Outcome, refuseWith, refuse, need_else_⨾_, result, tell, Seen}

@@ -1,13 +1,9 @@
 -- Every sound state of the plain machine is the state of some host.
-use Prim.Native.Nat.{ℕ, zero, suc, _+_, _*_, _-_, _≤_}
-use mathlib.Core.Path.{_≡_, refl, ap, ap₂, sym, _∙_, subst}
-use mathlib.Core.Bool.{Bool, true, true≢false}
-use mathlib.Core.Option.{Option, none, some}
-use mathlib.Core.List.{List, [], _∷_, _++_, flatten, map, append-assoc, append-nil}
-use native.Mathlib.Omega.{arith}
-use native.Mathlib.Nat.{zero-add, suc-add}
-use lib.ListN.{length, getD, take, drop, replicate, length-append, length-replicate, length-map}
-use lib.Seq.{take-at, drop-at}
+use Rattle.numbers.proofs.Basics.{ℕ, zero, suc, _+_, _*_, _-_, _≤_, _≡_, refl, ap, ap₂, sym, _∙_, subst, Bool, true}
+use Rattle.numbers.proofs.Basics.{true≢false, Option, none, some, List, [], _∷_, _++_, flatten, map, append-assoc}
+use Rattle.numbers.proofs.Basics.{append-nil, arith, zero-add, suc-add, length, getD, take, drop, replicate}
+use Rattle.numbers.proofs.Basics.{length-append, length-map, take-at, drop-at}
+use lib.ListN.{length-replicate}
 use Rattle.rules.specs.Bytes.{choose}
 use Rattle.rules.specs.State as rules
 use Rattle.rules.specs.State.{Limits, State, Pending, Record, free, holds, queued, listing}

@@ -1,13 +1,9 @@
 -- The claim is not empty: every list of calls has a chain, from every host that satisfies the facts, so from the one that the code makes. And every
 -- call of such a chain meets its function's premise.
-use Prim.Native.Nat.{ℕ, _≤_}
-use mathlib.Core.Path.{_≡_, refl, ap, sym, _∙_, subst}
-use mathlib.Core.Bool.{Bool, true, false, true≢false}
-use mathlib.Core.Option.{Option, none, some}
-use mathlib.Core.List.{List, [], _∷_, _++_, map}
-use lib.ListN.{length, drop, replicate, length-replicate}
+use Rattle.numbers.proofs.Basics.{ℕ, _≤_, _≡_, refl, ap, sym, _∙_, subst, Bool, true, false, true≢false, Option, none}
+use Rattle.numbers.proofs.Basics.{some, List, [], _∷_, _++_, map, length, drop, replicate, leb}
+use lib.ListN.{length-replicate}
 use lib.ListN.{take as first}
-use lib.Dec.{leb}
 use Rattle.rules.specs.State.{Limits, State, Pending, recordBytes, queued, paperLimits, fresh, withPending}
 use Rattle.rules.specs.Outcome.{Outcome, refuseWith, accept, resetWith, tellWith, tell, result, Seen, answering}
 use Rattle.rules.specs.Machine.{Ask, setAttr, getAttr, guestTake, writeList, playList, Call, outcome, step, answerOf}

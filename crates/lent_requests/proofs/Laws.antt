@@ -1,9 +1,6 @@
 -- From what a request promises of the place at the payload's id to what it promises of the table.
-use Prim.Native.Nat.{ℕ}
-use mathlib.Core.Path.{_≡_, refl, ap, sym, subst, _∙_}
-use mathlib.Core.List.{List, map}
-use native.Mathlib.Omega.{arith}
-use lib.ListN.{getD, set, length-set, List·getD-map}
+use Rattle.numbers.proofs.Basics.{ℕ, _≡_, refl, ap, sym, subst, _∙_, List, map, arith, getD, set, length-set}
+use Rattle.numbers.proofs.Basics.{List·getD-map}
 use lib.Seq.{set-getD}
 use Rattle.rules.specs.Bytes.{choose}
 use Rattle.rules.specs.State.{State, free}

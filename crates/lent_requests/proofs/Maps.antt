@@ -1,8 +1,5 @@
 -- Laws of maps of lists.
-use Prim.Native.Nat.{ℕ, zero, suc}
-use mathlib.Core.Path.{_≡_, refl, ap}
-use mathlib.Core.List.{List, [], _∷_, map}
-use lib.ListN.{set, replicate}
+use Rattle.numbers.proofs.Basics.{ℕ, zero, suc, _≡_, refl, ap, List, [], _∷_, map, set, replicate}
 
 pub map-set {ℓ} : {A B : Type ℓ} (f : A → B) (t : List A) (i : ℕ) (x : A) → map f (set t i x) ≡ set (map f t) i (f x)
 map-set f [] i x = refl

@@ -1,7 +1,6 @@
 -- A loop that counts i from 0 to n, as a walk needs it, and what follows the first part of a sequence. It says nothing of the crate.
 use Rattle.lent_table.proofs.Walk.{ℕ, _<_, _≤_, _^_}
-use Prim.Native.Nat.{zero, suc, _-_}
-use native.Mathlib.Omega.{arith}
+use Rattle.numbers.proofs.Basics.{zero, suc, _-_, arith}
 use mathlib.Core.WellFounded.{WellFounded, InvImage·wf}
 use lib.WfN.{Nat·lt-wfRel}
 use mir.Syntax.{Body as Code, skip, seq, assign, block, loop, cond, switch, exit, return, call}

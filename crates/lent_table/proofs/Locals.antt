@@ -5,10 +5,9 @@
 --     swaps            the two parts of a context change places
 use Rattle.lent_table.proofs.Walk.{_≡_, refl, sym, ap, subst, ℕ, _<_, _^_, tyUnit, vunit, only, Bool, true, false, [], _∷_, List, ltb, URA, fullShare, Val, sep, via, fat, froom, fdies, Heap, Env, Atoms, Goal, Step, step, Given, Item, frees, ‵, ⋆, _$_, by, forget, free1, free0, _++_, Ty, comm∗}
 use types.Kit.{++⊢, ⊢++}
+use Rattle.numbers.proofs.Basics.{arith, not}
 use lib.Dec.{T as Holds}
-use native.Mathlib.Omega.{arith}
 use mir.Val.{hasTy, WT}
-use mathlib.Core.Bool.{not}
 
 -- the outcome of a test
 pub holds-true : (b : Bool) → Holds b → b ≡ true

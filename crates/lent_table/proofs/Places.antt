@@ -1,8 +1,6 @@
 -- A place and an id as a walk needs them, and what holds of a table where the id has a place, or none.
 use Rattle.lent_table.proofs.Walk.{_≡_, refl, ap, ℕ, _<_, _≤_, _^_, _*_, [], _∷_, List, length, set, URA, fullShare, named, tyRef, Val, fat, froom, fdies, Heap, Atoms, Given, Item, ‵, RattleType, Is, pointee, sliceTy}
-use Prim.Native.Nat.{zero, suc}
-use native.Mathlib.Omega.{arith}
-use native.Mathlib.Nat.{not-suc-le-zero, le-of-suc-le-suc}
+use Rattle.numbers.proofs.Basics.{zero, suc, arith, not-suc-le-zero, le-of-suc-le-suc}
 use mir.Syntax.{Ty, Mutability}
 use mir.Val.{hasTy, WT}
 use lib.Dec.{T as Holds}

@@ -1,13 +1,10 @@
 -- Laws on a table's image and on a table restored from one.
-use Prim.Native.Nat.{ℕ, zero, suc, _+_, _<_, _≤_}
-use mathlib.Core.Path.{_≡_, refl, sym, _∙_, ap}
-use mathlib.Core.Bool.{Bool, true, false}
-use mathlib.Core.List.{List, map}
-use native.Mathlib.Omega.{arith}
-use borrow.Author.Tests.{eqb-true, eqb-false}
-use lib.Dec.{eqb}
-use lib.ListN.{length, getD, set, take, replicate, length-set, length-replicate, length-map, List·getD-map}
-use lib.Seq.{getD-set-same, getD-set-other, getD-take, length-take-le, take-all, ext-getD}
+use Rattle.numbers.proofs.Basics.{ℕ, zero, suc, _+_, _<_, _≤_, _≡_, refl, sym, _∙_, ap, Bool, true, false, List, map}
+use Rattle.numbers.proofs.Basics.{arith, eqb-true, eqb-false, eqb, length, getD, set, take, replicate, length-set}
+use Rattle.numbers.proofs.Basics.{length-map, List·getD-map, getD-set-same, getD-set-other, getD-take, length-take-le}
+use Rattle.numbers.proofs.Basics.{take-all}
+use lib.ListN.{length-replicate}
+use lib.Seq.{ext-getD}
 use Rattle.adapters.specs.declared.Place.{Place}
 use Rattle.adapters.specs.Values.{unused}
 use Rattle.list_image.specs.Image.{imageSize, packed, unpacked}

@@ -1,11 +1,6 @@
 -- The capability of a fresh controller is the list's flag; of a list without one it decides nothing. Assumes nothing.
-use mathlib.Core.Path.{_≡_, refl, sym, ap, _∙_}
-use mathlib.Core.Bool.{Bool, true, false}
-use mathlib.Core.List.{List}
-use Prim.Native.Nat.{ℕ, _≤_, _<_}
-use borrow.Author.Tests.{leb-true, leb-false, lt-leb, eqb-true}
-use lib.ListN.{length}
-use lib.Dec.{leb, eqb}
+use Rattle.numbers.proofs.Basics.{_≡_, refl, sym, ap, _∙_, Bool, true, false, List, ℕ, _≤_, _<_, leb-true, leb-false}
+use Rattle.numbers.proofs.Basics.{lt-leb, eqb-true, length, leb, eqb}
 use Rattle.rules.specs.Bytes.{choose}
 use Rattle.rules.specs.State.{Limits, State, Pending, paperLimits, nothing, fresh}
 use Rattle.rules.specs.Outcome as outcome

@@ -1,14 +1,7 @@
 -- Laws of playing: the requests of a table in turn.
-use Prim.Native.Nat.{ℕ, zero, suc, _+_, _-_, _≤_, _<_}
-use mathlib.Core.Path.{_≡_, refl, ap, sym, _∙_, subst}
-use mathlib.Core.Bool.{Bool, true, false, _||_, true≢false}
-use mathlib.Core.List.{List, [], _∷_}
-use native.Mathlib.Nat.{not-suc-le-zero, le-of-suc-le-suc}
-use native.Mathlib.Numerals.{add-one}
-use native.Mathlib.Omega.{arith}
-use lib.ListN.{take, drop, replicate}
-use lib.Dec.{eqb}
-use borrow.Author.Tests.{eq-eqb, ne-eqb, eqb-true}
+use Rattle.numbers.proofs.Basics.{ℕ, zero, suc, _+_, _-_, _≤_, _<_, _≡_, refl, ap, sym, _∙_, subst, Bool, true, false}
+use Rattle.numbers.proofs.Basics.{_||_, true≢false, List, [], _∷_, not-suc-le-zero, le-of-suc-le-suc, add-one, arith}
+use Rattle.numbers.proofs.Basics.{take, drop, replicate, eqb, eq-eqb, ne-eqb, eqb-true}
 use Rattle.rules.specs.Bytes.{choose, part}
 use Rattle.rules.specs.State as rules
 use Rattle.rules.specs.State.{Limits, Pending, State, nothing, fresh}

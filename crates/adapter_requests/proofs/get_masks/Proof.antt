@@ -1,15 +1,12 @@
 -- `adapter_requests::get_masks` meets its contract. Assumes nothing.
-use mathlib.Core.Path.{refl, ap, _∙_}
-use lib.ListN.{length}
-use borrow.Author.Tests.{eq-eqb, ne-eqb, le-leb, lt-leb, not-true, not-false}
-use mathlib.Core.List.{[], _∷_}
+use Rattle.numbers.proofs.Basics.{refl, ap, _∙_, length, eq-eqb, ne-eqb, le-leb, lt-leb, not-true, not-false, [], _∷_}
+use Rattle.numbers.proofs.Basics.{needs}
 use Rattle.rules.proofs.Checks.{passes, fails}
 use Rattle.rules.specs.Requests.{request}
 use Rattle.rules.specs.State as rules
 use Rattle.rules.specs.Outcome.{accept}
 use Rattle.answers.proofs.Laws.{refused, accepted, not-refused}
 use Rattle.adapter_requests.proofs.Laws.{two-written}
-use borrow.Author.Needs.{needs}
 use Rattle.adapter_requests.proofs.get_masks.Statement.{statement}
 use Rattle.adapter_requests.proofs.get_masks.Tie as tie
 

@@ -1,12 +1,6 @@
 -- `adapter_requests::modify` meets its contract.
-use mathlib.Core.Path.{_≡_, ap, sym, _∙_}
-use mathlib.Core.Bool.{true, not, _&&_, _||_}
-use mathlib.Core.List.{[]}
-use native.Mathlib.Omega.{arith}
-use lib.ListN.{getD}
-use lib.Dec.{leb, eqb}
-use borrow.Author.Needs.{needs}
-use borrow.Author.Tests.{eq-eqb, ne-eqb, le-leb, lt-leb, lt-ltb, le-ltb, not-true, not-false}
+use Rattle.numbers.proofs.Basics.{_≡_, ap, sym, _∙_, true, not, _&&_, _||_, [], arith, getD, leb, eqb, needs, eq-eqb}
+use Rattle.numbers.proofs.Basics.{ne-eqb, le-leb, lt-leb, lt-ltb, le-ltb, not-true, not-false}
 use Rattle.rules.specs.Bytes.{choose, byte, field}
 use Rattle.rules.specs.State.{Limits, State, Place, free, withAdapter}
 use Rattle.rules.specs.Outcome.{accept, need_else_⨾_}

@@ -1,6 +1,5 @@
 -- The two groups, one after the other.
-use mathlib.Core.Path.{sym, ap}
-use borrow.Author.Tests.{ne-eqb}
+use Rattle.numbers.proofs.Basics.{sym, ap, ne-eqb}
 use Rattle.adapter_requests.specs.States.{onPlace}
 use Rattle.adapter_requests.proofs.on_place.Statement.{statement}
 use Rattle.adapter_requests.proofs.on_place.Tie as tie

@@ -1,10 +1,8 @@
 -- `adapter_requests::payload_id` meets its contract. Assumes nothing.
-use mathlib.Core.Path.{sym, _∙_}
-use borrow.Author.Tests.{lt-leb}
+use Rattle.numbers.proofs.Basics.{sym, _∙_, lt-leb, needs}
 use Rattle.rules.proofs.Checks.{passed}
 use Rattle.adapter_requests.specs.States.{payloadId}
 use Rattle.adapter_requests.proofs.Laws.{id-there}
-use borrow.Author.Needs.{needs}
 use Rattle.adapter_requests.proofs.payload_id.Statement.{statement}
 use Rattle.adapter_requests.proofs.payload_id.Tie as tie
 

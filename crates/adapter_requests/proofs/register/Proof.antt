@@ -1,12 +1,6 @@
 -- `adapter_requests::register` meets its contract.
-use mathlib.Core.Path.{_≡_, ap, sym, _∙_}
-use mathlib.Core.Bool.{true}
-use mathlib.Core.List.{[]}
-use native.Mathlib.Omega.{arith}
-use lib.ListN.{getD}
-use lib.Dec.{leb}
-use borrow.Author.Needs.{needs}
-use borrow.Author.Tests.{le-leb, lt-leb, lt-ltb, le-ltb}
+use Rattle.numbers.proofs.Basics.{_≡_, ap, sym, _∙_, true, [], arith, getD, leb, needs, le-leb, lt-leb, lt-ltb}
+use Rattle.numbers.proofs.Basics.{le-ltb}
 use Rattle.rules.specs.Bytes.{byte, field}
 use Rattle.rules.specs.State.{Limits, State, free, withAdapter}
 use Rattle.rules.specs.Outcome.{accept, need_else_⨾_}

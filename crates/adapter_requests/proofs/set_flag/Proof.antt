@@ -1,8 +1,5 @@
 -- `adapter_requests::set_flag` meets its contract.
-use mathlib.Core.Path.{ap, sym, _∙_}
-use mathlib.Core.List.{[]}
-use borrow.Author.Needs.{needs}
-use borrow.Author.Tests.{eq-eqb}
+use Rattle.numbers.proofs.Basics.{ap, sym, _∙_, [], needs, eq-eqb}
 use Rattle.rules.specs.State.{withDevice}
 use Rattle.rules.specs.Outcome.{accept}
 use Rattle.rules.specs.Requests.{setsApf}

@@ -1,8 +1,5 @@
 -- `adapter_requests::set_masks` meets its contract.
-use mathlib.Core.Path.{ap, sym, _∙_}
-use mathlib.Core.List.{[]}
-use borrow.Author.Needs.{needs}
-use borrow.Author.Tests.{not-true, not-false}
+use Rattle.numbers.proofs.Basics.{ap, sym, _∙_, [], needs, not-true, not-false}
 use Rattle.rules.specs.Bytes.{byte}
 use Rattle.rules.specs.State.{withDevice}
 use Rattle.rules.specs.Outcome.{accept}

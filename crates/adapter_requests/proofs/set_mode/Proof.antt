@@ -1,11 +1,5 @@
 -- `adapter_requests::set_mode` meets its contract.
-use Prim.Native.Nat.{_≤_}
-use mathlib.Core.Path.{_≡_, ap, sym, _∙_}
-use mathlib.Core.List.{[]}
-use native.Mathlib.Omega.{arith}
-use lib.Dec.{eqb}
-use borrow.Author.Needs.{needs}
-use borrow.Author.Tests.{le-leb, lt-leb, not-true, not-false}
+use Rattle.numbers.proofs.Basics.{_≤_, _≡_, ap, sym, _∙_, [], arith, eqb, needs, le-leb, lt-leb, not-true, not-false}
 use Rattle.rules.specs.Bytes.{byte, field}
 use Rattle.rules.specs.State.{Limits, State, withDevice}
 use Rattle.rules.specs.State as rules

@@ -1,6 +1,5 @@
 -- `adapters::after_injection` meets its contract, by the test.
-use borrow.Author.Needs.{needs}
-use mathlib.Core.Path.{sym, _∙_}
+use Rattle.numbers.proofs.Basics.{needs, sym, _∙_}
 use Rattle.rules.specs.Bytes.{choose}
 use Rattle.adapters.specs.Values.{injectedDevice}
 use Rattle.adapters.proofs.after_injection.Statement.{statement}

@@ -1,9 +1,6 @@
 -- A shift is a product with a power of 2: the eight bits one by one.
-use mathlib.Core.Path.{_≡_, refl}
-use Prim.Native.Nat.{ℕ, zero, suc, _-_, _*_, _%_, _^_, _≤_, _<_}
+use Rattle.numbers.proofs.Basics.{_≡_, refl, ℕ, zero, suc, _-_, _*_, _%_, _^_, _≤_, _<_, arith, needs}
 use lib.Dec.{lit<}
-use native.Mathlib.Omega.{arith}
-use borrow.Author.Needs.{needs}
 use Rattle.rules.specs.State.{bit}
 use Rattle.adapters.proofs.bit_of.Statement.{statement}
 use Rattle.adapters.proofs.bit_of.Tie as tie

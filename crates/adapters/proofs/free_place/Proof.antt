@@ -1,6 +1,5 @@
 -- `adapters::free_place` meets its contract by computing.
-use mathlib.Core.Path.{refl}
-use borrow.Author.Needs.{needs}
+use Rattle.numbers.proofs.Basics.{refl, needs}
 use Rattle.rules.specs.Bytes.{choose}
 use Rattle.adapters.specs.Values.{placeOf}
 use Rattle.adapters.proofs.free_place.Statement.{statement}

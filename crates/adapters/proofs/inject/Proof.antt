@@ -1,8 +1,5 @@
 -- `adapters::inject` meets its contract, by the tests.
-use borrow.Author.Needs.{needs}
-use borrow.Author.Tests.{not-true, not-false}
-use mathlib.Core.Path.{_≡_, sym, _∙_}
-use mathlib.Core.Bool.{true, false}
+use Rattle.numbers.proofs.Basics.{needs, not-true, not-false, _≡_, sym, _∙_, true, false}
 use Rattle.rules.specs.Bytes.{choose}
 use Rattle.adapters.specs.Values.{underAis, injectionOf}
 use Rattle.adapters.proofs.inject.Statement.{statement}

@@ -1,6 +1,5 @@
 -- `adapters::mask_set` meets its contract: used or not, by the test.
-use mathlib.Core.Path.{refl, sym, ap}
-use mathlib.Core.Bool.{Bool, true≢false}
+use Rattle.numbers.proofs.Basics.{refl, sym, ap, Bool, true≢false}
 use Rattle.rules.specs.Bytes.{choose}
 use Rattle.adapters.specs.Values.{placeOf, maskedAs}
 use Rattle.adapters.proofs.mask_set.Statement.{statement}

@@ -1,7 +1,5 @@
 -- `adapters::without_bit` meets its contract: a bit that is set is at most the mask.
-use borrow.Author.Needs.{needs}
-use native.Mathlib.Omega.{arith}
-use mathlib.Core.Path.{sym, _∙_}
+use Rattle.numbers.proofs.Basics.{needs, arith, sym, _∙_}
 use Rattle.rules.specs.Bytes.{choose}
 use Rattle.rules.specs.State.{withoutBit}
 use Rattle.adapters.proofs.Laws.{bit-room}

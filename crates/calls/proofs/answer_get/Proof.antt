@@ -1,9 +1,8 @@
 -- `calls::answer_get` meets its contract: GET_ALL_IRQS, AISM_ALL, and no other group.
-use mathlib.Core.Path.{refl}
+use Rattle.numbers.proofs.Basics.{refl, needs}
 use Rattle.rules.specs.Requests.{request}
 use Rattle.answers.proofs.Laws.{refused}
 use Rattle.calls.proofs.Requests.{no-get, as-get}
-use borrow.Author.Needs.{needs}
 use Rattle.calls.proofs.answer_get.Statement.{statement}
 use Rattle.calls.proofs.answer_get.Tie as tie
 

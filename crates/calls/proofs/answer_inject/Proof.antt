@@ -1,11 +1,5 @@
 -- `calls::answer_inject` meets its contract: the four cases of an injection, and an id past the last place.
-use Prim.Native.Nat.{ℕ, _<_}
-use mathlib.Core.Path.{_≡_, refl, ap, sym, _∙_}
-use mathlib.Core.List.{List, []}
-use native.Mathlib.Omega.{arith}
-use lib.Dec.{leb}
-use borrow.Author.Needs.{needs}
-use borrow.Author.Tests.{leb-true, leb-false}
+use Rattle.numbers.proofs.Basics.{ℕ, _<_, _≡_, refl, ap, sym, _∙_, List, [], arith, leb, needs, leb-true, leb-false}
 use Rattle.rules.specs.Requests.{adapterInterrupt}
 use Rattle.rules.specs.State.{State, queued, addIo, withPending, withDevice}
 use Rattle.rules.specs.Outcome.{accept}

@@ -1,10 +1,8 @@
 -- `flic_play_list`: what it shares with `flic_make` is in Fresh.antt. In between `play_list` is called, with the list.
 use Rattle.flic.proofs.Walk.{_≡_, refl, ap, subst, ℕ, Bool, true, by, lit, bin, store, hop, fld, of-opd, assigns, first, skips, branches, exec, returns-within, whole, sub, look-in, anyQ, afterSeq, Wp, atReturn, [], _∷_, List, length, URA, fullShare, named, w8, tyInt, tyRef, imm, Val, vbool, vptr, SProp, ent, id⊢, GName, Lft, Share, Fml, ftrue, fsep, flft, fat, Memory, Routine, Heap, Env, Calls, Loops, WpFn, Tables, Atoms, Fun, Given, Item, Sq, runs, atRet, ‵, ⋆, _⊛_, _$_, _∵_, !, qed, move, keep, drop, split, join, rewrite, fsplit, fjoin, suffices, frame, done, look, init, stop, from, load, and-then, no-more, land, enter, alloc1, alloc0, params1, pass1, pass0, FmC, fmOf, WpFn-mono, owns, Is, bool-makes, u8, RefT, ptr-vals, mut-tells, sliceVal, sliceTy, ShrSlice, Room, slice-vals, mut-slice-tells, shr-slice-tells, plain, only, owned, nothing, onEntry, Meets, tripleOf, Contract, Triple, entered, cited, says, Stays, stay-ref, stay-slice, walkOf, goes-ref, goes-slice, Walks, ends-at, walked, walk-meets, yes, givenOf, tables, tablesOf, bool, needs, stay-dropped, goes-dropped, u64, w64, vint, uint-makes}
 use types.Kit as Kit
-use lib.Dec.{eqb}
-use borrow.Author.Tests.{eqb-true, eqb-false}
+use Rattle.numbers.proofs.Basics.{eqb, eqb-true, eqb-false, arith}
 use denote.Struct.Laws as LL
-use native.Mathlib.Omega.{arith}
 use Rattle.list_image.specs.Image.{imageSize}
 use denote.Signature.{shrSliceOf}
 use Rattle.calls.specs.Limits.{limitsOf}

@@ -4,10 +4,7 @@ use Rattle.flic.proofs.Walk.{_≡_, refl, sym, ap, subst, ℕ, _<_, _^_
 use types.Kit as Kit
 use types.Kit.{post}
 use prog.Wp.{returns as returnsᴼ}
-use native.Mathlib.Omega.{arith}
-use lib.Dec.{eqb}
-use mathlib.Core.Bool.{not}
-use borrow.Author.Tests.{eqb-true, eqb-false}
+use Rattle.numbers.proofs.Basics.{arith, eqb, not, eqb-true, eqb-false}
 use package.mir.Syntax.{return, Body as Code}
 use denote.Struct.Laws as LL
 use denote.Signature.{shrSliceOf}

@@ -1,9 +1,7 @@
 -- `set_modes`: the record is opened and read, the reply decides, and an accepted request stores the new record. Then the record is closed.
 use Rattle.lent_table.proofs.Walk.{_≡_, refl, ap, subst, ℕ, _<_, _^_, Bool, true, false, [], _∷_, List, length, set, URA, fullShare, named, erased, w8, w32, w64, tyInt, tyBool, tyUnit, tyRef, imm, mut, Val, vunit, vint, vbool, vptr, SProp, ent, id⊢, GName, Lft, Share, Fml, ftrue, fsep, flft, fobs, fobor, fauth, fat, Memory, Routine, Heap, Env, Calls, Loops, Wp, WpFn, Tables, afterSeq, atReturn, Atoms, sem, Fun, givenOf, tables, tablesOf, Given, Item, Sq, runs, anyQ, atRet, ‵, ⋆, _⊛_, _$_, _∵_, !, qed, by, move, keep, drop, split, join, rewrite, fsplit, fsplit3, fjoin, fjoin3, feqI, suffices, frame, done, look, init, stop, hop, fld, whole, sub, look-in, from, load, lit, addr, bin, and-then, no-more, assigns, first, skips, branches, exec, land, returns, returns-within, enter, alloc1, alloc0, params1, pass1, pass0, Body, FmC, fmOf, WpFn-mono, owns, Is, shows, mem, cellAt, pointee, bool-vals, bool-tells, bool-makes, uint-vals, uint-tells, uint-makes, u8, u32, u64, bool, RefT, MutRef, ptr-vals, mut-tells, sliceVal, sliceTy, ShrSlice, Room, slice-vals, shr-slice-tells, plain, only, opens, closes, owned, peeks, nothing, spelt, onEntry, Meets, tripleOf, Contract, Triple, entered, cited, needs, says, Stays, stay-ref, stay-dropped, walkOf, goes-ref, goes-dropped, Walks, ends-at, walked, walk-meets, yes}
 use types.Kit as Kit
-use lib.Dec.{eqb}
-use mathlib.Core.Bool.{not}
-use borrow.Author.Tests.{eqb-true, eqb-false}
+use Rattle.numbers.proofs.Basics.{eqb, not, eqb-true, eqb-false}
 use denote.Struct.Laws as LL
 use denote.Signature.{shrSliceOf}
 use Rattle.answers.specs.declared.Answer.{Answer}

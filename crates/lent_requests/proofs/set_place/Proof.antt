@@ -1,9 +1,7 @@
 -- `set_place`: the table is opened, the place of the payload's id is looked up, and the reply decides; where it is 0 the new place is registered. Then the table is closed.
 use Rattle.lent_table.proofs.Walk.{_≡_, refl, sym, ap, subst, ℕ, _<_, _^_, true, false, [], _∷_, List, length, getD, set, URA, fullShare, named, erased, w8, w32, w64, tyInt, tyBool, tyUnit, tyRef, imm, mut, Val, vunit, vint, vbool, vptr, SProp, ent, id⊢, GName, Lft, Share, Fml, ftrue, fsep, flft, fobs, fobor, fauth, fat, Memory, Routine, Heap, Env, Calls, Loops, Wp, WpFn, Tables, afterSeq, atReturn, Atoms, sem, Fun, givenOf, tables, tablesOf, Given, Item, Sq, runs, anyQ, atRet, ‵, ⋆, _⊛_, _$_, _∵_, !, qed, by, move, keep, drop, split, join, rewrite, fsplit, fjoin, suffices, frame, done, look, init, stop, hop, fld, from, load, lit, addr, bin, and-then, no-more, assigns, first, skips, branches, exec, land, returns, returns-within, enter, alloc1, alloc0, params1, pass1, pass0, agg, whole, sub, look-in, FmC, fmOf, WpFn-mono, owns, Is, pointee, uint-vals, uint-tells, uint-makes, u8, u32, u64, RefT, sliceVal, sliceTy, MutSlice, ShrSlice, Room, heres, codedHoleys, at-slice, slice-vals, mut-slice-tells, shr-slice-tells, pureI, Held, row, opens-slice, closes-slice, plain, only, owned, nothing, onEntry, Meets, tripleOf, Contract, Triple, entered, cited, needs, says, Stays, stay-slice, stay-dropped, walkOf, goes-slice, goes-dropped, Walks, ends-at, walked, walk-meets, yes}
 use types.Kit as Kit
-use lib.Dec.{eqb}
-use mathlib.Core.Bool.{not}
-use borrow.Author.Tests.{eqb-true, eqb-false}
+use Rattle.numbers.proofs.Basics.{eqb, not, eqb-true, eqb-false, arith}
 use denote.Struct.Laws as LL
 use denote.Signature.{shrSliceOf}
 use Rattle.answers.specs.declared.Answer.{Answer}
@@ -20,7 +18,6 @@ use Rattle.lent_requests.proofs.Answered.{FitsAnswer, refused, accepted
 use Rattle.numbers.specs.declared.AdapterId.{AdapterId}
 use Rattle.numbers.proofs.AdapterId as I
 use Rattle.numbers.proofs.AdapterId.Laws as I′
-use native.Mathlib.Omega.{arith}
 use Rattle.adapters.specs.declared.Place.{Place}
 use Rattle.adapters.specs.Values.{unused}
 use Rattle.adapters.proofs.Place.Laws as P′

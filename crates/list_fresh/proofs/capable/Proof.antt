@@ -1,6 +1,5 @@
 -- The flag is read where there is one.
-use native.Mathlib.Omega.{arith}
-use borrow.Author.Needs.{needs}
+use Rattle.numbers.proofs.Basics.{arith, needs}
 use Rattle.list_fresh.proofs.capable.Statement.{statement}
 use Rattle.list_fresh.proofs.capable.Tie as tie
 

@@ -1,6 +1,5 @@
 -- The arrays are fresh, and what the player answers is what the rules do.
-use mathlib.Core.Path.{refl, sym}
-use borrow.Author.Needs.{needs}
+use Rattle.numbers.proofs.Basics.{refl, sym, needs}
 use Rattle.rules.specs.State.{paperLimits, fresh}
 use Rattle.list_play.proofs.Sized.{paper-sized}
 use Rattle.list_fresh.proofs.Laws.{played-is}

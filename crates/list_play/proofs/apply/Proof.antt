@@ -1,6 +1,5 @@
 -- `list_play::apply` meets its contract: an ENQUEUE, a request about a place of the image, or one about the device record.
-use mathlib.Core.Path.{refl, sym, ap, _∙_}
-use borrow.Author.Needs.{needs}
+use Rattle.numbers.proofs.Basics.{refl, sym, ap, _∙_, needs}
 use Rattle.rules.specs.Requests.{request}
 use Rattle.rules.specs.Outcome.{tell}
 use Rattle.adapters.specs.Values.{deviceOf}

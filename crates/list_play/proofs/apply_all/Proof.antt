@@ -1,8 +1,5 @@
 -- The invariant: what is left to apply, to the values as they are now, comes to what all comes to.
-use Prim.Native.Nat.{_-_, _≤_}
-use mathlib.Core.Path.{_≡_, sym, _∙_}
-use native.Mathlib.Omega.{arith}
-use borrow.Author.Needs.{needs}
+use Rattle.numbers.proofs.Basics.{_-_, _≤_, _≡_, sym, _∙_, arith, needs}
 use Rattle.rules.specs.MoveList.{requestsIn, applies}
 use Rattle.store_queues.specs.Queues.{Held}
 use Rattle.store.specs.Memory.{pendingOf}

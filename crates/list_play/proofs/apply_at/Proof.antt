@@ -1,9 +1,5 @@
 -- `list_play::apply_at` meets its contract: the numbers read are the table entry's, and its payload lies within the list.
-use Prim.Native.Nat.{_+_, _*_, _≤_}
-use mathlib.Core.Path.{_≡_, ap, _∙_}
-use native.Mathlib.Omega.{arith}
-use lib.ListN.{length}
-use borrow.Author.Needs.{needs}
+use Rattle.numbers.proofs.Basics.{_+_, _*_, _≤_, _≡_, ap, _∙_, arith, length, needs}
 use Rattle.rules.specs.MoveList.{movable}
 use Rattle.list_form.specs.Form.{slotAt}
 use Rattle.list_form.proofs.Laws.{inside, slot-within}

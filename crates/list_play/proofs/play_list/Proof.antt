@@ -1,8 +1,5 @@
 -- `list_play::play_list` meets its contract: a refusal of form, a list refused part-way, and one that is played.
-use mathlib.Core.Path.{refl}
-use native.Mathlib.Omega.{arith}
-use lib.ListN.{replicate}
-use borrow.Author.Needs.{needs}
+use Rattle.numbers.proofs.Basics.{refl, arith, replicate, needs}
 use Rattle.list_image.proofs.Laws.{canonical-zeros, canonical-take}
 use Rattle.list_play.proofs.Laws.{not-refused, fresh-is, not-played, played-all, played-part}
 use Rattle.list_play.proofs.play_list.Statement.{statement}

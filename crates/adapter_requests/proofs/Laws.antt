@@ -1,55 +1,112 @@
--- What a request about a place or about the device record promises, from the outcome that it comes to; and what some requests come to once checks have passed.
-use Rattle.numbers.proofs.Basics.{ℕ, zero, suc, _≤_, _<_, _≡_, refl, ap, sym, _∙_, Bool, true, false, true≢false}
-use Rattle.numbers.proofs.Basics.{List, [], _∷_, arith, length, getD, set, drop, leb, eqb, eq-eqb, ne-eqb, eqb-true}
-use Rattle.numbers.proofs.Basics.{le-leb, lt-leb}
+-- A reply from the outcome that it tells, and what each request comes to once its checks are known.
+use Rattle.numbers.proofs.Basics.{ℕ, zero, suc, _≤_, _<_, _≡_, refl, ap, sym, _∙_, subst, Bool, true, false}
+use Rattle.numbers.proofs.Basics.{true≢false, List, [], _∷_, arith, length, getD, set, drop, eqb, eq-eqb, ne-eqb}
+use Rattle.numbers.proofs.Basics.{eqb-true, eqb-false, le-leb}
 use lib.Seq.{set-getD}
-use Rattle.rules.specs.Bytes.{choose, field}
-use Rattle.rules.specs.Requests.{setRequest, noRequest, setsApf, request}
-use Rattle.rules.proofs.Checks.{passes, fails, chosen}
+use Rattle.rules.specs.Bytes.{choose, byte, field}
+use Rattle.rules.specs.Requests.{setRequest, noRequest, adapterRegister, adapterModify, aism, nonZero, registers, adapterIn, modifies, withMask, setsMode, request}
+use Rattle.rules.proofs.Checks.{passes, chosen, passed}
 use Rattle.rules.specs.State as rules
-use Rattle.rules.specs.State.{Limits, State, withDevice}
-use Rattle.rules.specs.Outcome.{Outcome, refuse, accept, need_else_⨾_, result, tell}
+use Rattle.rules.specs.State.{Limits, Pending, State}
+use Rattle.rules.specs.Outcome.{Outcome, refuse, accept, result, tell}
 use Rattle.rules.specs.Machine.{answerOf}
 use Rattle.adapters.specs.declared.Device.{Device}
 use Rattle.adapters.specs.declared.Place.{Place}
-use Rattle.adapters.specs.Values.{placeOf, deviceOf, Canonical, modeSet}
+use Rattle.adapters.specs.Values.{placeOf, deviceOf, Canonical, maskedAs, modeSet}
+use Rattle.answers.specs.declared.Answer.{Answer}
+use Rattle.adapter_requests.specs.declared.Reply.{Reply}
+use Rattle.adapter_requests.specs.States.{payloadId, onPlace, aboutOf, decided, withPlace, modesAfter, stateWith, Replied, Change, keeps, masks, enters, Within, changeOf}
 use Rattle.answers.specs.Answers.{answered}
-use Rattle.adapter_requests.specs.States.{payloadId, onPlace, FlagSet, withPlace, PlaceSet, ModesSet}
 
--- ---- a request about a place
--- a state with the place that it has at an id
-pub same-place : (s : State) (id : ℕ) {p : rules.Place} → getD (s .adapters) id rules.free ≡ p → s ≡ withPlace id p s
-same-place s id h = λ i. record { ais = s .ais; adapters = (sym (set-getD (s .adapters) id rules.free) ∙ ap (set (s .adapters) id) h) i; pending = s .pending; device = s .device }
+-- the state that the values stand for is the state itself
+pub as-it-was : (s : State) (id : ℕ) (device : Device) (place : Place) → s .device ≡ deviceOf device → getD (s .adapters) id rules.free ≡ placeOf place
+    → s ≡ stateWith s id (placeOf place) (s .pending) (deviceOf device)
+as-it-was s id device place d p =
+    λ i. record {
+      ais = s .ais;
+      adapters = (sym (set-getD (s .adapters) id rules.free) ∙ ap (set (s .adapters) id) p) i;
+      pending = s .pending;
+      device = d i;
+    }
 
-module _ {places group attr : ℕ} {p : Place} {b : List ℕ} where
-  pub place-refused : (code : ℕ)
-      → ((L : Limits) (s : State) → L .places ≡ places → getD (s .adapters) (payloadId b) rules.free ≡ placeOf p → request L s (setRequest group) attr b ≡ refuse code)
-      → PlaceSet places group attr p p b code
+-- a place that did not change
+pub within-same : (change : Change) (place : Place) → Within change place place
+within-same keeps place = refl
+within-same masks place = refl
+within-same enters place = tt
+
+module _ (places room : ℕ) (ais : Bool) (device : Device) (place : Place) (id : ℕ) (b : List ℕ) (o : Limits → State → Outcome State) where
+  -- for every state that the values stand for
+  abbrev pub Gives : (Limits → State → Outcome State) → Type 0
+  Gives f = (L : Limits) (s : State) → L .places ≡ places → s .ais ≡ ais → s .device ≡ deviceOf device → getD (s .adapters) id rules.free ≡ placeOf place
+      → o L s ≡ f L s
+
+  refuses : (code : ℕ) → Gives (λ L s. refuse code) → (p : Pending) (L : Limits) (s : State) → L .places ≡ places → s .ais ≡ ais → s .pending ≡ p
+      → s .device ≡ deviceOf device → getD (s .adapters) id rules.free ≡ placeOf place
+      → answerOf L s b (o L s) ≡ tell code 0 (stateWith s id (placeOf place) p (deviceOf device)) b
   unfolding result
-  place-refused code f =
-      record {
-        answer = λ L s e h. ap (answerOf L s b) (f L s e h) ∙ (λ i. tell code 0 (same-place s (payloadId b) h i) b);
-        kept = λ _. refl;
+  refuses code f p L s e1 e3 e4 e5 e6 =
+      ap (answerOf L s b) (f L s e1 e3 e5 e6)
+      ∙ (λ i. tell code 0 ((as-it-was s id device place e5 e6 ∙ ap (λ (q : Pending). stateWith s id (placeOf place) q (deviceOf device)) e4) i) b)
+
+  accepts : (device′ : Device) (place′ : Place) → Gives (λ L s. accept 0 (stateWith s id (placeOf place′) (s .pending) (deviceOf device′)) [])
+      → (p : Pending) (L : Limits) (s : State) → L .places ≡ places → s .ais ≡ ais → s .pending ≡ p
+      → s .device ≡ deviceOf device → getD (s .adapters) id rules.free ≡ placeOf place
+      → answerOf L s b (o L s) ≡ tell 0 0 (stateWith s id (placeOf place′) p (deviceOf device′)) b
+  unfolding result
+  accepts device′ place′ f p L s e1 e3 e4 e5 e6 =
+      ap (answerOf L s b) (f L s e1 e3 e5 e6)
+      ∙ (λ i. tell 0 0 (stateWith s id (placeOf place′) (e4 i) (deviceOf device′)) b)
+
+  -- from what the calls that make a reply ensure
+  pub refused : (code : ℕ) {change : Change} {a : Answer} {r : Reply} → a ≡ answered code 0 → r ≡ record { answer = a; device = device; place = place }
+      → Gives (λ L s. refuse code) → Replied places room ais device place id b o change r
+  refused code {change} ea er f =
+      subst (Replied places room ais device place id b o change)
+      (sym (er ∙ ap (λ (x : Answer). record { answer = x; device = device; place = place }) ea))
+      (record {
+        answer = λ p L s e1 e2 e3 e4 e5 e6. refuses code f p L s e1 e3 e4 e5 e6;
+        kept = λ k. (refl, refl);
         canonical = λ k. k;
-      }
+        within = within-same change place;
+      })
 
-  pub place-accepted : {p′ : Place} → (Canonical p → Canonical p′)
-      → ((L : Limits) (s : State) → L .places ≡ places → getD (s .adapters) (payloadId b) rules.free ≡ placeOf p
-      → request L s (setRequest group) attr b ≡ accept 0 (withPlace (payloadId b) (placeOf p′) s) [])
-      → PlaceSet places group attr p p′ b 0
-  unfolding result
-  place-accepted k f = record { answer = λ L s e h. ap (answerOf L s b) (f L s e h); kept = λ n. absurd (n refl); canonical = k }
+  pub accepted : {change : Change} {device′ : Device} {place′ : Place} {a : Answer} {r : Reply} → a ≡ answered 0 0
+      → r ≡ record { answer = a; device = device′; place = place′ } → (Canonical place → Canonical place′)
+      → Within change place place′
+      → Gives (λ L s. accept 0 (stateWith s id (placeOf place′) (s .pending) (deviceOf device′)) []) → Replied places room ais device place id b o change r
+  accepted {change} {device′} {place′} ea er k m f =
+      subst (Replied places room ais device place id b o change)
+      (sym (er ∙ ap (λ (x : Answer). record { answer = x; device = device′; place = place′ }) ea))
+      (record {
+        answer = λ p L s e1 e2 e3 e4 e5 e6. accepts device′ place′ f p L s e1 e3 e4 e5 e6;
+        kept = λ n. absurd (n refl);
+        canonical = k;
+        within = m;
+      })
 
--- ---- a request about the device record
-module _ {ais : Bool} {group attr : ℕ} {d : Device} {b : List ℕ} where
-  pub modes-refused : (code : ℕ) → ((L : Limits) (s : State) → s .ais ≡ ais → request L s (setRequest group) attr b ≡ refuse code) → ModesSet ais group attr d d b (answered code 0)
-  unfolding result
-  modes-refused code f = record { answer = λ L s e h. ap (answerOf L s b) (f L s e) ∙ (λ i. tell code 0 (withDevice (h i) s) b); kept = λ _. refl }
+-- ---- the state that an accepted request leaves
+pub nothing-done : (s : State) (id : ℕ) (device : Device) (place : Place) → s .device ≡ deviceOf device → getD (s .adapters) id rules.free ≡ placeOf place
+    → accept 0 s [] ≡ accept 0 (stateWith s id (placeOf place) (s .pending) (deviceOf device)) []
+nothing-done s id device place d p = ap (λ (t : State). accept 0 t []) (as-it-was s id device place d p)
 
-  pub modes-accepted : {d′ : Device} → ((L : Limits) (s : State) → s .ais ≡ ais → s .device ≡ deviceOf d → request L s (setRequest group) attr b ≡ accept 0 (withDevice (deviceOf d′) s) [])
-      → ModesSet ais group attr d d′ b (answered 0 0)
-  unfolding result
-  modes-accepted f = record { answer = λ L s e h. ap (answerOf L s b) (f L s e h); kept = λ n. absurd (n refl) }
+pub devised : (s : State) (id : ℕ) (d : rules.Device) (device : Device) (place : Place) → d ≡ deviceOf device
+    → getD (s .adapters) id rules.free ≡ placeOf place
+    → accept 0 (rules.withDevice d s) [] ≡ accept 0 (stateWith s id (placeOf place) (s .pending) (deviceOf device)) []
+devised s id d device place e p = nothing-done (rules.withDevice d s) id device place e p
+
+-- ---- a code that is not 0, and 0
+pub not-accepted : {A : Type 0} {n : ℕ} → 0 < n → n ≡ 0 → A
+not-accepted h e = let z : ⊥ = omega (arith, h, e) in absurd z
+
+module _ (code : ℕ) (next : State) where
+  pub decided-refused : (code ≡ 0 → ⊥) → decided code next ≡ refuse code
+  unfolding decided
+  decided-refused n = passed _ _ _ (ne-eqb code 0 n)
+
+  pub decided-accepted : code ≡ 0 → decided code next ≡ accept 0 next []
+  unfolding decided
+  decided-accepted z = chosen _ _ _ (eq-eqb code 0 z)
 
 -- ---- the groups about a place
 pub on-place-7 : (g : ℕ) → onPlace g ≡ true → (g ≡ 6 → ⊥) → g ≡ 7
@@ -60,32 +117,62 @@ pub not-on-place : (g : ℕ) → onPlace g ≡ false → (g ≡ 6 → ⊥) × (g
 unfolding onPlace
 not-on-place g o = (λ e. true≢false (sym (ap onPlace e) ∙ o), λ e. true≢false (sym (ap onPlace e) ∙ o))
 
--- ---- the checks that come first: the attribute, the capability, the lent length
-pub bad-attr : {attr : ℕ} (rest : Outcome State) → (attr ≡ 0 → ⊥) → (need eqb attr 0 else 22 ⨾ rest) ≡ refuse 22
-bad-attr {attr} rest h = fails _ _ _ (ne-eqb attr 0 h)
+on-place-cases : (g : ℕ) → onPlace g ≡ true → (f : ℕ → Type 0) → f 6 → f 7 → f g
+on-place-cases g o f six seven = go (eqb g 6) refl
+  where
+    go : (t : Bool) → eqb g 6 ≡ t → f g
+    go true e = subst f (sym (eqb-true g 6 e)) six
+    go false e = subst f (sym (on-place-7 g o (eqb-false g 6 e))) seven
 
-module _ {attr n len : ℕ} (rest : Outcome State) (z : attr ≡ 0) where
-  pub short : len < n → (need eqb attr 0 else 22 ⨾ need leb n len else 14 ⨾ rest) ≡ refuse 14
-  short h = passes _ _ _ (eq-eqb attr 0 z) ∙ fails _ _ _ (lt-leb n len h)
+pub about-place : (g attr : ℕ) (b : List ℕ) → onPlace g ≡ true → aboutOf g attr b ≡ payloadId b
+unfolding aboutOf onPlace choose
+about-place g attr b o = on-place-cases g o (λ (x : ℕ). aboutOf x attr b ≡ payloadId b) refl refl
 
-  pub opened : n ≤ len → (need eqb attr 0 else 22 ⨾ need leb n len else 14 ⨾ rest) ≡ rest
-  opened h = passes _ _ _ (eq-eqb attr 0 z) ∙ passes _ _ _ (le-leb n len h)
+pub keeps-place : (g : ℕ) → onPlace g ≡ false → changeOf g ≡ keeps
+unfolding changeOf choose
+keeps-place g o = rw (ne-eqb g 6 (not-on-place g o .0), ne-eqb g 7 (not-on-place g o .1))
 
-pub no-ais : {attr : ℕ} {ais : Bool} (rest : Outcome State) → attr ≡ 0 → ais ≡ false → (need eqb attr 0 else 22 ⨾ need ais else 95 ⨾ rest) ≡ refuse 95
-no-ais {attr} rest z a = passes _ _ _ (eq-eqb attr 0 z) ∙ fails _ _ _ a
+-- an accepted MODIFY, whether its type is 1 or not
+pub modified : (s : State) (id id′ : ℕ) (t on : Bool) (x : rules.Adapter) (p : rules.Place) → id′ ≡ id → p ≡ rules.holds x → getD (s .adapters) id rules.free ≡ p
+    → _≡_ {A = State} (choose t (rules.withAdapter id (withMask on x) s) s) (withPlace id′ (choose t (maskedAs p on) p) s)
+unfolding choose maskedAs
+modified s id id′ true on x p e h g = λ i. record { ais = s .ais; adapters = set (s .adapters) ((sym e) i) (maskedAs ((sym h) i) on); pending = s .pending; device = s .device }
+modified s id id′ false on x p e h g =
+    λ i. record { ais = s .ais; adapters = (sym (set-getD (s .adapters) id rules.free) ∙ (λ j. set (s .adapters) ((sym e) j) (g j))) i; pending = s .pending; device = s .device }
 
-module _ {attr n len : ℕ} {ais : Bool} (rest : Outcome State) (z : attr ≡ 0) (a : ais ≡ true) where
-  pub short-ais : len < n → (need eqb attr 0 else 22 ⨾ need ais else 95 ⨾ need leb n len else 14 ⨾ rest) ≡ refuse 14
-  short-ais h = passes _ _ _ (eq-eqb attr 0 z) ∙ passes _ _ _ a ∙ fails _ _ _ (lt-leb n len h)
+-- ---- the groups about the device record
+module _ (group : ℕ) (b : List ℕ) (d : rules.Device) where
+  pub after-mode : group ≡ 9 → modesAfter group b d ≡ modeSet d (byte 0 b) (eqb (field 2 2 b) 1)
+  unfolding modesAfter
+  after-mode e = chosen _ _ _ (eq-eqb group 9 e)
 
-  pub opened-ais : n ≤ len → (need eqb attr 0 else 22 ⨾ need ais else 95 ⨾ need leb n len else 14 ⨾ rest) ≡ rest
-  opened-ais h = passes _ _ _ (eq-eqb attr 0 z) ∙ passes _ _ _ a ∙ passes _ _ _ (le-leb n len h)
+  pub after-masks : (group ≡ 9 → ⊥) → group ≡ 11 → modesAfter group b d ≡ record { simm = byte 0 b; nimm = byte 1 b; apf = d .apf }
+  unfolding modesAfter
+  after-masks n e = passed _ _ _ (ne-eqb group 9 n) ∙ chosen _ _ _ (eq-eqb group 11 e)
 
--- ---- groups 4 and 5
-pub flagged : (L : Limits) (s : State) (group attr : ℕ) (b : List ℕ) (on : Bool) → FlagSet group on → request L s (setRequest group) attr b ≡ (need eqb attr 0 else 22 ⨾ setsApf s on)
-unfolding request
-flagged L s group attr b true e = rw e
-flagged L s group attr b false e = rw e
+  pub after-flag : (group ≡ 9 → ⊥) → (group ≡ 11 → ⊥) → modesAfter group b d ≡ record { simm = d .simm; nimm = d .nimm; apf = eqb group 4 }
+  unfolding modesAfter
+  after-flag n m = passed _ _ _ (ne-eqb group 9 n) ∙ passed _ _ _ (ne-eqb group 11 m)
+
+-- the place and the device record that an accepted request about a place leaves
+pub entered : (s : State) (id id′ : ℕ) (p : rules.Place) (device : Device) (place : Place) → id ≡ id′ → p ≡ placeOf place → s .device ≡ deviceOf device
+    → withPlace id p s ≡ stateWith s id′ (placeOf place) (s .pending) (deviceOf device)
+entered s id id′ p device place e h d = λ i. record { ais = s .ais; adapters = set (s .adapters) (e i) (h i); pending = s .pending; device = d i }
+
+module _ (L : Limits) (s : State) (attr : ℕ) (b : List ℕ) where
+  -- ---- groups 6 and 7: the attribute and the lent length have passed
+  pub registering : attr ≡ 0 → 8 ≤ length b → request L s adapterRegister attr b ≡ registers L s (field 0 4 b) (adapterIn b)
+  unfolding request
+  registering z n = passes _ _ _ (eq-eqb attr 0 z) ∙ passes _ _ _ (le-leb 8 (length b) n)
+
+  pub modifying : attr ≡ 0 → 16 ≤ length b → request L s adapterModify attr b ≡ modifies L s (field 0 4 b) (byte 4 b) (nonZero (byte 5 b))
+  unfolding request
+  modifying z n = passes _ _ _ (eq-eqb attr 0 z) ∙ passes _ _ _ (le-leb 16 (length b) n)
+
+  -- ---- group 9
+  pub moding : attr ≡ 0 → s .ais ≡ true → 4 ≤ length b → request L s aism attr b ≡ setsMode s (byte 0 b) (field 2 2 b)
+  unfolding request
+  moding z a n = passes _ _ _ (eq-eqb attr 0 z) ∙ passes _ _ _ a ∙ passes _ _ _ (le-leb 4 (length b) n)
 
 -- the payload's id, where there is one
 pub id-there : (b : List ℕ) → 4 ≤ length b → payloadId b ≡ field 0 4 b

@@ -1,54 +1,93 @@
--- What a set request about an adapter's place, or about the device record, promises on the values.
-use Prim.Native.Nat.{ℕ, _^_}
+-- Which adapter a set request is about, what an accepted request leaves of its place or of the device record, and what a reply says.
+use Prim.Native.Nat.{ℕ, _^_, _≤_}
 use mathlib.Core.Path.{_≡_}
-use mathlib.Core.Bool.{Bool, true, false, _||_}
-use mathlib.Core.List.{List}
+use mathlib.Core.Bool.{Bool, true, _||_}
+use mathlib.Core.List.{List, []}
 use lib.ListN.{length, getD, set}
 use lib.Dec.{leb, eqb}
-use Rattle.rules.specs.Bytes.{choose, field}
+use Rattle.rules.specs.Bytes.{choose, byte, field}
 use Rattle.rules.specs.State as rules
-use Rattle.rules.specs.State.{Limits, State, withDevice}
-use Rattle.rules.specs.Requests.{setRequest, request}
+use Rattle.rules.specs.State.{Limits, Pending, State}
+use Rattle.rules.specs.Outcome.{Outcome, refuse, accept}
+use Rattle.rules.specs.Requests.{adapterIn, nonZero}
 use Rattle.adapters.specs.declared.Device.{Device}
 use Rattle.adapters.specs.declared.Place.{Place}
-use Rattle.adapters.specs.Values.{placeOf, deviceOf, Canonical}
-use Rattle.answers.specs.declared.Answer.{Answer}
-use Rattle.answers.specs.Answers.{Answers, answered}
+use Rattle.adapters.specs.Values.{placeOf, deviceOf, Canonical, withMasked, maskedAs, modeSet}
+use Rattle.answers.specs.Answers.{Answers}
+use Rattle.adapter_requests.specs.declared.Reply.{Reply}
 
--- an id that no table has
-abbrev pub noAdapter : ℕ
-noAdapter = 2 ^ 32
-
--- the id in the payload of REGISTER and MODIFY; a payload too short for one names no adapter
+-- the id in the payload of REGISTER and MODIFY, and 2^32, an id that no table has, where the payload is too short for one
 unfoldable pub payloadId : List ℕ → ℕ
-payloadId b = choose (leb 4 (length b)) (field 0 4 b) noAdapter
+payloadId b = choose (leb 4 (length b)) (field 0 4 b) (2 ^ 32)
 
 -- whether a set request is about an adapter's place: REGISTER, MODIFY
 unfoldable pub onPlace : ℕ → Bool
 onPlace group = eqb group 6 || eqb group 7
 
--- A group about the device record, or one that is no set request at all: it is neither about pending records, nor INJECT, nor about a place.
-abbrev pub OfModes : ℕ → Type 0
-OfModes group = (group ≡ 2 → ⊥) × (group ≡ 3 → ⊥) × (group ≡ 8 → ⊥) × (group ≡ 10 → ⊥) × (onPlace group ≡ false)
+-- the id that a set request is about; 2^32, an id that no table has, where it is about none
+unfoldable pub aboutOf : ℕ → ℕ → List ℕ → ℕ
+aboutOf group attr b = choose (eqb group 10) attr (choose (onPlace group) (payloadId b) (2 ^ 32))
 
--- 01, groups 4 and 5: the group that sets the page-fault flag on, and the one that sets it off
-abbrev pub FlagSet : ℕ → Bool → Type 0
-FlagSet group true = group ≡ 4
-FlagSet group false = group ≡ 5
+-- what a request comes to that is decided by its code: 0 is accepted, with count 0 and nothing written
+unfoldable pub decided : ℕ → State → Outcome State
+decided code next = choose (eqb code 0) (accept 0 next []) (refuse code)
+
+-- 01, groups 6 and 7: the place after an accepted request about it
+unfoldable pub placeAfter : ℕ → List ℕ → rules.Place → rules.Place
+placeAfter group b p = choose (eqb group 6) (rules.holds (adapterIn b)) (choose (eqb (byte 4 b) 1) (maskedAs p (nonZero (byte 5 b))) p)
 
 -- a state with another place at an id
 abbrev pub withPlace : ℕ → rules.Place → State → State
 withPlace id p s = record { ais = s .ais; adapters = set (s .adapters) id p; pending = s .pending; device = s .device }
 
--- 01, groups 6 and 7, of the place p at the payload's id, which is p′ then: the rules' answer, and nothing but the place changes; a refusal leaves it equal.
-pub record PlaceSet (places group attr : ℕ) (p p′ : Place) (b : List ℕ) (code : ℕ) : Type 0 where
-  pub answer : (L : Limits) (s : State) → L .places ≡ places → getD (s .adapters) (payloadId b) rules.free ≡ placeOf p
-      → Answers L s b (request L s (setRequest group) attr b) (answered code 0) (withPlace (payloadId b) (placeOf p′) s) b
-  pub kept : (code ≡ 0 → ⊥) → p′ ≡ p
-  pub canonical : Canonical p → Canonical p′
+-- what is known of the payload of an accepted request about a place
+pub record PlaceAsked (group : ℕ) (b : List ℕ) (p : Place) : Type 0 where
+  pub long : 8 ≤ length b
+  pub isc : group ≡ 6 → byte 4 b ≤ 7
+  pub maskable : (group ≡ 6 → ⊥) → byte 4 b ≡ 1 → p .maskable ≡ true
 
--- 01, groups 4, 5, 9 and 11, of the device record d, which is d′ then: the rules' answer, and nothing but the record changes; a refusal leaves it equal.
-pub record ModesSet (ais : Bool) (group attr : ℕ) (d d′ : Device) (b : List ℕ) (r : Answer) : Type 0 where
-  pub answer : (L : Limits) (s : State) → s .ais ≡ ais → s .device ≡ deviceOf d
-      → Answers L s b (request L s (setRequest group) attr b) r (withDevice (deviceOf d′) s) b
-  pub kept : (r .code ≡ 0 → ⊥) → d′ ≡ d
+-- 01, groups 4, 5, 9 and 11: the device record after an accepted request about it
+unfoldable pub modesAfter : ℕ → List ℕ → rules.Device → rules.Device
+modesAfter group b d =
+    choose (eqb group 9) (modeSet d (byte 0 b) (eqb (field 2 2 b) 1))
+    (choose (eqb group 11) (record { simm = byte 0 b; nimm = byte 1 b; apf = d .apf }) (record { simm = d .simm; nimm = d .nimm; apf = eqb group 4 }))
+
+-- what is known of the payload of an accepted request about the device record
+pub record ModesAsked (group : ℕ) (b : List ℕ) : Type 0 where
+  pub mode : group ≡ 9 → (4 ≤ length b) × (byte 0 b ≤ 7)
+  pub masks : group ≡ 11 → 2 ≤ length b
+
+-- a state with another place at an id, other pending records and another device record
+abbrev pub stateWith : State → ℕ → rules.Place → Pending → rules.Device → State
+stateWith s id place pending device = record { ais = s .ais; adapters = set (s .adapters) id place; pending = pending; device = device }
+
+-- What a reply says, for every state that the code's values stand for: the outcome's answer, next state and untouched payload.
+-- `before` and `after` are the pending records, `id` is the place that the adapter is at.
+abbrev pub Replies : (places room : ℕ) (ais : Bool) (device : Device) (place : Place) (id : ℕ) (b : List ℕ) → (Limits → State → Outcome State)
+    → (before after : Pending) → Reply → Type 0
+Replies places room ais device place id b o before after r =
+    (L : Limits) (s : State) → L .places ≡ places → L .room ≡ room → s .ais ≡ ais → s .pending ≡ before → s .device ≡ deviceOf device
+    → getD (s .adapters) id rules.free ≡ placeOf place
+    → Answers L s b (o L s) (r .answer) (stateWith s id (placeOf (r .place)) after (deviceOf (r .device))) b
+
+-- What a set request may do to the place of its adapter: nothing, set its masked field, or enter another.
+pub data Change : Type 0 where
+  keeps masks enters : Change
+
+-- a place changed no more than so; of a place that is entered nothing is said here
+abbrev pub Within : Change → Place → Place → Type 0
+Within keeps p p′ = p′ ≡ p
+Within masks p p′ = p′ ≡ withMasked (p′ .masked) p
+Within enters p p′ = Unit
+
+-- REGISTER enters a place, MODIFY sets its masked field, every other group leaves it
+unfoldable pub changeOf : ℕ → Change
+changeOf group = choose (eqb group 6) enters (choose (eqb group 7) masks keeps)
+
+-- What a request that touches no pending record promises of its reply: the answer; a refusal leaves the values equal; a place made here stays so;
+-- the place changes no more than so.
+pub record Replied (places room : ℕ) (ais : Bool) (device : Device) (place : Place) (id : ℕ) (b : List ℕ) (o : Limits → State → Outcome State) (change : Change) (r : Reply) : Type 0 where
+  pub answer : (p : Pending) → Replies places room ais device place id b o p p r
+  pub kept : (r .answer .code ≡ 0 → ⊥) → (r .device ≡ device) × (r .place ≡ place)
+  pub canonical : Canonical place → Canonical (r .place)
+  pub within : Within change place (r .place)

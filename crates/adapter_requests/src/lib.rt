@@ -1,13 +1,16 @@
-// Inner crate: the requests that touch no pending record, on the device record or on one adapter's place, by value.
+// Inner crate: the requests that touch no pending record, on a device record and one adapter place by value.
 ghost use mathlib.Core.Path.{_≡_};
-ghost use mathlib.Core.Bool.{Bool, true};
+ghost use mathlib.Core.Bool.{true, false};
 ghost use mathlib.Core.List.{List};
-ghost use Prim.Native.Nat.{ℕ};
-ghost use Rattle.rules.specs.State.{Limits, State};
-ghost use Rattle.rules.specs.Requests.{getAismAll, request};
-ghost use Rattle.answers.specs.Answers.{Answers, answered};
-ghost use Rattle.adapters.specs.Values.{deviceOf};
-ghost use Rattle.adapter_requests.specs.States.{payloadId, onPlace, OfModes, FlagSet, PlaceSet, ModesSet};
+ghost use Prim.Native.Nat.{ℕ, _≤_};
+ghost use lib.Dec.{eqb};
+ghost use lib.ListN.{length, getD};
+ghost use Rattle.rules.specs.State.{Limits, State, free, withDevice};
+ghost use Rattle.rules.specs.Bytes.{byte, field};
+ghost use Rattle.rules.specs.Requests.{apfEnable, apfDisableWait, adapterRegister, adapterModify, aism, setAismAll, getAismAll, setRequest, request};
+ghost use Rattle.answers.specs.Answers.{Answers};
+ghost use Rattle.adapters.specs.Values.{placeOf, deviceOf, Canonical};
+ghost use Rattle.adapter_requests.specs.States.{payloadId, onPlace, aboutOf, decided, placeAfter, withPlace, PlaceAsked, modesAfter, ModesAsked, changeOf, Within, Replied};
 use adapters::Device;
 use adapters::Place;
 use answers::Answer;
@@ -16,6 +19,7 @@ use answers::EINVAL;
 use answers::EOPNOTSUPP;
 use numbers::ADAPTER_MODIFY;
 use numbers::ADAPTER_REGISTER;
+use numbers::AIRQ_INJECT;
 use numbers::AISM;
 use numbers::AISM_ALL;
 use numbers::APF_DISABLE_WAIT;
@@ -23,6 +27,23 @@ use numbers::APF_ENABLE;
 use numbers::AdapterId;
 use numbers::NO_ADAPTER;
 use numbers::Subclass;
+
+// An answer, with the device record and the adapter place as they are then.
+pub struct Reply {
+    pub answer: Answer,
+    pub device: Device,
+    pub place: Place,
+}
+
+pub fn with_answer(answer: Answer, device: Device, place: Place) -> Reply
+    ensures { λ r. ⌜ r ≡ record { answer = answer; device = device; place = place } ⌝ }
+{
+    Reply {
+        answer,
+        device,
+        place,
+    }
+}
 
 // The id in a payload. A payload too short for one names no adapter.
 pub fn payload_id(payload: &[u8]) -> AdapterId
@@ -32,6 +53,19 @@ pub fn payload_id(payload: &[u8]) -> AdapterId
         return AdapterId(NO_ADAPTER);
     }
     AdapterId(numbers::read_be(payload, 0, 4))
+}
+
+// The adapter that a set request is about, if it is about one.
+pub fn about(group: u32, attr: u64, payload: &[u8]) -> AdapterId
+    ensures { λ r. ⌜ r .0 ≡ aboutOf group attr (now (payload .entry)) ⌝ }
+{
+    if group == AIRQ_INJECT {
+        return AdapterId(attr);
+    }
+    if on_place(group) {
+        return payload_id(payload);
+    }
+    AdapterId(NO_ADAPTER)
 }
 
 // Whether a set request is about an adapter's place: REGISTER, MODIFY.
@@ -44,241 +78,207 @@ pub fn on_place(group: u32) -> bool
     group == ADAPTER_MODIFY
 }
 
-// What a request about an adapter's place comes to: its code, 0 if accepted, and the place then.
-pub struct PlaceReply {
-    pub code: u32,
-    pub place: Place,
-}
-
-// Group 6: a REGISTER enters a new adapter.
-fn register(places: u64, place: Place, attr: u64, payload: &[u8]) -> PlaceReply
-    ensures { λ r. ⌜ PlaceSet places 6 attr place (r .place) (now (payload .entry)) (r .code) ⌝ }
+// Group 6: the code of a REGISTER, 0 if accepted.
+fn register_code(places: u64, place: Place, attr: u64, payload: &[u8]) -> u32
+    ensures code { λ r. ⌜ ((L : Limits) (s : State) → L .places ≡ places → getD (s .adapters) (payloadId (now (payload .entry))) free ≡ placeOf place → request L s adapterRegister attr (now (payload .entry)) ≡ decided r (withPlace (payloadId (now (payload .entry))) (placeAfter 6 (now (payload .entry)) (placeOf place)) s)) ⌝ }
+    ensures asked { λ r. ⌜ (r ≡ 0 → PlaceAsked 6 (now (payload .entry)) place) ⌝ }
 {
     if attr != 0 {
-        return PlaceReply {
-            code: EINVAL,
-            place,
-        };
+        return EINVAL;
     }
     if payload.len() < 8 {
-        return PlaceReply {
-            code: EFAULT,
-            place,
-        };
+        return EFAULT;
     }
     if places <= numbers::read_be(payload, 0, 4) {
-        return PlaceReply {
-            code: EINVAL,
-            place,
-        };
+        return EINVAL;
     }
     if place.used {
-        return PlaceReply {
-            code: EINVAL,
-            place,
-        };
+        return EINVAL;
     }
-    let isc = payload[4];
-    if 7 < isc {
-        return PlaceReply {
-            code: EINVAL,
-            place,
-        };
+    if 7 < payload[4] {
+        return EINVAL;
     }
-    let next = adapters::registered(
-        Subclass(isc),
-        payload[5] != 0,
-        payload[6] != 0,
-        payload[7] % 2 == 1,
-    );
-    PlaceReply {
-        code: 0,
-        place: next,
-    }
+    0
 }
 
-// Group 7: a MODIFY of type 1 masks or unmasks its adapter; types 2 and 3 change nothing.
-fn modify(places: u64, place: Place, attr: u64, payload: &[u8]) -> PlaceReply
-    ensures { λ r. ⌜ PlaceSet places 7 attr place (r .place) (now (payload .entry)) (r .code) ⌝ }
+// Group 7: the code of a MODIFY, 0 if accepted.
+fn modify_code(places: u64, place: Place, attr: u64, payload: &[u8]) -> u32
+    ensures code { λ r. ⌜ ((L : Limits) (s : State) → L .places ≡ places → getD (s .adapters) (payloadId (now (payload .entry))) free ≡ placeOf place → request L s adapterModify attr (now (payload .entry)) ≡ decided r (withPlace (payloadId (now (payload .entry))) (placeAfter 7 (now (payload .entry)) (placeOf place)) s)) ⌝ }
+    ensures asked { λ r. ⌜ (r ≡ 0 → PlaceAsked 7 (now (payload .entry)) place) ⌝ }
 {
     if attr != 0 {
-        return PlaceReply {
-            code: EINVAL,
-            place,
-        };
+        return EINVAL;
     }
     if payload.len() < 16 {
-        return PlaceReply {
-            code: EFAULT,
-            place,
-        };
+        return EFAULT;
     }
     if places <= numbers::read_be(payload, 0, 4) {
-        return PlaceReply {
-            code: EINVAL,
-            place,
-        };
+        return EINVAL;
     }
     if !place.used {
-        return PlaceReply {
-            code: EINVAL,
-            place,
-        };
+        return EINVAL;
     }
     let kind = payload[4];
     if kind == 0 {
-        return PlaceReply {
-            code: EINVAL,
-            place,
-        };
+        return EINVAL;
     }
     if 3 < kind {
-        return PlaceReply {
-            code: EINVAL,
-            place,
-        };
+        return EINVAL;
     }
-    if kind != 1 {
-        return PlaceReply { code: 0, place };
+    if kind == 1 {
+        if !place.maskable {
+            return EINVAL;
+        }
     }
-    if !place.maskable {
-        return PlaceReply {
-            code: EINVAL,
-            place,
-        };
-    }
-    let next = adapters::mask_set(place, payload[5] != 0);
-    PlaceReply {
-        code: 0,
-        place: next,
-    }
+    0
 }
 
-// A set request about an adapter's place.
-pub fn set_place(places: u64, place: Place, group: u32, attr: u64, payload: &[u8]) -> PlaceReply
+// The code of a request about an adapter's place, 0 if accepted.
+pub fn place_code(places: u64, place: Place, group: u32, attr: u64, payload: &[u8]) -> u32
     requires { ⌜ onPlace group ≡ true ⌝ }
-    ensures { λ r. ⌜ PlaceSet places group attr place (r .place) (now (payload .entry)) (r .code) ⌝ }
+    ensures { λ r. ⌜ ((L : Limits) (s : State) → L .places ≡ places → getD (s .adapters) (payloadId (now (payload .entry))) free ≡ placeOf place → request L s (setRequest group) attr (now (payload .entry)) ≡ decided r (withPlace (payloadId (now (payload .entry))) (placeAfter group (now (payload .entry)) (placeOf place)) s)) × (r ≡ 0 → PlaceAsked group (now (payload .entry)) place) ⌝ }
 {
     if group == ADAPTER_REGISTER {
-        return register(places, place, attr, payload);
+        return register_code(places, place, attr, payload);
     }
-    modify(places, place, attr, payload)
+    modify_code(places, place, attr, payload)
 }
 
-// What a request about the device record comes to: its code, 0 if accepted, and the record then.
-pub struct ModesReply {
-    pub code: u32,
-    pub device: Device,
+// The place after an accepted request about it.
+pub fn place_after(place: Place, group: u32, payload: &[u8]) -> Place
+    requires { ⌜ PlaceAsked group (now payload) place ⌝ }
+    ensures { λ r. ⌜ (placeOf r ≡ placeAfter group (now (payload .entry)) (placeOf place)) × (Canonical place → Canonical r) × (onPlace group ≡ true → Within (changeOf group) place r) ⌝ }
+{
+    if group == ADAPTER_REGISTER {
+        return adapters::registered(
+            Subclass(payload[4]),
+            payload[5] != 0,
+            payload[6] != 0,
+            payload[7] % 2 == 1,
+        );
+    }
+    if payload[4] == 1 {
+        return adapters::mask_set(place, payload[5] != 0);
+    }
+    place
 }
 
-// Group 9: an AISM sets the mode of a subclass.
-fn set_mode(ais: bool, device: Device, attr: u64, payload: &[u8]) -> ModesReply
-    ensures { λ r. ⌜ ModesSet ais 9 attr device (r .device) (now (payload .entry)) (answered (r .code) 0) ⌝ }
+// Group 9: the code of an AISM, 0 if accepted.
+fn mode_code(ais: bool, attr: u64, payload: &[u8]) -> u32
+    ensures code { λ r. ⌜ ((L : Limits) (s : State) → s .ais ≡ ais → request L s aism attr (now (payload .entry)) ≡ decided r (withDevice (modesAfter 9 (now (payload .entry)) (s .device)) s)) ⌝ }
+    ensures asked { λ r. ⌜ (r ≡ 0 → ModesAsked 9 (now (payload .entry))) ⌝ }
 {
     if attr != 0 {
-        return ModesReply {
-            code: EINVAL,
-            device,
-        };
+        return EINVAL;
     }
     if !ais {
-        return ModesReply {
-            code: EOPNOTSUPP,
-            device,
-        };
+        return EOPNOTSUPP;
     }
     if payload.len() < 4 {
-        return ModesReply {
-            code: EFAULT,
-            device,
-        };
+        return EFAULT;
     }
-    let isc = payload[0];
-    if 7 < isc {
-        return ModesReply {
-            code: EINVAL,
-            device,
-        };
+    if 7 < payload[0] {
+        return EINVAL;
     }
-    let mode = numbers::read_be(payload, 2, 2);
-    if 1 < mode {
-        return ModesReply {
-            code: EINVAL,
-            device,
-        };
+    if 1 < numbers::read_be(payload, 2, 2) {
+        return EINVAL;
     }
-    let next = adapters::mode_set(device, Subclass(isc), mode == 1);
-    ModesReply {
-        code: 0,
-        device: next,
-    }
+    0
 }
 
-// Group 11, set: both masks.
-pub fn set_masks(ais: bool, device: Device, attr: u64, payload: &[u8]) -> ModesReply
-    ensures { λ r. ⌜ ModesSet ais 11 attr device (r .device) (now (payload .entry)) (answered (r .code) 0) ⌝ }
+// Group 11, set: the code, 0 if accepted.
+fn masks_code(ais: bool, attr: u64, payload: &[u8]) -> u32
+    ensures code { λ r. ⌜ ((L : Limits) (s : State) → s .ais ≡ ais → request L s setAismAll attr (now (payload .entry)) ≡ decided r (withDevice (modesAfter 11 (now (payload .entry)) (s .device)) s)) ⌝ }
+    ensures asked { λ r. ⌜ (r ≡ 0 → ModesAsked 11 (now (payload .entry))) ⌝ }
 {
     if attr != 0 {
-        return ModesReply {
-            code: EINVAL,
-            device,
-        };
+        return EINVAL;
     }
     if !ais {
-        return ModesReply {
-            code: EOPNOTSUPP,
-            device,
-        };
+        return EOPNOTSUPP;
     }
     if payload.len() < 2 {
-        return ModesReply {
-            code: EFAULT,
-            device,
-        };
+        return EFAULT;
     }
-    let masked = adapters::masks_set(device, payload[0], payload[1]);
-    ModesReply {
-        code: 0,
-        device: masked,
-    }
+    0
 }
 
-// Groups 4 and 5: the page-fault flag is on, or off.
-pub fn set_flag(device: Device, attr: u64, on: bool) -> ModesReply
-    ensures { λ r. ⌜ ((ais : Bool) (group : ℕ) (b : List ℕ) → FlagSet group on → ModesSet ais group attr device (r .device) b (answered (r .code) 0)) ⌝ }
+// Groups 4 and 5: the code, 0 if accepted.
+fn flag_code(attr: u64) -> u32
+    ensures { λ r. ⌜ ((L : Limits) (s : State) (b : List ℕ) → (request L s apfEnable attr b ≡ decided r (withDevice (modesAfter 4 b (s .device)) s)) × (request L s apfDisableWait attr b ≡ decided r (withDevice (modesAfter 5 b (s .device)) s))) ⌝ }
 {
     if attr != 0 {
-        return ModesReply {
-            code: EINVAL,
-            device,
-        };
+        return EINVAL;
     }
-    let next = adapters::apf_set(device, on);
-    ModesReply {
-        code: 0,
-        device: next,
+    0
+}
+
+// The code of a request about the device record, 0 if accepted. A group that is no request is refused here.
+pub fn modes_code(ais: bool, group: u32, attr: u64, payload: &[u8]) -> u32
+    requires { ⌜ (group ≡ 2 → ⊥) × (group ≡ 3 → ⊥) × (group ≡ 8 → ⊥) × (group ≡ 10 → ⊥) × (onPlace group ≡ false) ⌝ }
+    ensures { λ r. ⌜ ((L : Limits) (s : State) → s .ais ≡ ais → request L s (setRequest group) attr (now (payload .entry)) ≡ decided r (withDevice (modesAfter group (now (payload .entry)) (s .device)) s)) × (r ≡ 0 → ModesAsked group (now (payload .entry))) ⌝ }
+{
+    if group == APF_ENABLE {
+        return flag_code(attr);
+    }
+    if group == APF_DISABLE_WAIT {
+        return flag_code(attr);
+    }
+    if group == AISM {
+        return mode_code(ais, attr, payload);
+    }
+    if group == AISM_ALL {
+        return masks_code(ais, attr, payload);
+    }
+    EINVAL
+}
+
+// What an AISM asks for: a subclass, and whether its mode is SINGLE.
+pub struct Mode {
+    pub isc: Subclass,
+    pub single: bool,
+}
+
+pub fn mode_in(payload: &[u8]) -> Mode
+    requires { ⌜ 4 ≤ length (now payload) ⌝ }
+    ensures { λ r. ⌜ (r .isc .0 ≡ byte 0 (now (payload .entry))) × (r .single ≡ eqb (field 2 2 (now (payload .entry))) 1) ⌝ }
+{
+    Mode {
+        isc: Subclass(payload[0]),
+        single: numbers::read_be(payload, 2, 2) == 1,
     }
 }
 
-// A set request about the device record. A group that is no request at all is refused here.
-pub fn set_modes(ais: bool, device: Device, group: u32, attr: u64, payload: &[u8]) -> ModesReply
-    requires { ⌜ OfModes group ⌝ }
-    ensures { λ r. ⌜ ModesSet ais group attr device (r .device) (now (payload .entry)) (answered (r .code) 0) ⌝ }
+// What an AISM_ALL asks for.
+pub struct Masks {
+    pub simm: u8,
+    pub nimm: u8,
+}
+
+pub fn masks_in(payload: &[u8]) -> Masks
+    requires { ⌜ 2 ≤ length (now payload) ⌝ }
+    ensures { λ r. ⌜ (r .simm ≡ byte 0 (now (payload .entry))) × (r .nimm ≡ byte 1 (now (payload .entry))) ⌝ }
 {
-    if group == APF_ENABLE {
-        return set_flag(device, attr, true);
+    Masks {
+        simm: payload[0],
+        nimm: payload[1],
     }
-    if group == APF_DISABLE_WAIT {
-        return set_flag(device, attr, false);
-    }
+}
+
+// The device record after an accepted request about it, by value.
+pub fn modes_after(device: Device, group: u32, payload: &[u8]) -> Device
+    requires { ⌜ ModesAsked group (now payload) ⌝ }
+    ensures { λ r. ⌜ deviceOf r ≡ modesAfter group (now (payload .entry)) (deviceOf device) ⌝ }
+{
     if group == AISM {
-        return set_mode(ais, device, attr, payload);
+        let m = mode_in(payload);
+        return adapters::mode_set(device, m.isc, m.single);
     }
     if group == AISM_ALL {
-        return set_masks(ais, device, attr, payload);
+        let m = masks_in(payload);
+        return adapters::masks_set(device, m.simm, m.nimm);
     }
-    let code = EINVAL; // no set request has this group
-    ModesReply { code, device }
+    adapters::apf_set(device, group == APF_ENABLE)
 }
 
 // Group 11, get: both masks.
@@ -298,4 +298,39 @@ pub fn get_masks(ais: bool, device: Device, attr: u64, out: &mut [u8]) -> Answer
     out[0] = device.simm;
     out[1] = device.nimm;
     answers::accept(0)
+}
+
+// The set requests that touch no pending record, by value.
+pub fn set_values(
+    places: u64,
+    ais: bool,
+    device: Device,
+    place: Place,
+    group: u32,
+    attr: u64,
+    payload: &[u8],
+) -> Reply
+    requires { ⌜ (group ≡ 2 → ⊥) × (group ≡ 3 → ⊥) × (group ≡ 8 → ⊥) × (group ≡ 10 → ⊥) ⌝ }
+    ensures { λ r. ⌜ ((room : ℕ) → Replied places room ais device place (aboutOf group attr (now (payload .entry))) (now (payload .entry)) (λ L s. request L s (setRequest group) attr (now (payload .entry))) (changeOf group) r) ⌝ }
+{
+    if on_place(group) {
+        let code = place_code(places, place, group, attr, payload);
+        if code != 0 {
+            return with_answer(answers::refuse(code), device, place);
+        }
+        return with_answer(
+            answers::accept(0),
+            device,
+            place_after(place, group, payload),
+        );
+    }
+    let code = modes_code(ais, group, attr, payload);
+    if code != 0 {
+        return with_answer(answers::refuse(code), device, place); // the device record stays
+    }
+    with_answer(
+        answers::accept(0),
+        modes_after(device, group, payload),
+        place,
+    )
 }

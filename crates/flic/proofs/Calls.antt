@@ -15,8 +15,7 @@ use Rattle.adapters.proofs.Place as P
 use Rattle.adapter_requests.specs.States.{onPlace}
 use Rattle.adapter_requests.proofs.on_place as on-place
 use Rattle.adapter_requests.proofs.on_place.Symbol.{name as #on-place}
-use Rattle.adapter_requests.specs.States.{ModesSet}
-use Rattle.lent_requests.specs.Requests.{TableSet}
+use Rattle.lent_requests.specs.Requests.{ModesSet, PlaceSet}
 use Rattle.lent_table.proofs.Record.{ReadDevice}
 use Rattle.lent_table.proofs.Gives.{at-list, Lent, LentCell, gives}
 use Rattle.lent_requests.proofs.Payload.{payload, Payload, asks-record, asks-table}
@@ -86,12 +85,12 @@ module _ {M : Type 1} {𝓤 : URA M} {H : Heap 𝓤} {A : Atoms 𝓤} {K : Type 
   pub sets-place : K → (mem′ : Memory → SProp 𝓤) (run : Routine → Fun 𝓤) → FmC 𝓤 H (W .laws) C → Triple 𝓤 (C #set-place) (SetPlace 𝓤 H A mem′ run) → (κ : Lft) (q : Share) (b o : ℕ) (γ : GName) (ps : List ℕ) (ys : List Place) (bt ot : ℕ)
       → Room P.the-row (length ys) → (group attr : ℕ) → group < 2 ^ 32 → attr < 2 ^ 64 → onPlace group ≡ true
       → ((i j k : Item 𝓤) → Opds K W (i ∷ j ∷ k ∷ Γ) E xs (sliceVal (bt, ot) (length ys) ∷ vint w32 group ∷ vint w64 attr ∷ payload κ b o γ ps ∷ []))
-      → ((z : Answer) (v : Val) (zs : List Place) → TableSet group attr ys zs ps z → Is An.the-row z (v ∷ []) → Seq K W (‵ (row P.the-row fullShare zs bt ot) ∷ ‵ (flft κ q) ∷ ‵ (Payload κ b o γ ps) ∷ Γ) (lands C Λ E d v rest p))
+      → ((z : Answer) (v : Val) (zs : List Place) → PlaceSet group attr ys zs ps z → Is An.the-row z (v ∷ []) → Seq K W (‵ (row P.the-row fullShare zs bt ot) ∷ ‵ (flft κ q) ∷ ‵ (Payload κ b o γ ps) ∷ Γ) (lands C Λ E d v rest p))
       → Seq K W (‵ (row P.the-row fullShare ys bt ot) ∷ ‵ (flft κ q) ∷ ‵ (Payload κ b o γ ps) ∷ Γ) (runs C Λ E (seq (call #set-place xs d) rest) p)
   sets-place t mem′ run fm known κ q b o γ ps ys bt ot room group attr group-fits attr-fits on os k =
       asks-table t fm (SetPlace 𝓤 H A mem′ run) known κ q b o γ ps ys bt ot room
       (λ ν δ. (((ν ∷ [], (κ, tt)), (fullShare, (q, tt)), tt, (at-list bt ot δ ys, (group, (attr, (at-list b o γ ps, tt)))), (sliceVal (bt, ot) (length ys) ∷ [], (vint w32 group ∷ [], (vint w64 attr ∷ [], (payload κ b o γ ps ∷ [], tt))))), tt))
-      (with-two 𝓤 H A mem′ run W κ q b o γ ps true group attr group-fits attr-fits) (two-grow 𝓤 H A mem′ run W κ q b o γ ps true group attr group-fits attr-fits) An.the-row {Y = Unit {0} × (Unit {0} × (Unit {0} × Unit {0}))} (λ w. fsep ftrue (fsep ftrue (fsep ftrue ftrue))) (λ z zs. TableSet group attr ys zs ps z)
+      (with-two 𝓤 H A mem′ run W κ q b o γ ps true group attr group-fits attr-fits) (two-grow 𝓤 H A mem′ run W κ q b o γ ps true group attr group-fits attr-fits) An.the-row {Y = Unit {0} × (Unit {0} × (Unit {0} × Unit {0}))} (λ w. fsep ftrue (fsep ftrue (fsep ftrue ftrue))) (λ z zs. PlaceSet group attr ys zs ps z)
       (λ ν δ. qed W ((‵ (flft (ν ∷ []) fullShare) ⊛ ‵ (flft κ q) ⊛ ‵ ftrue) ∷ ‵ (fsep (Lent P.the-row ys bt ot (ν ∷ []) δ) (with-two 𝓤 H A mem′ run W κ q b o γ ps true group attr group-fits attr-fits (fsep (Payload κ b o γ ps) ftrue))) ∷ []) ∵ says ! on $ done !)
       (λ ν δ v. id⊢ 𝓤 _) (λ ν δ. os) k
 

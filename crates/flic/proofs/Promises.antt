@@ -23,8 +23,7 @@ use Rattle.list_image.proofs.Laws.{places-all, places-take}
 use Rattle.list_write.specs.Write.{Written}
 use Rattle.list_image.proofs.Packed.{unpacked-zero, unpacked-table}
 use Rattle.lent_table.specs.Table.{snapTo, restored}
-use Rattle.adapter_requests.specs.States.{ModesSet}
-use Rattle.lent_requests.specs.Requests.{TableSet}
+use Rattle.lent_requests.specs.Requests.{ModesSet, PlaceSet}
 use Rattle.lent_table.proofs.Tables.{snap-all, restored-all, restored-whole}
 use Rattle.lent_requests.proofs.Maps.{map-replicate}
 use Rattle.lent_requests.proofs.Laws.{canonical-unused}
@@ -197,11 +196,11 @@ module _ (attr : ℕ) (c c′ : Controller) (d : Device) (t : List Place) (b : L
 
 -- about an adapter's place, and about the device record: nothing else changes
 module _ (group attr : ℕ) (c : Controller) (d : Device) (t : List Place) (b : List ℕ) (r : Answer) (e : length t ≡ limitsOf c .places) (h : Valid c d t) where
-  place-steps : (t′ : List Place) → TableSet group attr t t′ b r → Steps (setAttr group attr) c c d d t t′ b (saw r b)
+  place-steps : (t′ : List Place) → PlaceSet group attr t t′ b r → Steps (setAttr group attr) c c d d t t′ b (saw r b)
   unfolding stateOf
   place-steps t′ f = as-step group attr c c d t b r e h d t′ (f .answer (limitsOf c) (stateOf c d t) (limits-sized c .places) refl)
 
-  pub place-promises : (t′ : List Place) → TableSet group attr t t′ b r → Requested (setAttr group attr) c c d d t t′ b (saw r b)
+  pub place-promises : (t′ : List Place) → PlaceSet group attr t t′ b r → Requested (setAttr group attr) c c d d t t′ b (saw r b)
   place-promises t′ f =
       record {
         steps = place-steps t′ f;

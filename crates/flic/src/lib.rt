@@ -89,9 +89,7 @@ pub extern "C" fn flic_set(
         if r.count != 1 {
             return r; // refused, or dropped
         }
-        let again = lent_table::read_device(d);
-        let next = adapters::after_injection(c.ais, again, place);
-        lent_table::store_device(d, next);
+        lent_table::note_injection(d, c.ais, place);
         return r;
     }
     if adapter_requests::on_place(group) {

@@ -1,43 +1,89 @@
--- From what a request promises of the place at the payload's id to what it promises of the table.
-use Rattle.numbers.proofs.Basics.{ℕ, _≡_, refl, ap, sym, subst, _∙_, List, map, arith, getD, set, length-set}
-use Rattle.numbers.proofs.Basics.{List·getD-map}
-use lib.Seq.{set-getD}
+-- From a request's code, and what it changes where that is 0, to what the request promises.
+use Rattle.numbers.proofs.Basics.{ℕ, _≡_, refl, ap, sym, subst, _∙_, Bool, true, false, List, map, arith, getD, set}
+use Rattle.numbers.proofs.Basics.{length-set, List·getD-map, eqb, eqb-false}
 use Rattle.rules.specs.Bytes.{choose}
-use Rattle.rules.specs.State.{State, free}
-use Rattle.rules.specs.Outcome.{tell}
+use Rattle.rules.specs.State.{Limits, State, free, withDevice}
+use Rattle.rules.specs.Outcome.{result, tell}
+use Rattle.rules.specs.Requests.{setRequest, request}
+use Rattle.rules.specs.Machine.{answerOf}
 use Rattle.rules.proofs.Lists.{all-set, all-get}
+use Rattle.adapters.specs.declared.Device.{Device}
 use Rattle.adapters.specs.declared.Place.{Place}
-use Rattle.adapters.specs.Values.{placeOf, unused, Canonical}
+use Rattle.adapters.specs.Values.{placeOf, deviceOf, deviceFrom, unused, Canonical, withMasked}
 use Rattle.list_image.specs.Image.{imageSize}
-use Rattle.adapter_requests.specs.States.{payloadId, PlaceSet}
-use Rattle.lent_requests.specs.Requests.{withTable, TableSet}
-use Rattle.lent_requests.proofs.Answered.{refused}
+use Rattle.adapter_requests.specs.States.{payloadId, onPlace, decided, placeAfter, withPlace, modesAfter, Within, changeOf}
+use Rattle.adapter_requests.proofs.Laws.{decided-refused, decided-accepted, on-place-7}
+use Rattle.lent_requests.specs.Requests.{ModesSet, withTable, PlaceSet}
+use Rattle.lent_requests.proofs.Answered.{refused, accepted}
 use Rattle.lent_requests.proofs.Maps.{map-set}
 
+-- ---- the device record
+module _ (ais : Bool) (group attr : ℕ) (d : Device) (b : List ℕ) (code : ℕ) where
+  abbrev pub ModesDecided : Type 0
+  ModesDecided = (L : Limits) (s : State) → s .ais ≡ ais → request L s (setRequest group) attr b ≡ decided code (withDevice (modesAfter group b (s .device)) s)
+
+  pub modes-refused : ModesDecided → (code ≡ 0 → ⊥) → ModesSet ais group attr d d b (refused code)
+  unfolding result
+  modes-refused f n =
+      record {
+        answer = λ L s e h. ap (answerOf L s b) (f L s e ∙ decided-refused _ _ n) ∙ (λ i. tell code 0 (withDevice (h i) s) b);
+        kept = λ _. refl;
+      }
+
+  pub modes-accepted : ModesDecided → code ≡ 0 → ModesSet ais group attr d (deviceFrom (modesAfter group b (deviceOf d))) b (accepted 0)
+  unfolding result
+  modes-accepted f z =
+      record {
+        answer = λ L s e h. ap (answerOf L s b) (f L s e ∙ decided-accepted _ _ z) ∙ (λ i. tell 0 0 (withDevice (modesAfter group b (h i)) s) b);
+        kept = λ n. absurd (n refl);
+      }
+
+-- ---- the table
 pub canonical-unused : Canonical unused
 canonical-unused = record { unusedOne = λ e. refl; iscSmall = omega arith; maskedMaskable = λ e. e }
 
-module _ (group attr : ℕ) (t : List Place) (b : List ℕ) (p : Place) where
+-- a place that MODIFY leaves differs in its masked field alone
+pub place-within : (group : ℕ) (p q : Place) → onPlace group ≡ true → Within (changeOf group) p q → choose (eqb group 6) q (withMasked (q .masked) p) ≡ q
+unfolding changeOf choose
+place-within group p q o w = go (eqb group 6) refl
+  where
+    go : (t : Bool) → eqb group 6 ≡ t → choose t q (withMasked (q .masked) p) ≡ q
+    go true e = refl
+    go false e = sym (subst (λ (g : ℕ). Within (changeOf g) p q) (on-place-7 group o (eqb-false group 6 e)) w)
+
+module _ (group attr : ℕ) (t : List Place) (b : List ℕ) (code : ℕ) where
   abbrev id : ℕ
   id = payloadId b
 
   abbrev place : Place
   place = getD t id unused
 
+  abbrev pub PlaceDecided : Type 0
+  PlaceDecided = (L : Limits) (s : State) → L .places ≡ imageSize → getD (s .adapters) id free ≡ placeOf place
+      → request L s (setRequest group) attr b ≡ decided code (withPlace id (placeAfter group b (placeOf place)) s)
+
   -- the place as the rules see it
   seen : (s : State) → s .adapters ≡ map placeOf t → getD (s .adapters) id free ≡ placeOf place
   unfolding placeOf choose
   seen s h = ap (λ l. getD l id free) h ∙ List·getD-map placeOf t id unused
 
-  pub table-set : {code : ℕ} → PlaceSet imageSize group attr place p b code → TableSet group attr t (set t id p) b (refused code)
-  table-set {code} f =
+  pub place-refused : PlaceDecided → (code ≡ 0 → ⊥) → PlaceSet group attr t t b (refused code)
+  unfolding result
+  place-refused f n =
       record {
-        answer = λ L s e h. f .answer L s e (seen s h) ∙ (λ i. tell code 0 (withTable (((λ j. set (h j) id (placeOf p)) ∙ sym (map-set placeOf t id p)) i) s) b);
-        kept = λ n. ap (set t id) (f .kept n) ∙ set-getD t id unused;
-        canonical = λ a. all-set Canonical t id p a (f .canonical (all-get Canonical t id unused a canonical-unused));
-        same-length = length-set t id p;
+        answer = λ L s e h. ap (answerOf L s b) (f L s e (seen s h) ∙ decided-refused _ _ n) ∙ (λ i. tell code 0 (withTable (h i) s) b);
+        kept = λ _. refl;
+        canonical = λ c. c;
+        same-length = refl;
       }
 
-  -- a refusal: the table as it was
-  pub table-kept : {code : ℕ} → (code ≡ 0 → ⊥) → PlaceSet imageSize group attr place p b code → TableSet group attr t t b (refused code)
-  table-kept {code} n f = subst (λ (l : List Place). TableSet group attr t l b (refused code)) (table-set f .kept n) (table-set f)
+  pub place-accepted : PlaceDecided → code ≡ 0 → (p : Place) → placeOf p ≡ placeAfter group b (placeOf place) → (Canonical place → Canonical p) → PlaceSet group attr t (set t id p) b (accepted 0)
+  unfolding result
+  place-accepted f z p e c =
+      record {
+        answer = λ L s l h. ap (answerOf L s b) (f L s l (seen s h) ∙ decided-accepted _ _ z)
+            ∙ (λ i. tell 0 0 (withTable (((λ j. set (h j) id ((sym e) j)) ∙ sym (map-set placeOf t id p)) i) s) b);
+        kept = λ n. absurd (n refl);
+        canonical = λ a. all-set Canonical t id p a (c (all-get Canonical t id unused a canonical-unused));
+        same-length = length-set t id p;
+      }

@@ -1,8 +1,8 @@
 -- The calls of the functions over a table, each as one step of a walk.
 --     looks-up, snapshots                  the caller holds the table's memory, `row`, as it does while its borrow is open: it is lent for a lifetime of the call and comes back
 --     looks-up-shared, snapshots-shared    the caller passes its own `&[Place]` on: it holds the token of the slice's lifetime and what the slice owns (Gives.antt's `Shared`), and keeps both
---     registers, restores                  row ys ∷ Γ  ⟶  row of the new table ∷ Γ
-use Rattle.lent_table.proofs.Walk.{refl, ℕ, _<_, _^_, [], _∷_, List, length, getD, set, URA, fullShare, w64, Val, vunit, vint, SProp, ent, sep, snd∗, exE, id⊢, GName, Lft, Share, ftrue, flft, Memory, Routine, Heap, Env, Calls, Loops, Atoms, sem, Fun, Given, Item, Seq, runs, lands, ‵, _⊛_, _$_, _∵_, !, qed, move, join, fjoin, frame, done, Opds, FmC, Is, uint-makes, u64, sliceVal, Room, row, owned, nothing, tripleOf, Contract, Triple, ensured, lasts}
+--     registers, masks, restores           row ys ∷ Γ  ⟶  row of the new table ∷ Γ
+use Rattle.lent_table.proofs.Walk.{refl, ℕ, _<_, _^_, Bool, [], _∷_, List, length, getD, set, URA, fullShare, w64, Val, vunit, vint, vbool, SProp, ent, sep, snd∗, exE, id⊢, GName, Lft, Share, ftrue, flft, Memory, Routine, Heap, Env, Calls, Loops, Atoms, sem, Fun, Given, Item, Seq, runs, lands, ‵, _⊛_, _$_, _∵_, !, qed, move, join, fjoin, frame, done, Opds, FmC, Is, Boolean, bool-makes, uint-makes, u64, sliceVal, Room, row, owned, nothing, tripleOf, Contract, Triple, ensured, lasts}
 use types.Kit as Kit
 use mir.Syntax.{Place as Where, Body as Code, Opd as Operand, seq, call}
 use denote.Struct.Laws as LL
@@ -10,7 +10,7 @@ use Rattle.numbers.specs.declared.AdapterId.{AdapterId}
 use Rattle.numbers.proofs.AdapterId as I
 use Rattle.numbers.proofs.AdapterId.Laws as I′
 use Rattle.adapters.specs.declared.Place.{Place}
-use Rattle.adapters.specs.Values.{unused}
+use Rattle.adapters.specs.Values.{unused, withMasked}
 use Rattle.adapters.proofs.Place as T
 use Rattle.adapters.proofs.Place.Laws as T′
 use Rattle.lent_table.specs.Table.{snapTo, restored}
@@ -23,6 +23,8 @@ use Rattle.lent_table.proofs.snapshot as snapshot
 use Rattle.lent_table.proofs.snapshot.Symbol.{name as #snapshot}
 use Rattle.lent_table.proofs.register as register
 use Rattle.lent_table.proofs.register.Symbol.{name as #register}
+use Rattle.lent_table.proofs.mask as mask
+use Rattle.lent_table.proofs.mask.Symbol.{name as #mask}
 use Rattle.lent_table.proofs.restore as restore
 use Rattle.lent_table.proofs.restore.Symbol.{name as #restore}
 use Rattle.list_image.specs.Image.{imageSize}
@@ -36,6 +38,9 @@ module _ {M : Type 1} (𝓤 : URA M) (H : Heap 𝓤) (A : Atoms 𝓤) (mem′ : 
 
   abbrev pub Register : Contract 𝓤
   Register = tripleOf 𝓤 H A register.signature (register.spec 𝓤 H A mem′ run)
+
+  abbrev pub Mask : Contract 𝓤
+  Mask = tripleOf 𝓤 H A mask.signature (mask.spec 𝓤 H A mem′ run)
 
   abbrev pub Restore : Contract 𝓤
   Restore = tripleOf 𝓤 H A restore.signature (restore.spec 𝓤 H A mem′ run)
@@ -85,6 +90,14 @@ module _ {M : Type 1} (𝓤 : URA M) (H : Heap 𝓤) (A : Atoms 𝓤) (mem′ : 
           qed W (‵ (flft κ q) ∷ ‵ (Lent R ys b o κ γ) ∷ []) ∵ nothing ! $ move ! (1 ∷ 0 ∷ []) $ join ! $
           nothing ! $ owned ! R (Is R) (makes 𝓤 H A W) a _ ga $ fjoin ! $ owned ! I.the-row (Is I.the-row) (makes-id 𝓤 H A W) id _ g $ fjoin ! $ move ! (2 ∷ 0 ∷ []) $ fjoin ! $ move ! (1 ∷ 0 ∷ []) $ join ! $ frame ! $ done !
 
+      abbrev to-mask : AdapterId → Bool → Mask .Ghost
+      to-mask id a = (((κ, tt), (q, tt), tt, (at-list b o γ ys, (id, (a, tt))), (s ∷ [], (I′.lowered id ∷ [], (vbool a ∷ [], tt)))), tt)
+
+      goes-mask : (id : AdapterId) (a : Bool) → FitsId id → ent 𝓤 (sep 𝓤 (A .lft κ q) (sem 𝓤 H A (Lent R ys b o κ γ))) (Mask .pre (to-mask id a))
+      goes-mask id a g =
+          qed W (‵ (flft κ q) ∷ ‵ (Lent R ys b o κ γ) ∷ []) ∵ nothing ! $ move ! (1 ∷ 0 ∷ []) $ join ! $
+          nothing ! $ owned ! Boolean (Is Boolean) (bool-makes 𝓤 H A W) a _ refl $ fjoin ! $ owned ! I.the-row (Is I.the-row) (makes-id 𝓤 H A W) id _ g $ fjoin ! $ move ! (2 ∷ 0 ∷ []) $ fjoin ! $ move ! (1 ∷ 0 ∷ []) $ join ! $ frame ! $ done !
+
       abbrev to-restore : ℕ → List ℕ → Restore .Ghost
       to-restore n all = (((κ, tt), (q, tt), tt, (at-list b o γ ys, (n, (all, tt))), (s ∷ [], (vint w64 n ∷ [], (low-image all ∷ [], tt)))), tt)
 
@@ -128,6 +141,15 @@ module _ {M : Type 1} {𝓤 : URA M} {H : Heap 𝓤} {A : Atoms 𝓤} {K : Type 
   registers t mem′ run fm known ys id a b o room g ga os k =
       changes-row R ys b o t fm (Register 𝓤 H A mem′ run) known room (λ ν δ. to-register 𝓤 H A mem′ run W b o ys (ν ∷ []) fullShare δ id a) (λ ν δ. goes-register 𝓤 H A mem′ run W b o ys (ν ∷ []) fullShare δ id a g ga)
       (set ys (id .0) a) no-others (λ ν δ w. id⊢ 𝓤 _) (λ ν δ. os) k
+
+  pub masks : K → (mem′ : Memory → SProp 𝓤) (run : Routine → Fun 𝓤) → FmC 𝓤 H (W .laws) C → Triple 𝓤 (C #mask) (Mask 𝓤 H A mem′ run)
+      → (ys : List Place) (id : AdapterId) (a : Bool) (b o : ℕ) → Room R (length ys) → FitsId id
+      → ((i j : Item 𝓤) → Opds K W (i ∷ j ∷ Γ) E xs (sliceVal (b, o) (length ys) ∷ I′.lowered id ∷ vbool a ∷ []))
+      → Seq K W (‵ (row R fullShare (set ys (id .0) (withMasked a (getD ys (id .0) unused))) b o) ∷ Γ) (lands C Λ E d vunit rest p)
+      → Seq K W (‵ (row R fullShare ys b o) ∷ Γ) (runs C Λ E (seq (call #mask xs d) rest) p)
+  masks t mem′ run fm known ys id a b o room g os k =
+      changes-row R ys b o t fm (Mask 𝓤 H A mem′ run) known room (λ ν δ. to-mask 𝓤 H A mem′ run W b o ys (ν ∷ []) fullShare δ id a) (λ ν δ. goes-mask 𝓤 H A mem′ run W b o ys (ν ∷ []) fullShare δ id a g)
+      (set ys (id .0) (withMasked a (getD ys (id .0) unused))) no-others (λ ν δ w. id⊢ 𝓤 _) (λ ν δ. os) k
 
   pub restores : K → (mem′ : Memory → SProp 𝓤) (run : Routine → Fun 𝓤) → FmC 𝓤 H (W .laws) C → Triple 𝓤 (C #restore) (Restore 𝓤 H A mem′ run)
       → (ys : List Place) (n : ℕ) (all : List ℕ) (b o : ℕ) → Room R (length ys) → n < 2 ^ 64 → FitsImage all

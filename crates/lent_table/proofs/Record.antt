@@ -1,29 +1,37 @@
 -- The calls of the functions over the device record, each as one step of a walk that holds the record's memory, its cell.
---     reads-device     the cell at h ∷ Γ  ⟶  the same, the result is h
---     stores-device    the cell at h ∷ Γ  ⟶  the cell at m ∷ Γ
-use Rattle.lent_table.proofs.Walk.{_≡_, refl, sym, ap, subst, ℕ, [], _∷_, List, URA, fullShare, named, Val, vunit, vptr, SProp, ent, sep, snd∗, exE, id⊢, GName, Lft, Share, fobs, fbor, Body, mem, ftrue, flft, Memory, Routine, Heap, Env, Calls, Loops, Atoms, sem, Fun, fact, Given, Item, Seq, runs, lands, ‵, raw, some, later, _⊛_, _$_, _∵_, !, qed, move, drop, use1, use2, split, join, pick, rewrite, fjoin, frame, await, done, Opds, FmC, RattleType, Is, shows, cellAt, RefT, ShrRef, only, owned, peeks, heard, nothing, spelt, tripleOf, Contract, Triple, calls-at, ensured, lasts}
+--     reads-device                                                     the cell at h ∷ Γ  ⟶  the same, the result is h
+--     stores-device, sets-mode, sets-masks, sets-flag, notes-injection  the cell at h ∷ Γ  ⟶  the cell at the new record ∷ Γ
+use Rattle.lent_table.proofs.Walk.{_≡_, refl, sym, ap, subst, ℕ, _<_, _≤_, _^_, Bool, w8, vint, vbool, Boolean, bool-makes, uint-makes, u8, says, Fml, mean, [], _∷_, List, URA, fullShare, named, Val, vunit, vptr, SProp, ent, sep, snd∗, exE, id⊢, GName, ftrue, flft, Memory, Routine, Heap, Env, Calls, Loops, Atoms, sem, Fun, fact, Given, Item, Seq, runs, lands, ‵, raw, some, later, _⊛_, _$_, _∵_, !, qed, move, drop, use1, use2, split, join, pick, rewrite, fjoin, frame, await, done, Opds, FmC, RattleType, Is, shows, cellAt, RefT, ShrRef, only, owned, peeks, heard, nothing, spelt, tripleOf, Contract, Triple, calls-at, ensured, lasts}
 use types.Kit as Kit
-use mir.Syntax.{Place, Body as Code, Opd as Operand, seq, call}
+use mir.Syntax.{Name, Place, Body as Code, Opd as Operand, seq, call}
 use denote.Struct.Laws as LL
+use Rattle.numbers.specs.declared.Subclass.{Subclass}
+use Rattle.numbers.proofs.Subclass as S
+use Rattle.numbers.proofs.Subclass.Laws as S′
 use Rattle.adapters.specs.declared.Device.{Device}
+use Rattle.adapters.specs.declared.Place.{Place as Adapter}
+use Rattle.adapters.proofs.Place as P
+use Rattle.adapters.proofs.Place.Laws as P′
+use Rattle.adapters.specs.Values.{deviceOf, deviceFrom, modeSet, injectedDevice}
 use Rattle.adapters.proofs.Device as D
 use Rattle.adapters.proofs.Device.Laws as D′
 use Rattle.lent_table.proofs.Rows.{shares-cell, cell-shared-back}
-use Rattle.lent_table.proofs.Gives.{no-other, LentCell, changes-cell}
+use Rattle.lent_table.proofs.Gives.{no-other, no-others, Leaves, last-value, LentCell, changes-cell}
 use Rattle.lent_table.proofs.read_device as read-device
 use Rattle.lent_table.proofs.read_device.Symbol.{name as #read-device}
+use Rattle.lent_table.proofs.set_mode as set-mode
+use Rattle.lent_table.proofs.set_mode.Symbol.{name as #set-mode}
+use Rattle.lent_table.proofs.set_masks as set-masks
+use Rattle.lent_table.proofs.set_masks.Symbol.{name as #set-masks}
+use Rattle.lent_table.proofs.set_flag as set-flag
+use Rattle.lent_table.proofs.set_flag.Symbol.{name as #set-flag}
+use Rattle.lent_table.proofs.note_injection as note-injection
+use Rattle.lent_table.proofs.note_injection.Symbol.{name as #note-injection}
 use Rattle.lent_table.proofs.store_device as store-device
 use Rattle.lent_table.proofs.store_device.Symbol.{name as #store-device}
 
 abbrev R : RattleType
 R = D.the-row
-
--- the record's machine value, that it is one, and the record behind its reference
-abbrev pub FitsDevice : Device → Type 0
-FitsDevice d = Is D.the-row d (D′.lowered d ∷ [])
-
-abbrev pub Had : {M : Type 1} {𝓤 : URA M} (κ : Lft) (q : Share) (b o : ℕ) (γ : GName) → Device → List (Item 𝓤) → List (Item 𝓤)
-Had κ q b o γ d Γ = ‵ (fobs γ (D.the-row .coded .code d)) ∷ ‵ (fbor κ (Body (mem D.the-row) b o γ)) ∷ ‵ (flft κ q) ∷ Γ
 
 abbrev at-rec : ℕ → ℕ → GName → Device → RefT Device
 at-rec b o δ h = record { ptr = (b, o); name = δ; now = h }
@@ -34,6 +42,18 @@ module _ {M : Type 1} (𝓤 : URA M) (H : Heap 𝓤) (A : Atoms 𝓤) (mem′ : 
 
   abbrev pub StoreDevice : Contract 𝓤
   StoreDevice = tripleOf 𝓤 H A store-device.signature (store-device.spec 𝓤 H A mem′ run)
+
+  abbrev pub SetMode : Contract 𝓤
+  SetMode = tripleOf 𝓤 H A set-mode.signature (set-mode.spec 𝓤 H A mem′ run)
+
+  abbrev pub SetMasks : Contract 𝓤
+  SetMasks = tripleOf 𝓤 H A set-masks.signature (set-masks.spec 𝓤 H A mem′ run)
+
+  abbrev pub SetFlag : Contract 𝓤
+  SetFlag = tripleOf 𝓤 H A set-flag.signature (set-flag.spec 𝓤 H A mem′ run)
+
+  abbrev pub NoteInjection : Contract 𝓤
+  NoteInjection = tripleOf 𝓤 H A note-injection.signature (note-injection.spec 𝓤 H A mem′ run)
 
   module _ (W : Given 𝓤 H A) (b o : ℕ) (h m : Device) (ν : ℕ) (δ : GName) where
     abbrev to-read : ReadDevice .Ghost
@@ -52,6 +72,36 @@ module _ {M : Type 1} (𝓤 : URA M) (H : Heap 𝓤) (A : Atoms 𝓤) (mem′ : 
     goes-set g = qed W (‵ (flft (ν ∷ []) fullShare) ∷ ‵ (LentCell R h b o (ν ∷ []) δ) ∷ []) ∵ nothing ! $ move ! (1 ∷ 0 ∷ []) $ join ! $
         nothing ! $ owned ! R (Is R) (LL.makes D.the-type D′.the-plain 𝓤 H A) m _ g $ fjoin ! $ move ! (2 ∷ 0 ∷ []) $ fjoin ! $ move ! (1 ∷ 0 ∷ []) $ join ! $ frame ! $ done !
 
+  -- the same for the mode functions
+  module _ (W : Given 𝓤 H A) (b o : ℕ) (h : Device) (ν : ℕ) (δ : GName) where
+    abbrev to-mode : Subclass → Bool → SetMode .Ghost
+    to-mode isc single = (((ν ∷ [], tt), (fullShare, tt), tt, (at-rec b o δ h, (isc, (single, tt))), (vptr b o ∷ [], (S′.lowered isc ∷ [], (vbool single ∷ [], tt)))), tt)
+
+    goes-mode : (isc : Subclass) (single : Bool) → Is S.the-row isc (S′.lowered isc ∷ []) → isc .0 ≤ 7 → ent 𝓤 (sep 𝓤 (A .lft (ν ∷ []) fullShare) (sem 𝓤 H A (LentCell R h b o (ν ∷ []) δ))) (SetMode .pre (to-mode isc single))
+    goes-mode isc single g few = qed W (‵ (flft (ν ∷ []) fullShare) ∷ ‵ (LentCell R h b o (ν ∷ []) δ) ∷ []) ∵ nothing ! $ move ! (1 ∷ 0 ∷ []) $ join ! $
+        nothing ! $ owned ! Boolean (Is Boolean) (bool-makes 𝓤 H A W) single _ refl $ fjoin ! $ owned ! S.the-row (Is S.the-row) (LL.makes S.the-type S′.the-plain 𝓤 H A) isc _ g $ fjoin ! $ move ! (2 ∷ 0 ∷ []) $ fjoin ! $ move ! (1 ∷ 0 ∷ []) $ join ! $ says ! few $ done !
+
+    abbrev to-masks : ℕ → ℕ → SetMasks .Ghost
+    to-masks simm nimm = (((ν ∷ [], tt), (fullShare, tt), tt, (at-rec b o δ h, (simm, (nimm, tt))), (vptr b o ∷ [], (vint w8 simm ∷ [], (vint w8 nimm ∷ [], tt)))), tt)
+
+    goes-masks : (simm nimm : ℕ) → simm < 2 ^ 8 → nimm < 2 ^ 8 → ent 𝓤 (sep 𝓤 (A .lft (ν ∷ []) fullShare) (sem 𝓤 H A (LentCell R h b o (ν ∷ []) δ))) (SetMasks .pre (to-masks simm nimm))
+    goes-masks simm nimm gs gn = qed W (‵ (flft (ν ∷ []) fullShare) ∷ ‵ (LentCell R h b o (ν ∷ []) δ) ∷ []) ∵ nothing ! $ move ! (1 ∷ 0 ∷ []) $ join ! $
+        nothing ! $ owned ! u8 (Is u8) (uint-makes 𝓤 H A W w8) nimm _ (refl, gn) $ fjoin ! $ owned ! u8 (Is u8) (uint-makes 𝓤 H A W w8) simm _ (refl, gs) $ fjoin ! $ move ! (2 ∷ 0 ∷ []) $ fjoin ! $ move ! (1 ∷ 0 ∷ []) $ join ! $ frame ! $ done !
+
+    abbrev to-flag : Bool → SetFlag .Ghost
+    to-flag on = (((ν ∷ [], tt), (fullShare, tt), tt, (at-rec b o δ h, (on, tt)), (vptr b o ∷ [], (vbool on ∷ [], tt))), tt)
+
+    goes-flag : (on : Bool) → ent 𝓤 (sep 𝓤 (A .lft (ν ∷ []) fullShare) (sem 𝓤 H A (LentCell R h b o (ν ∷ []) δ))) (SetFlag .pre (to-flag on))
+    goes-flag on = qed W (‵ (flft (ν ∷ []) fullShare) ∷ ‵ (LentCell R h b o (ν ∷ []) δ) ∷ []) ∵ nothing ! $ move ! (1 ∷ 0 ∷ []) $ join ! $
+        nothing ! $ owned ! Boolean (Is Boolean) (bool-makes 𝓤 H A W) on _ refl $ fjoin ! $ move ! (2 ∷ 0 ∷ []) $ fjoin ! $ move ! (1 ∷ 0 ∷ []) $ join ! $ frame ! $ done !
+
+    abbrev to-note : Bool → Adapter → NoteInjection .Ghost
+    to-note ais p = (((ν ∷ [], tt), (fullShare, tt), tt, (at-rec b o δ h, (ais, (p, tt))), (vptr b o ∷ [], (vbool ais ∷ [], (P′.lowered p ∷ [], tt)))), tt)
+
+    goes-note : (ais : Bool) (p : Adapter) → Is P.the-row p (P′.lowered p ∷ []) → p .isc .0 ≤ 7 → ent 𝓤 (sep 𝓤 (A .lft (ν ∷ []) fullShare) (sem 𝓤 H A (LentCell R h b o (ν ∷ []) δ))) (NoteInjection .pre (to-note ais p))
+    goes-note ais p g few = qed W (‵ (flft (ν ∷ []) fullShare) ∷ ‵ (LentCell R h b o (ν ∷ []) δ) ∷ []) ∵ nothing ! $ move ! (1 ∷ 0 ∷ []) $ join ! $
+        nothing ! $ owned ! P.the-row (Is P.the-row) (LL.makes P.the-type P′.the-plain 𝓤 H A) p _ g $ fjoin ! $ owned ! Boolean (Is Boolean) (bool-makes 𝓤 H A W) ais _ refl $ fjoin ! $ move ! (2 ∷ 0 ∷ []) $ fjoin ! $ move ! (1 ∷ 0 ∷ []) $ join ! $ says ! few $ done !
+
 module _ {M : Type 1} {𝓤 : URA M} {H : Heap 𝓤} {A : Atoms 𝓤} {K : Type 0} {W : Given 𝓤 H A} {Γ : List (Item 𝓤)} {E : Env 𝓤 H} {C : Calls 𝓤 H} {Λ : Loops 𝓤 H} {p : Kit.Post 𝓤 H} {d : Place} {rest : Code} {xs : List Operand} where
   pub reads-device : K → (mem′ : Memory → SProp 𝓤) (run : Routine → Fun 𝓤) → FmC 𝓤 H (W .laws) C → Triple 𝓤 (C #read-device) (ReadDevice 𝓤 H A mem′ run) → (h : Device) (b o : ℕ) → Is R h (D′.lowered h ∷ [])
       → ((i j : Item 𝓤) → Opds K W (i ∷ j ∷ Γ) E xs (vptr b o ∷ []))
@@ -66,9 +116,47 @@ module _ {M : Type 1} {𝓤 : URA M} {H : Heap 𝓤} {A : Atoms 𝓤} {K : Type 
       cell-shared-back t tt R fullShare h b o ν (λ vs. spelt t R (Is R) (shows 𝓤 H A R) (LL.vals D.the-type D′.the-laws) (LL.tells D.the-type D′.the-laws) fullShare h vs b o $ move t (1 ∷ []) $ drop t $
       subst (λ (v : Val). Seq K W (‵ (cellAt fullShare (R .mir) (D′.lowered h ∷ []) b o) ∷ Γ) (lands C Λ E d v rest p)) (sym (ap only (LL.tells D.the-type D′.the-laws h (w ∷ []) is))) k))))))
 
+  -- a function that is lent the record, and leaves it at y
+  changes : {f : Name} → K → FmC 𝓤 H (W .laws) C → (F : Contract 𝓤) → Triple 𝓤 (C f) F → (h : Device) (b o : ℕ) → Is R h (D′.lowered h ∷ []) → (x : ℕ → GName → F .Ghost)
+      → ((ν : ℕ) (δ : GName) → ent 𝓤 (sep 𝓤 (A .lft (ν ∷ []) fullShare) (sem 𝓤 H A (LentCell R h b o (ν ∷ []) δ))) (F .pre (x ν δ)))
+      → (y : Device) {Z : Type 0} (others : Z → Fml) → ((ν : ℕ) (δ : GName) (w : Val) → ent 𝓤 (F .post (x ν δ) w) (mean 𝓤 H A (Leaves ν (last-value R δ) others y w)))
+      → ((ν : ℕ) (δ : GName) (i j : Item 𝓤) → Opds K W (i ∷ j ∷ Γ) E xs (F .args (x ν δ)))
+      → (Is R y (D′.lowered y ∷ []) → Seq K W (‵ (cellAt fullShare (R .mir) (D′.lowered y ∷ []) b o) ∷ Γ) (lands C Λ E d vunit rest p))
+      → Seq K W (‵ (cellAt fullShare (R .mir) (D′.lowered h ∷ []) b o) ∷ Γ) (runs C Λ E (seq (call f xs d) rest) p)
+  changes t fm F known h b o gh x goes y others shape os k = owned t R (Is R) (LL.makes D.the-type D′.the-plain 𝓤 H A) h _ gh $ move t (1 ∷ 0 ∷ []) $
+      changes-cell R h b o t fm F known (LL.vals D.the-type D′.the-laws) (LL.tells D.the-type D′.the-laws) (D′.lowered h ∷ []) x goes y others shape os k
+
   pub stores-device : K → (mem′ : Memory → SProp 𝓤) (run : Routine → Fun 𝓤) → FmC 𝓤 H (W .laws) C → Triple 𝓤 (C #store-device) (StoreDevice 𝓤 H A mem′ run) → (h : Device) (m : Device) (b o : ℕ) → Is R h (D′.lowered h ∷ []) → Is R m (D′.lowered m ∷ [])
       → ((i j : Item 𝓤) → Opds K W (i ∷ j ∷ Γ) E xs (vptr b o ∷ D′.lowered m ∷ []))
-      → (Is R m (D′.lowered m ∷ []) → Seq K W (‵ (cellAt fullShare (R .mir) (D′.lowered m ∷ []) b o) ∷ Γ) (lands C Λ E d vunit rest p))
+      → (Is R (m) (D′.lowered (m) ∷ []) → Seq K W (‵ (cellAt fullShare (R .mir) (D′.lowered (m) ∷ []) b o) ∷ Γ) (lands C Λ E d vunit rest p))
       → Seq K W (‵ (cellAt fullShare (R .mir) (D′.lowered h ∷ []) b o) ∷ Γ) (runs C Λ E (seq (call #store-device xs d) rest) p)
-  stores-device t mem′ run fm known h m b o gh gm os k = owned t R (Is R) (LL.makes D.the-type D′.the-plain 𝓤 H A) h _ gh $ move t (1 ∷ 0 ∷ []) $
-      changes-cell R h b o t fm (StoreDevice 𝓤 H A mem′ run) known (LL.vals D.the-type D′.the-laws) (LL.tells D.the-type D′.the-laws) (D′.lowered h ∷ []) (λ ν δ. to-set 𝓤 H A mem′ run W b o h m ν δ) (λ ν δ. goes-set 𝓤 H A mem′ run W b o h m ν δ gm) m no-other (λ ν δ w. id⊢ 𝓤 _) (λ ν δ. os) k
+  stores-device t mem′ run fm known h m b o gh gm os k = changes t fm (StoreDevice 𝓤 H A mem′ run) known h b o gh
+      (λ ν δ. to-set 𝓤 H A mem′ run W b o h m ν δ) (λ ν δ. goes-set 𝓤 H A mem′ run W b o h m ν δ gm) (m) no-other (λ ν δ w. id⊢ 𝓤 _) (λ ν δ. os) k
+
+  pub sets-mode : K → (mem′ : Memory → SProp 𝓤) (run : Routine → Fun 𝓤) → FmC 𝓤 H (W .laws) C → Triple 𝓤 (C #set-mode) (SetMode 𝓤 H A mem′ run) → (h : Device) (isc : Subclass) (single : Bool) (b o : ℕ) → Is R h (D′.lowered h ∷ []) → Is S.the-row isc (S′.lowered isc ∷ []) → isc .0 ≤ 7
+      → ((i j : Item 𝓤) → Opds K W (i ∷ j ∷ Γ) E xs (vptr b o ∷ S′.lowered isc ∷ vbool single ∷ []))
+      → (Is R (deviceFrom (modeSet (deviceOf h) (isc .0) single)) (D′.lowered (deviceFrom (modeSet (deviceOf h) (isc .0) single)) ∷ []) → Seq K W (‵ (cellAt fullShare (R .mir) (D′.lowered (deviceFrom (modeSet (deviceOf h) (isc .0) single)) ∷ []) b o) ∷ Γ) (lands C Λ E d vunit rest p))
+      → Seq K W (‵ (cellAt fullShare (R .mir) (D′.lowered h ∷ []) b o) ∷ Γ) (runs C Λ E (seq (call #set-mode xs d) rest) p)
+  sets-mode t mem′ run fm known h isc single b o gh g few os k = changes t fm (SetMode 𝓤 H A mem′ run) known h b o gh
+      (λ ν δ. to-mode 𝓤 H A mem′ run W b o h ν δ isc single) (λ ν δ. goes-mode 𝓤 H A mem′ run W b o h ν δ isc single g few) (deviceFrom (modeSet (deviceOf h) (isc .0) single)) no-others (λ ν δ w. id⊢ 𝓤 _) (λ ν δ. os) k
+
+  pub sets-masks : K → (mem′ : Memory → SProp 𝓤) (run : Routine → Fun 𝓤) → FmC 𝓤 H (W .laws) C → Triple 𝓤 (C #set-masks) (SetMasks 𝓤 H A mem′ run) → (h : Device) (simm nimm : ℕ) (b o : ℕ) → Is R h (D′.lowered h ∷ []) → simm < 2 ^ 8 → nimm < 2 ^ 8
+      → ((i j : Item 𝓤) → Opds K W (i ∷ j ∷ Γ) E xs (vptr b o ∷ vint w8 simm ∷ vint w8 nimm ∷ []))
+      → (Is R (record { simm = simm; nimm = nimm; apf = h .apf }) (D′.lowered (record { simm = simm; nimm = nimm; apf = h .apf }) ∷ []) → Seq K W (‵ (cellAt fullShare (R .mir) (D′.lowered (record { simm = simm; nimm = nimm; apf = h .apf }) ∷ []) b o) ∷ Γ) (lands C Λ E d vunit rest p))
+      → Seq K W (‵ (cellAt fullShare (R .mir) (D′.lowered h ∷ []) b o) ∷ Γ) (runs C Λ E (seq (call #set-masks xs d) rest) p)
+  sets-masks t mem′ run fm known h simm nimm b o gh gs gn os k = changes t fm (SetMasks 𝓤 H A mem′ run) known h b o gh
+      (λ ν δ. to-masks 𝓤 H A mem′ run W b o h ν δ simm nimm) (λ ν δ. goes-masks 𝓤 H A mem′ run W b o h ν δ simm nimm gs gn) (record { simm = simm; nimm = nimm; apf = h .apf }) no-others (λ ν δ w. id⊢ 𝓤 _) (λ ν δ. os) k
+
+  pub sets-flag : K → (mem′ : Memory → SProp 𝓤) (run : Routine → Fun 𝓤) → FmC 𝓤 H (W .laws) C → Triple 𝓤 (C #set-flag) (SetFlag 𝓤 H A mem′ run) → (h : Device) (on : Bool) (b o : ℕ) → Is R h (D′.lowered h ∷ [])
+      → ((i j : Item 𝓤) → Opds K W (i ∷ j ∷ Γ) E xs (vptr b o ∷ vbool on ∷ []))
+      → (Is R (record { simm = h .simm; nimm = h .nimm; apf = on }) (D′.lowered (record { simm = h .simm; nimm = h .nimm; apf = on }) ∷ []) → Seq K W (‵ (cellAt fullShare (R .mir) (D′.lowered (record { simm = h .simm; nimm = h .nimm; apf = on }) ∷ []) b o) ∷ Γ) (lands C Λ E d vunit rest p))
+      → Seq K W (‵ (cellAt fullShare (R .mir) (D′.lowered h ∷ []) b o) ∷ Γ) (runs C Λ E (seq (call #set-flag xs d) rest) p)
+  sets-flag t mem′ run fm known h on b o gh os k = changes t fm (SetFlag 𝓤 H A mem′ run) known h b o gh
+      (λ ν δ. to-flag 𝓤 H A mem′ run W b o h ν δ on) (λ ν δ. goes-flag 𝓤 H A mem′ run W b o h ν δ on) (record { simm = h .simm; nimm = h .nimm; apf = on }) no-other (λ ν δ w. id⊢ 𝓤 _) (λ ν δ. os) k
+
+  pub notes-injection : K → (mem′ : Memory → SProp 𝓤) (run : Routine → Fun 𝓤) → FmC 𝓤 H (W .laws) C → Triple 𝓤 (C #note-injection) (NoteInjection 𝓤 H A mem′ run) → (h : Device) (ais : Bool) (q : Adapter) (b o : ℕ) → Is R h (D′.lowered h ∷ []) → Is P.the-row q (P′.lowered q ∷ []) → q .isc .0 ≤ 7
+      → ((i j : Item 𝓤) → Opds K W (i ∷ j ∷ Γ) E xs (vptr b o ∷ vbool ais ∷ P′.lowered q ∷ []))
+      → (Is R (injectedDevice ais h q) (D′.lowered (injectedDevice ais h q) ∷ []) → Seq K W (‵ (cellAt fullShare (R .mir) (D′.lowered (injectedDevice ais h q) ∷ []) b o) ∷ Γ) (lands C Λ E d vunit rest p))
+      → Seq K W (‵ (cellAt fullShare (R .mir) (D′.lowered h ∷ []) b o) ∷ Γ) (runs C Λ E (seq (call #note-injection xs d) rest) p)
+  notes-injection t mem′ run fm known h ais q b o gh g few os k = changes t fm (NoteInjection 𝓤 H A mem′ run) known h b o gh
+      (λ ν δ. to-note 𝓤 H A mem′ run W b o h ν δ ais q) (λ ν δ. goes-note 𝓤 H A mem′ run W b o h ν δ ais q g few) (injectedDevice ais h q) no-others (λ ν δ w. id⊢ 𝓤 _) (λ ν δ. os) k

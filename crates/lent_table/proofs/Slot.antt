@@ -1,4 +1,4 @@
--- The body of `register`: the test of the bound of `t: &mut [Place]` at `id: AdapterId`, then a store into the place, or nothing. The third
+-- What `register` and `mask` share: the test of the bound of `t: &mut [Place]` at `id: AdapterId`, then a store into the place, or nothing. The third
 -- parameter, of any type τ, holds v.
 use Rattle.lent_table.proofs.Walk.{_≡_, refl, sym, ℕ, _<_, _*_, [], _∷_, List, length, getD, set, length-set, ltb, ltb→lt, nltb→le, URA, fullShare, w64, tyInt, tyBool, tyPtr, tyUnit, mut, Val, vunit, vint, vbool, vptr, SProp, ent, GName, Lft, Share, flft, fobs, fbor, fobor, fauth, fat, next, Heap, Env, Calls, Loops, Wp, afterSeq, atReturn, Atoms, Given, Item, Sq, runs, prop, post, anyQ, atRet, ‵, ⋆, _$_, !, by, move, drop, rewrite, look, init, forget, stop, fld, from, load, lit, unit-lit, of-opd, bin, assigns, first, skips, branches, exec, returns, free1, free0, whole, sub, look-in, Is, shows, cellAt, shares, sliceVal, Room, heres, codedHoleys, Held, place, place-is, others, elem-out, elem-put, opens-slice, closes-slice, owned}
 use types.Kit as Kit

@@ -1,19 +1,20 @@
-// Inner crate: the adapter table as a lent slice of places, and the device record behind a reference.
-// Few and thin functions, proved by hand.
+// Inner crate: the adapter table as a lent slice of places, and the device record behind a reference. Few and thin functions, proved by hand.
 ghost use mathlib.Core.Path.{_≡_};
+ghost use Prim.Native.Nat.{_≤_};
 ghost use lib.ListN.{getD, set};
-ghost use Rattle.adapters.specs.Values.{unused};
+ghost use Rattle.adapters.specs.Values.{deviceOf, deviceFrom, unused, withMasked, modeSet, injectedDevice};
 ghost use Rattle.list_image.specs.Image.{imageSize};
 ghost use Rattle.lent_table.specs.Table.{snapTo, restored};
 use adapters::Device;
 use adapters::Place;
 use numbers::AdapterId;
 use numbers::PLACES;
+use numbers::Subclass;
 
-// Number of places in an image.
+// The ids of an image's places are those below it.
 pub const IDS: u64 = PLACES as u64;
 
-// The place at the id. Past the table's end it reads as free.
+// The place of an id; an id without a place reads as free.
 pub fn look_up(t: &[Place], id: AdapterId) -> Place
     ensures { λ r. ⌜ r ≡ getD (now (t .entry)) (id .0) unused ⌝ }
 {
@@ -24,13 +25,23 @@ pub fn look_up(t: &[Place], id: AdapterId) -> Place
     adapters::free_place()
 }
 
-// Stores p at the id. With an id past the table's end nothing happens.
+// The place of an id is this; an id without a place changes nothing.
 pub fn register(t: &mut [Place], id: AdapterId, p: Place)
     ensures { λ _. ⌜ now (t .exit) ≡ set (now (t .entry)) (id .0) p ⌝ }
 {
     let i = id.0 as usize;
     if i < t.len() {
         t[i] = p;
+    }
+}
+
+// The adapter at an id is masked or not; an id without a place changes nothing.
+pub fn mask(t: &mut [Place], id: AdapterId, on: bool)
+    ensures { λ _. ⌜ now (t .exit) ≡ set (now (t .entry)) (id .0) (withMasked on (getD (now (t .entry)) (id .0) unused)) ⌝ }
+{
+    let i = id.0 as usize;
+    if i < t.len() {
+        t[i].masked = on;
     }
 }
 
@@ -41,11 +52,41 @@ pub fn read_device(d: &Device) -> Device
     *d
 }
 
-// The device record is this.
+// The whole device record anew, as making a controller and playing a list leave it.
 pub fn store_device(d: &mut Device, m: Device)
     ensures { λ _. ⌜ now (d .exit) ≡ m ⌝ }
 {
     *d = m;
+}
+
+// AISM: the mode of one subclass.
+pub fn set_mode(d: &mut Device, isc: Subclass, single: bool)
+    requires { ⌜ isc .0 ≤ 7 ⌝ }
+    ensures { λ _. ⌜ now (d .exit) ≡ deviceFrom (modeSet (deviceOf (now (d .entry))) (isc .0) single) ⌝ }
+{
+    *d = adapters::mode_set(*d, isc, single);
+}
+
+// AISM_ALL: both masks.
+pub fn set_masks(d: &mut Device, simm: u8, nimm: u8)
+    ensures { λ _. ⌜ now (d .exit) ≡ record { simm = simm; nimm = nimm; apf = now (d .entry) .apf } ⌝ }
+{
+    *d = adapters::masks_set(*d, simm, nimm);
+}
+
+// APF_ENABLE and APF_DISABLE_WAIT: the page-fault flag.
+pub fn set_flag(d: &mut Device, on: bool)
+    ensures { λ _. ⌜ now (d .exit) ≡ record { simm = now (d .entry) .simm; nimm = now (d .entry) .nimm; apf = on } ⌝ }
+{
+    *d = adapters::apf_set(*d, on);
+}
+
+// INJECT, once the record is appended: in SINGLE mode the bit of nimm is set.
+pub fn note_injection(d: &mut Device, ais: bool, p: Place)
+    requires { ⌜ p .isc .0 ≤ 7 ⌝ }
+    ensures { λ _. ⌜ now (d .exit) ≡ injectedDevice ais (now (d .entry)) p ⌝ }
+{
+    *d = adapters::after_injection(ais, *d, p);
 }
 
 // The places as an image; a place that is not there reads as free.

@@ -1,8 +1,8 @@
 -- The capability of a fresh controller is the list's flag; of a list without one it decides nothing. Assumes nothing.
-use Rattle.numbers.proofs.Basics.{_≡_, refl, sym, ap, _∙_, Bool, true, false, List, ℕ, _≤_, _<_, leb-true, leb-false}
+use Rattle.numbers.proofs.Basics.{_≡_, refl, ap, _∙_, Bool, true, false, List, ℕ, _≤_, _<_, leb-true, leb-false}
 use Rattle.numbers.proofs.Basics.{lt-leb, eqb-true, length, leb, eqb}
 use Rattle.rules.specs.Bytes.{choose}
-use Rattle.rules.specs.State.{Limits, State, Pending, paperLimits, nothing, fresh}
+use Rattle.rules.specs.State.{State, Pending, paperLimits, fresh}
 use Rattle.rules.specs.Outcome as outcome
 use Rattle.rules.specs.Outcome.{result, refuse}
 use Rattle.rules.specs.MoveList.{headerBytes, aisFlagIn, plays}

@@ -1,36 +1,41 @@
--- Laws of playing: the requests of a table in turn.
-use Rattle.numbers.proofs.Basics.{ℕ, zero, suc, _+_, _-_, _≤_, _<_, _≡_, refl, ap, sym, _∙_, subst, Bool, true, false}
-use Rattle.numbers.proofs.Basics.{_||_, true≢false, List, [], _∷_, not-suc-le-zero, le-of-suc-le-suc, add-one, arith}
-use Rattle.numbers.proofs.Basics.{take, drop, replicate, eqb, eq-eqb, ne-eqb, eqb-true}
+-- Laws of playing: one request on the values, and the requests of a table in turn.
+use Rattle.numbers.proofs.Basics.{ℕ, zero, suc, _+_, _-_, _≤_, _<_, _≡_, refl, ap, sym, _∙_, subst, Bool, false, List}
+use Rattle.numbers.proofs.Basics.{[], _∷_, not-suc-le-zero, le-of-suc-le-suc, add-one, arith, getD, set, take, drop}
+use Rattle.numbers.proofs.Basics.{replicate, eqb, eq-eqb, ne-eqb}
 use Rattle.rules.specs.Bytes.{choose, part}
 use Rattle.rules.specs.State as rules
 use Rattle.rules.specs.State.{Limits, Pending, State, nothing, fresh}
 use Rattle.rules.specs.Outcome.{Outcome, refuseWith, accept, resetWith, refuse, reset, result, tell}
 use Rattle.rules.specs.Outcome as told
 use Rattle.rules.specs.Requests.{setRequest, request}
-use Rattle.rules.specs.MoveList.{ListRequest, TableEntry, movable, onward, applies, requestsIn, plays}
+use Rattle.rules.specs.MoveList.{ListRequest, TableEntry, onward, applies, requestsIn, plays}
 use Rattle.rules.specs.Machine.{answerOf}
 use Rattle.rules.proofs.Checks.{chosen, passed, Comes}
 use Rattle.rules.proofs.Outcomes.{Known, known-request, never-zero}
 use Rattle.answers.specs.declared.Answer.{Answer}
 use Rattle.answers.specs.Answers.{Answers, answered}
 use Rattle.adapters.specs.declared.Device.{Device}
-use Rattle.adapters.specs.Values.{deviceOf}
-use Rattle.adapter_requests.specs.States.{onPlace}
-use Rattle.adapter_requests.proofs.Laws.{not-on-place}
+use Rattle.adapters.specs.declared.Place.{Place}
+use Rattle.adapters.specs.Values.{placeOf, deviceOf}
+use Rattle.adapter_requests.specs.declared.Reply.{Reply}
+use Rattle.adapter_requests.specs.States.{Replies}
+use Rattle.list_image.specs.Places.{placesOf}
 use Rattle.list_image.proofs.Laws.{places-none}
 use Rattle.list_form.specs.Form.{slotAt}
 use Rattle.list_form.proofs.Laws.{slotsFrom, next-slot, last-slot}
 use Rattle.list_play.specs.Play.{limitsFrom, stateOf, requestIn, ranTo}
 use Rattle.list_image.specs.Image.{imageSize}
 
--- the groups of a list: the one that is left
-pub last-movable : (g : ℕ) → movable g ≡ true → (g ≡ 2 → ⊥) → onPlace g ≡ false → (g ≡ 11 → ⊥) → g ≡ 4
-last-movable g m n₂ o n₁₁ = let n = not-on-place g o in go (eqb g 4) refl (rw (ne-eqb g 2 n₂, ne-eqb g 6 (n .0), ne-eqb g 7 (n .1), ne-eqb g 11 n₁₁) at m)
-  where
-    go : (t : Bool) → eqb g 4 ≡ t → (t || false) ≡ true → g ≡ 4
-    go true e k = eqb-true g 4 e
-    go false e k = absurd (true≢false (sym k))
+-- a reply about one place of an image, as an answer about the state that the image stands for
+pub as-state : (places room : ℕ) (ais : Bool) (device : Device) (place : Place) (id : ℕ) (image image′ b : List ℕ) (o : Limits → State → Outcome State) (p₀ p₁ : Pending) (r : Reply)
+    (a : Answer) (d : Device) → Replies places room ais device place id b o p₀ p₁ r → a ≡ r .answer → d ≡ r .device
+    → placeOf place ≡ getD (take places (placesOf image)) id rules.free
+    → take places (placesOf image′) ≡ set (take places (placesOf image)) id (placeOf (r .place))
+    → Answers (limitsFrom places room) (stateOf ais places image p₀ device) b (o (limitsFrom places room) (stateOf ais places image p₀ device)) a
+    (stateOf ais places image′ p₁ d) b
+as-state places room ais device place id image image′ b o p₀ p₁ r a d h ea ed f g =
+    h (limitsFrom places room) (stateOf ais places image p₀ device) refl refl refl refl refl (sym f)
+    ∙ (λ i. tell ((sym ea) i .code) ((sym ea) i .count) (record { ais = ais; adapters = (sym g) i; pending = p₁; device = deviceOf ((sym ed) i) }) b)
 
 -- the request of a table entry, by the numbers that were read of it
 pub as-slot : (L : Limits) (s t : State) (b : List ℕ) (e : TableEntry) (a : Answer) (at size group attr : ℕ) → at ≡ e .at → size ≡ e .size → group ≡ e .group

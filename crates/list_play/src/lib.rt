@@ -17,10 +17,8 @@ ghost use Rattle.list_play.specs.Play.{limitsFrom, stateOf, requestIn, r
 ghost use Rattle.list_image.specs.Image.{imageSize};
 ghost use Rattle.store_queues.specs.Slots.{slotCount};
 ghost use Rattle.store.specs.Lent.{before, after, HeldAfter, Stays};
-use adapter_requests::ModesReply;
 use adapters::Device;
 use answers::Answer;
-use numbers::AISM_ALL;
 use numbers::COUNTS;
 use numbers::ENQUEUE;
 use numbers::ORDER_BYTES;
@@ -28,26 +26,13 @@ use numbers::PLACES;
 use numbers::SINGLES_BYTES;
 use numbers::SLOT_BYTES;
 
-// Answer and device record after one request, or after all of a list's requests. Of these the answer has code 0 and their
-// number, or the code and the place of the refused one.
+// What came of a request: its answer; or of a list's requests: code 0 and their number, or the code and place of the refused one. And the device record.
 struct Ran {
     answer: Answer,
     device: Device,
 }
 
-// A request about the device record has come to this.
-fn modes_ran(r: ModesReply) -> Ran
-    ensures { λ z. ⌜ z ≡ record { answer = answered (r .code) 0; device = r .device } ⌝ }
-{
-    let answer = Answer {
-        code: r.code,
-        count: 0,
-    };
-    let device = r.device;
-    Ran { answer, device }
-}
-
-// A set request of a list, by the functions that answer a single request of its group.
+// A set request of a list, on the place of the image that it is about, by the functions that answer a single request of its group.
 fn apply(
     slots: &mut [u8; SLOT_BYTES],
     order: &mut [u8; ORDER_BYTES],
@@ -68,26 +53,21 @@ fn apply(
 {
     if group == ENQUEUE {
         let a = record_add::enqueue_irqs(slots, order, counts, singles, room, attr, payload);
-        let answer = answers::by_fields(a);
-        return Ran { answer, device };
-    }
-    if adapter_requests::on_place(group) {
-        let id = adapter_requests::payload_id(payload);
-        let place = list_image::look_up(image, places, id);
-        let r = adapter_requests::set_place(places, place, group, attr, payload);
-        list_image::put(image, places, id, r.place);
-        let answer = Answer {
-            code: r.code,
-            count: 0,
+        return Ran {
+            answer: answers::by_fields(a),
+            device,
         };
-        return Ran { answer, device };
     }
-    if group == AISM_ALL {
-        let r = adapter_requests::set_masks(ais, device, attr, payload);
-        return modes_ran(r);
+    let id = adapter_requests::about(group, attr, payload);
+    let place = list_image::look_up(image, places, id);
+    let r = adapter_requests::set_values(places, ais, device, place, group, attr, payload);
+    let answer = r.answer;
+    let modes = r.device;
+    list_image::put(image, places, id, r.place);
+    Ran {
+        answer: answers::by_fields(answer),
+        device: adapters::by_fields(modes),
     }
-    let r = adapter_requests::set_flag(device, attr, true); // APF_ENABLE
-    modes_ran(r)
 }
 
 // The request of the table entry at a place.

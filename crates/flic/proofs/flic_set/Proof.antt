@@ -1,6 +1,6 @@
 -- `flic_set`: the table's length is looked at first. Then the table, the device record and the controller are opened, the group decides which function is called, and all is
 -- closed at the exit. In between the walk holds their memory.
-use Rattle.flic.proofs.Walk.{_≡_, refl, sym, ap, subst, ℕ, _<_, _^_, Bool, true, false, [], _∷_, List, length, getD, URA, fullShare, named, erased, w8, w64, tyInt, tyBool, tyUnit, tyRef, imm, mut, Val, vunit, vint, vbool, vptr, SProp, ent, id⊢, GName, Lft, Share, Fml, ftrue, fsep, flft, fat, Memory, Routine, Heap, Env, Calls, Loops, WpFn, Tables, Atoms, Fun, givenOf, tables, tablesOf, Given, Item, Sq, runs, atRet, ‵, ⋆, _⊛_, _$_, _∵_, !, qed, by, move, keep, drop, split, join, rewrite, fsplit, fjoin, suffices, frame, done, look, store, init, stop, hop, fld, from, load, lit, addr, of-opd, bin, and-then, no-more, assigns, land, enter, alloc1, alloc0, params1, pass1, pass0, agg, whole, sub, look-in, FmC, fmOf, WpFn-mono, owns, Is, pointee, bool-makes, uint-vals, uint-tells, uint-makes, u8, u64, RefT, ptr-vals, mut-tells, sliceVal, sliceTy, ShrSlice, Room, slice-vals, mut-slice-tells, shr-slice-tells, plain, only, owned, nothing, onEntry, Meets, tripleOf, Contract, Triple, entered, cited, says, Stays, stay-ref, stay-slice, walkOf, goes-ref, goes-slice, Walks, ends-at, walked, walk-meets, yes, _+_, _∙_, w32, tyArray, u32, bool, needs, stay-dropped, goes-dropped, Wp, afterSeq, atReturn, anyQ, first, skips, branches, exec, returns-within, emp}
+use Rattle.flic.proofs.Walk.{_≡_, refl, sym, ap, subst, ℕ, _<_, _^_, Bool, true, false, [], _∷_, List, length, getD, URA, fullShare, named, erased, w8, w64, tyInt, tyBool, tyUnit, tyRef, imm, mut, Val, vunit, vint, vbool, vptr, SProp, ent, id⊢, GName, Lft, Share, Fml, ftrue, fsep, flft, fat, Memory, Routine, Heap, Env, Calls, Loops, WpFn, Tables, Atoms, Fun, givenOf, tables, tablesOf, Given, Item, Sq, runs, atRet, ‵, ⋆, _⊛_, _$_, _∵_, !, qed, by, move, keep, drop, split, join, rewrite, fsplit, fjoin, suffices, frame, done, look, store, init, stop, hop, fld, from, load, lit, addr, of-opd, bin, and-then, no-more, assigns, land, enter, alloc1, alloc0, params1, pass1, pass0, agg, whole, sub, look-in, FmC, fmOf, WpFn-mono, owns, Is, pointee, bool-makes, uint-vals, uint-tells, uint-makes, u8, u64, RefT, ptr-vals, mut-tells, sliceVal, sliceTy, ShrSlice, Room, slice-vals, mut-slice-tells, shr-slice-tells, plain, only, owned, nothing, onEntry, Meets, tripleOf, Contract, Triple, entered, cited, says, Stays, stay-ref, stay-slice, walkOf, goes-ref, goes-slice, Walks, ends-at, walked, walk-meets, yes, _+_, _∙_, w32, tyArray, u32, bool, needs, stay-dropped, goes-dropped, Wp, afterSeq, atReturn, anyQ, first, skips, branches, exec, returns-within}
 use types.Kit as Kit
 use types.Kit.{post}
 use prog.Wp.{returns as returnsᴼ}
@@ -30,7 +30,7 @@ use Rattle.adapters.proofs.Device as D
 use Rattle.adapters.proofs.Device.Laws as D′
 use Rattle.adapters.proofs.Place as P
 use Rattle.adapters.proofs.Place.Laws as P′
-use Rattle.adapter_requests.specs.States.{onPlace, OfModes}
+use Rattle.adapter_requests.specs.States.{onPlace}
 use Rattle.adapter_requests.proofs.on_place.Symbol as on-place-def
 use Rattle.adapter_requests.proofs.on_place.Met as on-place-thm
 use Rattle.lent_table.proofs.Count.{afters, taken}
@@ -38,13 +38,7 @@ use Rattle.lent_table.proofs.Places.{FitsId, fit-id, typed-id, makes-id}
 use Rattle.lent_table.proofs.Locals.{Content, blank, holds, since, locals, frees-front, swaps, holds-true, holds-false, not-not}
 use Rattle.lent_requests.proofs.Answered.{FitsAnswer, refused, Refuse, ByFields, refuses, copies}
 use Rattle.lent_requests.proofs.Laws.{canonical-unused}
-use Rattle.lent_table.proofs.Record.{ReadDevice, StoreDevice, reads-device, stores-device}
-use Rattle.lent_table.proofs.store_device.Symbol as store-device-def
-use Rattle.lent_table.proofs.store_device.Met as store-device-thm
-use Rattle.lent_table.proofs.Called.{calls-plain}
-use Rattle.adapters.proofs.after_injection as after-injection
-use Rattle.adapters.proofs.after_injection.Symbol as after-injection-def
-use Rattle.adapters.proofs.after_injection.Met as after-injection-thm
+use Rattle.lent_table.proofs.Record.{ReadDevice, NoteInjection, reads-device, notes-injection}
 use Rattle.answers.proofs.by_fields.Symbol as by-fields-def
 use Rattle.answers.proofs.by_fields.Met as by-fields-thm
 use Rattle.record_add.proofs.enqueue_irqs as enqueue
@@ -61,6 +55,8 @@ use Rattle.lent_table.proofs.look_up.Symbol as look-up-def
 use Rattle.lent_table.proofs.look_up.Met as look-up-thm
 use Rattle.lent_table.proofs.read_device.Symbol as read-device-def
 use Rattle.lent_table.proofs.read_device.Met as read-device-thm
+use Rattle.lent_table.proofs.note_injection.Symbol as note-injection-def
+use Rattle.lent_table.proofs.note_injection.Met as note-injection-thm
 use Rattle.lent_requests.proofs.set_place.Symbol as set-place-def
 use Rattle.lent_requests.proofs.set_place.Met as set-place-thm
 use Rattle.lent_requests.proofs.set_modes.Symbol as set-modes-def
@@ -109,9 +105,6 @@ module _ {M : Type 1} (𝓤 : URA M) (H : Heap 𝓤) (A : Atoms 𝓤) (mem′ : 
   abbrev AnswerInject : Contract 𝓤
   AnswerInject = tripleOf 𝓤 H A answer-inject.signature (answer-inject.spec 𝓤 H A mem′ run)
 
-  abbrev AfterInjection : Contract 𝓤
-  AfterInjection = tripleOf 𝓤 H A after-injection.signature (after-injection.spec 𝓤 H A mem′ run)
-
   -- what is known of the callees
   pub record Known (C′ : Calls 𝓤 H) : Type 1 where
     pub refuse : Triple 𝓤 (C′ refuse-def.name) (Refuse 𝓤 H A mem′ run)
@@ -122,8 +115,7 @@ module _ {M : Type 1} (𝓤 : URA M) (H : Heap 𝓤) (A : Atoms 𝓤) (mem′ : 
     pub look-up : Triple 𝓤 (C′ look-up-def.name) (LookUp 𝓤 H A mem′ run)
     pub read-device : Triple 𝓤 (C′ read-device-def.name) (ReadDevice 𝓤 H A mem′ run)
     pub inject : Triple 𝓤 (C′ answer-inject-def.name) AnswerInject
-    pub after : Triple 𝓤 (C′ after-injection-def.name) AfterInjection
-    pub store-device : Triple 𝓤 (C′ store-device-def.name) (StoreDevice 𝓤 H A mem′ run)
+    pub note : Triple 𝓤 (C′ note-injection-def.name) (NoteInjection 𝓤 H A mem′ run)
     pub on-place : Triple 𝓤 (C′ on-place-def.name) (OnPlace 𝓤 H A mem′ run)
     pub set-place : Triple 𝓤 (C′ set-place-def.name) (SetPlace 𝓤 H A mem′ run)
     pub set-modes : Triple 𝓤 (C′ set-modes-def.name) (SetModes 𝓤 H A mem′ run)
@@ -156,11 +148,11 @@ module _ {M : Type 1} (𝓤 : URA M) (H : Heap 𝓤) (A : Atoms 𝓤) (W : Given
       nothing ! $ nothing ! $ fjoin ! $ nothing ! $ fjoin ! $ nothing ! $ fjoin ! $ nothing ! $ move ! (11 ∷ 0 ∷ []) $ join ! $ move ! (2 ∷ 3 ∷ 4 ∷ 5 ∷ 6 ∷ 7 ∷ 8 ∷ 9 ∷ 10 ∷ []) $
       gives-all ! a zs m c′ e room $ frame ! $ frame ! $ owned ! An.the-row (Is An.the-row) (LL.makes An.the-type An′.the-plain 𝓤 H A) z _ g $ done !
 
-  module _ (C′ : Calls 𝓤 H) (Λ : Loops 𝓤 H) (fm : FmC 𝓤 H (W .laws) C′) (known : Known 𝓤 H A mem′ run C′) (l₀ l₁ l₂ l₃ l₄ l₅ l₆ l₇ l₈ l₉ l₁₀ l₁₁ l₁₂ l₁₃ l₁₄ l₁₅ l₁₆ l₁₇ l₁₈ l₁₉ l₂₀ l₂₁ l₂₂ l₂₃ l₂₄ l₂₅ l₂₆ l₂₇ l₂₈ l₂₉ l₃₀ l₃₁ l₃₂ l₃₃ l₃₄ l₃₅ l₃₆ l₃₇ l₃₈ l₃₉ l₄₀ : ℕ) where
+  module _ (C′ : Calls 𝓤 H) (Λ : Loops 𝓤 H) (fm : FmC 𝓤 H (W .laws) C′) (known : Known 𝓤 H A mem′ run C′) (l₀ l₁ l₂ l₃ l₄ l₅ l₆ l₇ l₈ l₉ l₁₀ l₁₁ l₁₂ l₁₃ l₁₄ l₁₅ l₁₆ l₁₇ l₁₈ l₁₉ l₂₀ l₂₁ l₂₂ l₂₃ l₂₄ l₂₅ l₂₆ l₂₇ l₂₈ l₂₉ l₃₀ l₃₁ l₃₂ l₃₃ l₃₄ l₃₅ l₃₆ l₃₇ : ℕ) where
     abbrev E : Env 𝓤 H
-    E = (An′.mir, l₀) ∷ (tyRef (named 0) mut (pointee (C.the-row .written)), l₁) ∷ (tyRef (named 1) mut (pointee (D.the-row .written)), l₂) ∷ (sliceTy (tyRef (named 2) mut (pointee (P.the-row .written))), l₃) ∷ (tyInt w32, l₄) ∷ (tyInt w64, l₅) ∷ (sliceTy (tyRef (named 3) imm (tyInt w8)), l₆) ∷ (sliceTy (tyRef erased imm (tyInt w8)), l₇) ∷ (An′.mir, l₈) ∷ (I′.mir, l₉) ∷ (P′.mir, l₁₀) ∷ (D′.mir, l₁₁) ∷ (An′.mir, l₁₂) ∷ (D′.mir, l₁₃) ∷ (D′.mir, l₁₄) ∷ (tyInt w64, l₁₅) ∷ (tyBool, l₁₆)
-        ∷ (tyRef erased mut (tyArray (tyInt w8) 18432), l₁₇) ∷ (tyRef erased mut (tyArray (tyInt w8) 2560), l₁₈) ∷ (tyRef erased mut (tyArray (tyInt w64) 11), l₁₉) ∷ (tyRef erased mut (tyArray (tyInt w8) 146), l₂₀) ∷ (tyRef erased mut (tyArray (tyInt w8) 2560), l₂₁) ∷ (tyRef erased mut (tyArray (tyInt w64) 11), l₂₂) ∷ (tyRef erased mut (tyArray (tyInt w8) 146), l₂₃) ∷ (tyRef erased imm (tyArray (tyInt w8) 18432), l₂₄) ∷ (tyRef erased mut (tyArray (tyInt w8) 2560), l₂₅) ∷ (tyRef erased mut (tyArray (tyInt w64) 11), l₂₆)
-        ∷ (tyRef erased imm (pointee (P.the-row .written)), l₂₇) ∷ (sliceTy (tyRef erased imm (pointee (P.the-row .written))), l₂₈) ∷ (tyRef erased imm (pointee (D.the-row .written)), l₂₉) ∷ (tyRef erased mut (tyArray (tyInt w8) 18432), l₃₀) ∷ (tyRef erased mut (tyArray (tyInt w8) 2560), l₃₁) ∷ (tyRef erased mut (tyArray (tyInt w64) 11), l₃₂) ∷ (tyBool, l₃₃) ∷ (tyRef erased imm (pointee (D.the-row .written)), l₃₄) ∷ (tyUnit, l₃₅) ∷ (tyRef erased mut (pointee (D.the-row .written)), l₃₆) ∷ (tyBool, l₃₇) ∷ (tyRef erased mut (pointee (P.the-row .written)), l₃₈) ∷ (sliceTy (tyRef erased mut (pointee (P.the-row .written))), l₃₉) ∷ (tyRef erased mut (pointee (D.the-row .written)), l₄₀) ∷ []
+    E = (An′.mir, l₀) ∷ (tyRef (named 0) mut (pointee (C.the-row .written)), l₁) ∷ (tyRef (named 1) mut (pointee (D.the-row .written)), l₂) ∷ (sliceTy (tyRef (named 2) mut (pointee (P.the-row .written))), l₃) ∷ (tyInt w32, l₄) ∷ (tyInt w64, l₅) ∷ (sliceTy (tyRef (named 3) imm (tyInt w8)), l₆) ∷ (sliceTy (tyRef erased imm (tyInt w8)), l₇) ∷ (An′.mir, l₈) ∷ (I′.mir, l₉) ∷ (P′.mir, l₁₀) ∷ (D′.mir, l₁₁) ∷ (An′.mir, l₁₂) ∷ (tyInt w64, l₁₃) ∷ (tyBool, l₁₄)
+        ∷ (tyRef erased mut (tyArray (tyInt w8) 18432), l₁₅) ∷ (tyRef erased mut (tyArray (tyInt w8) 2560), l₁₆) ∷ (tyRef erased mut (tyArray (tyInt w64) 11), l₁₇) ∷ (tyRef erased mut (tyArray (tyInt w8) 146), l₁₈) ∷ (tyRef erased mut (tyArray (tyInt w8) 2560), l₁₉) ∷ (tyRef erased mut (tyArray (tyInt w64) 11), l₂₀) ∷ (tyRef erased mut (tyArray (tyInt w8) 146), l₂₁) ∷ (tyRef erased imm (tyArray (tyInt w8) 18432), l₂₂) ∷ (tyRef erased mut (tyArray (tyInt w8) 2560), l₂₃) ∷ (tyRef erased mut (tyArray (tyInt w64) 11), l₂₄)
+        ∷ (tyRef erased imm (pointee (P.the-row .written)), l₂₅) ∷ (sliceTy (tyRef erased imm (pointee (P.the-row .written))), l₂₆) ∷ (tyRef erased imm (pointee (D.the-row .written)), l₂₇) ∷ (tyRef erased mut (tyArray (tyInt w8) 18432), l₂₈) ∷ (tyRef erased mut (tyArray (tyInt w8) 2560), l₂₉) ∷ (tyRef erased mut (tyArray (tyInt w64) 11), l₃₀) ∷ (tyBool, l₃₁) ∷ (tyUnit, l₃₂) ∷ (tyRef erased mut (pointee (D.the-row .written)), l₃₃) ∷ (tyBool, l₃₄) ∷ (tyRef erased mut (pointee (P.the-row .written)), l₃₅) ∷ (sliceTy (tyRef erased mut (pointee (P.the-row .written))), l₃₆) ∷ (tyRef erased mut (pointee (D.the-row .written)), l₃₇) ∷ []
 
     abbrev c : Controller
     c = a .c
@@ -175,17 +167,17 @@ module _ {M : Type 1} (𝓤 : URA M) (H : Heap 𝓤) (A : Atoms 𝓤) (W : Given
     wrong = not (eqb (length ys) imageSize)
 
     -- what the locals after the result hold: ENQUEUE's payload and answer, those of the injection, the flag of the last test, how far each call's references are taken, and the last locals
-    abbrev held : (cₚ cₑ c₇ c₈ c₉ c₁₀ cₐ c₁₁ : Content) (flag : Bool) (enq clr io inj : ℕ) (c₃₀ cᵣ c₃₁ c₃₂ c₃₃ : Content) (place : ℕ) (c₃₆ : Content) → List Content
-    held cₚ cₑ c₇ c₈ c₉ c₁₀ cₐ c₁₁ flag enq clr io inj c₃₀ cᵣ c₃₁ c₃₂ c₃₃ place c₃₆ =
-        holds (vptr (a .bc) (a .oc)) ∷ holds (vptr (a .bd) (a .od)) ∷ holds (table a) ∷ holds (vint w32 group) ∷ holds (vint w64 attr) ∷ holds sp ∷ cₚ ∷ cₑ ∷ c₇ ∷ c₈ ∷ c₉ ∷ c₁₀ ∷ cₐ ∷ c₁₁ ∷ holds (vint w64 (length ys)) ∷ holds (vbool flag)
+    abbrev held : (cₚ cₑ c₇ c₈ c₉ c₁₀ : Content) (flag : Bool) (enq clr io inj : ℕ) (c₃₀ c₃₁ c₃₂ c₃₃ : Content) (place : ℕ) (c₃₆ : Content) → List Content
+    held cₚ cₑ c₇ c₈ c₉ c₁₀ flag enq clr io inj c₃₀ c₃₁ c₃₂ c₃₃ place c₃₆ =
+        holds (vptr (a .bc) (a .oc)) ∷ holds (vptr (a .bd) (a .od)) ∷ holds (table a) ∷ holds (vint w32 group) ∷ holds (vint w64 attr) ∷ holds sp ∷ cₚ ∷ cₑ ∷ c₇ ∷ c₈ ∷ c₉ ∷ c₁₀ ∷ holds (vint w64 (length ys)) ∷ holds (vbool flag)
         ∷ since 1 enq (vptr (a .bc) (a .oc + 0)) ∷ since 2 enq (vptr (a .bc) (a .oc + 18432)) ∷ since 3 enq (vptr (a .bc) (a .oc + 20992)) ∷ since 4 enq (vptr (a .bc) (a .oc + 21080))
         ∷ since 1 clr (vptr (a .bc) (a .oc + 18432)) ∷ since 2 clr (vptr (a .bc) (a .oc + 20992)) ∷ since 3 clr (vptr (a .bc) (a .oc + 21080)) ∷ since 1 io (vptr (a .bc) (a .oc + 0)) ∷ since 2 io (vptr (a .bc) (a .oc + 18432)) ∷ since 3 io (vptr (a .bc) (a .oc + 20992))
         ∷ since 1 inj (vptr (a .bt) (a .ot)) ∷ since 2 inj (table a) ∷ since 3 inj (vptr (a .bd) (a .od)) ∷ since 4 inj (vptr (a .bc) (a .oc + 0)) ∷ since 5 inj (vptr (a .bc) (a .oc + 18432)) ∷ since 6 inj (vptr (a .bc) (a .oc + 20992))
-        ∷ c₃₀ ∷ cᵣ ∷ c₃₁ ∷ c₃₂ ∷ c₃₃ ∷ since 1 place (vptr (a .bt) (a .ot)) ∷ since 2 place (table a) ∷ c₃₆ ∷ []
+        ∷ c₃₀ ∷ c₃₁ ∷ c₃₂ ∷ c₃₃ ∷ since 1 place (vptr (a .bt) (a .ot)) ∷ since 2 place (table a) ∷ c₃₆ ∷ []
 
     -- nothing of an injection
     abbrev plainly : Bool → (enq clr io : ℕ) → (c₃₃ : Content) (place : ℕ) (c₃₆ : Content) → List Content
-    plainly flag enq clr io c₃₃ place c₃₆ = held blank blank blank blank blank blank blank blank flag enq clr io 0 blank blank blank blank c₃₃ place c₃₆
+    plainly flag enq clr io c₃₃ place c₃₆ = held blank blank blank blank blank blank flag enq clr io 0 blank blank blank c₃₃ place c₃₆
 
     -- after a test
     abbrev tested : Bool → List Content
@@ -245,18 +237,18 @@ module _ {M : Type 1} (𝓤 : URA M) (H : Heap 𝓤) (A : Atoms 𝓤) (W : Given
         takes-enqueue : Sq W (At ys d c (tested (eqb group 2))) (runs C′ Λ E (taken mir.s-5) (Then mir.t-6))
         takes-enqueue =
             assigns ! (of-opd ! (load ! (from ! (stop !)) (look ! 31 refl))) (from ! (stop !)) (init ! 33 refl (tt, (tt, (record { fits = room-p .0 }, tt)))) $
+            assigns ! (addr ! (from ! (hop ! (look ! 21 refl) (fld ! refl (stop !))))) (from ! (stop !)) (init ! 49 refl (tt, tt)) $
+            assigns ! (addr ! (from ! (hop ! (look ! 21 refl) (fld ! refl (stop !))))) (from ! (stop !)) (init ! 51 refl (tt, tt)) $
             assigns ! (addr ! (from ! (hop ! (look ! 21 refl) (fld ! refl (stop !))))) (from ! (stop !)) (init ! 53 refl (tt, tt)) $
             assigns ! (addr ! (from ! (hop ! (look ! 21 refl) (fld ! refl (stop !))))) (from ! (stop !)) (init ! 55 refl (tt, tt)) $
-            assigns ! (addr ! (from ! (hop ! (look ! 21 refl) (fld ! refl (stop !))))) (from ! (stop !)) (init ! 57 refl (tt, tt)) $
-            assigns ! (addr ! (from ! (hop ! (look ! 21 refl) (fld ! refl (stop !))))) (from ! (stop !)) (init ! 59 refl (tt, tt)) $
             nothing ! $ move ! (19 ∷ 0 ∷ []) $ fjoin ! $ owned ! u64 (Is u64) (uint-makes 𝓤 H A W w64) attr _ (refl, attr-fits) $ fjoin ! $ owned ! u64 (Is u64) (uint-makes 𝓤 H A W w64) 256 _ (refl, omega arith) $ fjoin ! $
             nothing ! $ move ! (19 ∷ 0 ∷ []) $ join ! $ move ! (10 ∷ 11 ∷ 12 ∷ 13 ∷ 0 ∷ 1 ∷ []) $
             calls-four (all mutably) ! fm (Enqueue 𝓤 H A mem′ run) (known .enqueue) to-enqueue c gc (a .bc) (a .oc) An.the-row T O₁ {Y = Y₁} (λ y. fsep ftrue (fsep ftrue (fsep ftrue ftrue))) (λ z w. Enqueued c (w .0) (w .1 .0) (w .1 .1 .0) (w .1 .1 .1 .0) attr ps z) goes₁ (λ n v. id⊢ 𝓤 _)
-            (λ n i. (and-then ! (load ! (from ! (stop !)) (look ! 52 refl)) (and-then ! (load ! (from ! (stop !)) (look ! 54 refl)) (and-then ! (load ! (from ! (stop !)) (look ! 56 refl)) (and-then ! (load ! (from ! (stop !)) (look ! 58 refl)) (and-then ! (lit ! tt) (and-then ! (load ! (from ! (stop !)) (look ! 28 refl)) (and-then ! (load ! (from ! (stop !)) (look ! 32 refl)) (no-more !))))))))) (λ z v w φ g′ is.
+            (λ n i. (and-then ! (load ! (from ! (stop !)) (look ! 48 refl)) (and-then ! (load ! (from ! (stop !)) (look ! 50 refl)) (and-then ! (load ! (from ! (stop !)) (look ! 52 refl)) (and-then ! (load ! (from ! (stop !)) (look ! 54 refl)) (and-then ! (lit ! tt) (and-then ! (load ! (from ! (stop !)) (look ! 28 refl)) (and-then ! (load ! (from ! (stop !)) (look ! 32 refl)) (no-more !))))))))) (λ z v w φ g′ is.
             land ! (from ! (stop !)) (init ! 35 refl (LL.lawful An.the-type An′.the-laws 𝓤 H A W .typed z _ is .0)) $ rewrite ! 35 (λ (u : Val). ‵ (fat fullShare An′.mir l₈ 0 u)) (ap only (An′.lowers .val-is z (v ∷ []) is)) refl $
             move ! (5 ∷ []) $ drop ! $ move ! (4 ∷ []) $ split ! $ move ! (1 ∷ []) $ drop ! $ move ! (5 ∷ 6 ∷ 7 ∷ 8 ∷ 9 ∷ 10 ∷ 11 ∷ 12 ∷ 1 ∷ 2 ∷ 3 ∷ 4 ∷ 13 ∷ 14 ∷ 15 ∷ 16 ∷ 17 ∷ 0 ∷ []) $
             copies ! mem′ run fm (known .by-fields) z (subst (Is An.the-row z) (An′.lowers .val-is z (v ∷ []) is) is) (λ i. (and-then ! (load ! (from ! (stop !)) (look ! 35 refl)) (no-more !))) (land ! (from ! (stop !)) (init ! 18 refl (LL.lawful An.the-type An′.the-laws 𝓤 H A W .typed z _ (subst (Is An.the-row z) (An′.lowers .val-is z (v ∷ []) is) is) .0)) $
-            ends-records 2 e mir.t-6 z (left-by (all mutably) Y₁ c w) g′ (subst (Is An.the-row z) (An′.lowers .val-is z (v ∷ []) is) is) refl (enqueued c _ _ _ _ attr ps z φ) (held (holds sp) (holds (An′.lowered z)) blank blank blank blank blank blank (eqb group 2) 4 0 0 0 blank blank blank blank blank 0 blank)))
+            ends-records 2 e mir.t-6 z (left-by (all mutably) Y₁ c w) g′ (subst (Is An.the-row z) (An′.lowers .val-is z (v ∷ []) is) is) refl (enqueued c _ _ _ _ attr ps z φ) (held (holds sp) (holds (An′.lowered z)) blank blank blank blank (eqb group 2) 4 0 0 0 blank blank blank blank 0 blank)))
 
       -- CLEAR_IRQS: after the arrays it takes the attribute
       module _ (e : eqb group 3 ≡ true) where
@@ -274,12 +266,12 @@ module _ {M : Type 1} (𝓤 : URA M) (H : Heap 𝓤) (A : Atoms 𝓤) (W : Given
 
         takes-clear : Sq W (At ys d c (tested (eqb group 3))) (runs C′ Λ E (taken mir.s-7) (Then mir.t-8))
         takes-clear =
+            assigns ! (addr ! (from ! (hop ! (look ! 21 refl) (fld ! refl (stop !))))) (from ! (stop !)) (init ! 57 refl (tt, tt)) $
+            assigns ! (addr ! (from ! (hop ! (look ! 21 refl) (fld ! refl (stop !))))) (from ! (stop !)) (init ! 59 refl (tt, tt)) $
             assigns ! (addr ! (from ! (hop ! (look ! 21 refl) (fld ! refl (stop !))))) (from ! (stop !)) (init ! 61 refl (tt, tt)) $
-            assigns ! (addr ! (from ! (hop ! (look ! 21 refl) (fld ! refl (stop !))))) (from ! (stop !)) (init ! 63 refl (tt, tt)) $
-            assigns ! (addr ! (from ! (hop ! (look ! 21 refl) (fld ! refl (stop !))))) (from ! (stop !)) (init ! 65 refl (tt, tt)) $
             nothing ! $ owned ! u64 (Is u64) (uint-makes 𝓤 H A W w64) attr _ (refl, attr-fits) $ fjoin ! $ nothing ! $ move ! (10 ∷ 11 ∷ 12 ∷ 13 ∷ 0 ∷ 1 ∷ []) $
             calls-four clear-ways ! fm (Clear 𝓤 H A mem′ run) (known .clear) to-clear c gc (a .bc) (a .oc) An.the-row (‵ ftrue) O₂ {Y = Y₂} (λ y. fsep ftrue ftrue) (λ z w. Cleared c (c .slots) (w .0) (w .1 .0) (w .1 .1 .0) attr ps z) goes₂ (λ n v. id⊢ 𝓤 _)
-            (λ n i. (and-then ! (load ! (from ! (stop !)) (look ! 62 refl)) (and-then ! (load ! (from ! (stop !)) (look ! 64 refl)) (and-then ! (load ! (from ! (stop !)) (look ! 66 refl)) (and-then ! (load ! (from ! (stop !)) (look ! 30 refl)) (no-more !)))))) (λ z v w φ g′ is.
+            (λ n i. (and-then ! (load ! (from ! (stop !)) (look ! 58 refl)) (and-then ! (load ! (from ! (stop !)) (look ! 60 refl)) (and-then ! (load ! (from ! (stop !)) (look ! 62 refl)) (and-then ! (load ! (from ! (stop !)) (look ! 30 refl)) (no-more !)))))) (λ z v w φ g′ is.
             land ! (from ! (stop !)) (init ! 21 refl (LL.lawful An.the-type An′.the-laws 𝓤 H A W .typed z _ is .0)) $ rewrite ! 21 (λ (u : Val). ‵ (fat fullShare An′.mir l₀ 0 u)) (ap only (An′.lowers .val-is z (v ∷ []) is)) refl $
             move ! (5 ∷ []) $ drop ! $ move ! (4 ∷ []) $ drop ! $ move ! (4 ∷ 5 ∷ 6 ∷ 7 ∷ 8 ∷ 9 ∷ 10 ∷ 11 ∷ 0 ∷ 1 ∷ 2 ∷ 3 ∷ []) $
             ends (Then mir.t-8) refl (left-by clear-ways Y₂ c w) d ys z refl g′ gd (subst (Is An.the-row z) (An′.lowers .val-is z (v ∷ []) is) is) (promised-records 3 e z (left-by clear-ways Y₂ c w) refl (cleared c (c .slots) _ _ _ attr ps z φ)) (plainly (eqb group 3) 0 3 0 blank 0 blank))
@@ -300,13 +292,13 @@ module _ {M : Type 1} (𝓤 : URA M) (H : Heap 𝓤) (A : Atoms 𝓤) (W : Given
 
         takes-clear-io : Sq W (At ys d c (tested (eqb group 8))) (runs C′ Λ E (taken mir.s-9) (Then mir.t-10))
         takes-clear-io =
+            assigns ! (addr ! (from ! (hop ! (look ! 21 refl) (fld ! refl (stop !))))) (from ! (stop !)) (init ! 63 refl (tt, tt)) $
+            assigns ! (addr ! (from ! (hop ! (look ! 21 refl) (fld ! refl (stop !))))) (from ! (stop !)) (init ! 65 refl (tt, tt)) $
             assigns ! (addr ! (from ! (hop ! (look ! 21 refl) (fld ! refl (stop !))))) (from ! (stop !)) (init ! 67 refl (tt, tt)) $
-            assigns ! (addr ! (from ! (hop ! (look ! 21 refl) (fld ! refl (stop !))))) (from ! (stop !)) (init ! 69 refl (tt, tt)) $
-            assigns ! (addr ! (from ! (hop ! (look ! 21 refl) (fld ! refl (stop !))))) (from ! (stop !)) (init ! 71 refl (tt, tt)) $
             nothing ! $ move ! (19 ∷ 0 ∷ []) $ fjoin ! $ owned ! u64 (Is u64) (uint-makes 𝓤 H A W w64) attr _ (refl, attr-fits) $ fjoin ! $
             nothing ! $ move ! (19 ∷ 0 ∷ []) $ join ! $ move ! (10 ∷ 11 ∷ 12 ∷ 13 ∷ 0 ∷ 1 ∷ []) $
             calls-four io-ways ! fm (ClearIo 𝓤 H A mem′ run) (known .clear-io) to-clear-io c gc (a .bc) (a .oc) An.the-row T O₃ {Y = Y₃} (λ y. fsep ftrue (fsep ftrue ftrue)) (λ z w. ClearedIo c (c .slots) (w .1 .0) (w .1 .1 .0) (c .singles) attr ps z) goes₃ (λ n v. id⊢ 𝓤 _)
-            (λ n i. (and-then ! (load ! (from ! (stop !)) (look ! 66 refl)) (and-then ! (load ! (from ! (stop !)) (look ! 68 refl)) (and-then ! (load ! (from ! (stop !)) (look ! 70 refl)) (and-then ! (load ! (from ! (stop !)) (look ! 28 refl)) (and-then ! (load ! (from ! (stop !)) (look ! 30 refl)) (no-more !))))))) (λ z v w φ g′ is.
+            (λ n i. (and-then ! (load ! (from ! (stop !)) (look ! 62 refl)) (and-then ! (load ! (from ! (stop !)) (look ! 64 refl)) (and-then ! (load ! (from ! (stop !)) (look ! 66 refl)) (and-then ! (load ! (from ! (stop !)) (look ! 28 refl)) (and-then ! (load ! (from ! (stop !)) (look ! 30 refl)) (no-more !))))))) (λ z v w φ g′ is.
             land ! (from ! (stop !)) (init ! 19 refl (LL.lawful An.the-type An′.the-laws 𝓤 H A W .typed z _ is .0)) $ rewrite ! 19 (λ (u : Val). ‵ (fat fullShare An′.mir l₀ 0 u)) (ap only (An′.lowers .val-is z (v ∷ []) is)) refl $
             move ! (5 ∷ []) $ drop ! $ move ! (4 ∷ []) $ split ! $ move ! (1 ∷ []) $ drop ! $ move ! (5 ∷ 6 ∷ 7 ∷ 8 ∷ 9 ∷ 10 ∷ 11 ∷ 12 ∷ 1 ∷ 2 ∷ 3 ∷ 4 ∷ 13 ∷ 14 ∷ 15 ∷ 16 ∷ 17 ∷ 0 ∷ []) $
             ends-records 8 e mir.t-10 z (left-by io-ways Y₃ c w) g′ (subst (Is An.the-row z) (An′.lowers .val-is z (v ∷ []) is) is) refl (cleared-io c (c .slots) _ _ (c .singles) attr ps z φ) (plainly (eqb group 8) 0 0 3 blank 0 blank))
@@ -325,9 +317,9 @@ module _ {M : Type 1} (𝓤 : URA M) (H : Heap 𝓤) (A : Atoms 𝓤) (W : Given
         canonical : Canonical place
         canonical = all-get Canonical ys attr unused (valid right .places) canonical-unused
 
-        -- what the locals hold: the place's, the device record's, the answer's, the record's once more and the next record's, so many references, and the last four
-        abbrev injected : Content → (c₈ c₉ c₁₀ cₐ c₁₁ : Content) → ℕ → (c₃₀ cᵣ c₃₁ c₃₂ : Content) → List Content
-        injected v₀ c₈ c₉ c₁₀ cₐ c₁₁ n c₃₀ cᵣ c₃₁ c₃₂ = v₀ ∷ held blank blank (holds (I′.lowered id)) c₈ c₉ c₁₀ cₐ c₁₁ (eqb group 10) 0 0 0 n c₃₀ cᵣ c₃₁ c₃₂ blank 0 blank
+        -- what the locals hold: the place's, the device record's, and the answer's, so many references, and the last three
+        abbrev injected : Content → (c₈ c₉ c₁₀ : Content) → ℕ → (c₃₀ c₃₁ c₃₂ : Content) → List Content
+        injected v₀ c₈ c₉ c₁₀ n c₃₀ c₃₁ c₃₂ = v₀ ∷ held blank blank (holds (I′.lowered id)) c₈ c₉ c₁₀ (eqb group 10) 0 0 0 n c₃₀ c₃₁ c₃₂ blank 0 blank
 
         abbrev O₄ : Fml
         O₄ = fsep (bool .own (c .ais) (vbool (c .ais) ∷ [])) (fsep (D.the-row .own d (D′.lowered d ∷ [])) (fsep (P.the-row .own place (P′.lowered place ∷ [])) (fsep (I.the-row .own id (I′.lowered id ∷ [])) ftrue)))
@@ -346,98 +338,83 @@ module _ {M : Type 1} (𝓤 : URA M) (H : Heap 𝓤) (A : Atoms 𝓤) (W : Given
           promised m e = subst (λ (x : Device). Requested (setAttr group attr) c c′ d x ys ys ps (saw r ps)) e
               (subst (λ (g : ℕ). Requested (setAttr g attr) c c′ d (notedIn (c .ais) d place r) ys ys ps (saw r ps)) (sym (eqb-true group 10 is-inject)) (inject-promises attr c c′ d ys ps r right (valid right) same φ))
 
-          abbrev answered : Content → (cₐ c₁₁ : Content) → Bool → (cᵣ c₃₁ c₃₂ : Content) → List Content
-          answered v₀ cₐ c₁₁ flag cᵣ c₃₁ c₃₂ = injected v₀ (holds (P′.lowered place)) (holds (D′.lowered d)) (holds (An′.lowered r)) cₐ c₁₁ 6 (holds (vbool flag)) cᵣ c₃₁ c₃₂
+          abbrev answered : Content → Bool → (c₃₁ c₃₂ : Content) → List Content
+          answered v₀ flag c₃₁ c₃₂ = injected v₀ (holds (P′.lowered place)) (holds (D′.lowered d)) (holds (An′.lowered r)) 6 (holds (vbool flag)) c₃₁ c₃₂
 
           -- what follows the second test
           abbrev Then-noted : Kit.Post 𝓤 H
           Then-noted = anyQ (afterSeq 𝓤 H (Wp 𝓤 H C′ Λ E (afters 13 (taken mir.s-11)) (post 𝓤 H (Then mir.t-12))) (post 𝓤 H (Then mir.t-12)))
 
-          abbrev to-after : AfterInjection 𝓤 H A mem′ run .Ghost
-          to-after = ((tt, tt, tt, (c′ .ais, (d, (place, tt))), (vbool (c′ .ais) ∷ [], (D′.lowered d ∷ [], (P′.lowered place ∷ [], tt)))), tt)
+          abbrev noted : Device
+          noted = injectedDevice (c′ .ais) d place
 
-          goes-after : ent 𝓤 (emp 𝓤) (AfterInjection 𝓤 H A mem′ run .pre to-after)
-          goes-after = qed W [] ∵ nothing ! $ owned ! P.the-row (Is P.the-row) (LL.makes P.the-type P′.the-plain 𝓤 H A) place _ gp $ fjoin ! $ owned ! D.the-row (Is D.the-row) (LL.makes D.the-type D′.the-plain 𝓤 H A) d _ gd $ fjoin ! $
-              owned ! bool (Is bool) (bool-makes 𝓤 H A W) (c′ .ais) _ refl $ fjoin ! $ nothing ! $ join ! $ says ! (canonical .iscSmall) $ done !
+          noted-is : eqb (r .count) 1 ≡ true → notedIn (c .ais) d place r ≡ noted
+          noted-is e = chosen (eqb (r .count) 1) (injectedDevice (c .ais) d place) d e ∙ ap (λ (x : Bool). injectedDevice x d place) (sym same)
 
-          -- the record n, which the injection leaves, is stored
-          stores-it : eqb (r .count) 1 ≡ true → (n : Device) → n ≡ injectedDevice (c′ .ais) d place → Is D.the-row n (D′.lowered n ∷ []) → Sq W (At ys d c′ (answered blank (holds (D′.lowered d)) (holds (D′.lowered n)) (c′ .ais) (holds (vptr (a .bd) (a .od))) blank blank)) (runs C′ Λ E (afters 17 (taken mir.s-11)) (Then mir.t-12))
-          stores-it e n n-is gn =
-              assigns ! (addr ! (from ! (hop ! (look ! 23 refl) (stop !)))) (from ! (stop !)) (init ! 91 refl (tt, tt)) $
-              move ! (1 ∷ []) $ stores-device ! mem′ run fm (known .store-device) d n (a .bd) (a .od) gd gn (λ _ _. (and-then ! (load ! (from ! (stop !)) (look ! 92 refl)) (and-then ! (load ! (from ! (stop !)) (look ! 48 refl)) (no-more !)))) (λ _.
-              land ! (from ! (stop !)) (init ! 89 refl (tt, tt)) $ move ! (1 ∷ []) $ assigns ! (of-opd ! (load ! (from ! (stop !)) (look ! 43 refl))) (from ! (stop !)) (init ! 19 refl (LL.lawful An.the-type An′.the-laws 𝓤 H A W .typed r _ gr .0)) $
-              ends (Then mir.t-12) refl c′ n ys r refl gc′ gn gr (promised n (noted-is ∙ sym n-is)) (held blank blank (holds (I′.lowered id)) (holds (P′.lowered place)) (holds (D′.lowered d)) (holds (An′.lowered r)) (holds (D′.lowered d)) (holds (D′.lowered n)) (eqb group 10) 0 0 0 6 (holds (vbool (c′ .ais))) (holds (vptr (a .bd) (a .od))) (holds vunit) (holds (vptr (a .bd) (a .od))) blank 0 blank))
-            where
-              noted-is : notedIn (c .ais) d place r ≡ injectedDevice (c′ .ais) d place
-              noted-is = chosen (eqb (r .count) 1) (injectedDevice (c .ais) d place) d e ∙ ap (λ (x : Bool). injectedDevice x d place) (sym same)
-
-          -- one record was appended: the device record after it is made
-          notes-it : eqb (r .count) 1 ≡ true → Sq W (At ys d c′ (answered blank blank blank (not (eqb (r .count) 1)) blank blank blank)) (runs C′ Λ E (afters 13 (taken mir.s-11)) (Then mir.t-12))
+          -- one record was appended: `note_injection` is called
+          notes-it : eqb (r .count) 1 ≡ true → Sq W (At ys d c′ (answered blank (not (eqb (r .count) 1)) blank blank)) (runs C′ Λ E (afters 13 (taken mir.s-11)) (Then mir.t-12))
           notes-it e =
-              assigns ! (addr ! (from ! (hop ! (look ! 23 refl) (stop !)))) (from ! (stop !)) (init ! 87 refl (tt, tt)) $
-              move ! (1 ∷ []) $ reads-device ! mem′ run fm (known .read-device) d (a .bd) (a .od) gd (λ _ _. (and-then ! (load ! (from ! (stop !)) (look ! 88 refl)) (no-more !)))
-              (land ! (from ! (stop !)) (init ! 45 refl (LL.lawful D.the-type D′.the-laws 𝓤 H A W .typed d _ gd .0)) $ move ! (1 ∷ []) $
-              assigns ! (of-opd ! (load ! (from ! (hop ! (look ! 21 refl) (fld ! refl (stop !)))) (look ! 12 refl))) (from ! (stop !)) (store ! 85 refl (tt, tt)) $
-              calls-plain ! fm (AfterInjection 𝓤 H A mem′ run) (known .after) to-after goes-after D.the-row {X = Unit {0} × (Unit {0} × (Unit {0} × Unit {0}))} (λ w. fsep ftrue (fsep ftrue (fsep ftrue ftrue))) (λ n w. n ≡ injectedDevice (c′ .ais) d place) (λ v. id⊢ 𝓤 _)
-              (λ i. (and-then ! (load ! (from ! (stop !)) (look ! 86 refl)) (and-then ! (load ! (from ! (stop !)) (look ! 46 refl)) (and-then ! (load ! (from ! (stop !)) (look ! 40 refl)) (no-more !))))) (λ n v w n-is is.
-              land ! (from ! (stop !)) (init ! 47 refl (LL.lawful D.the-type D′.the-laws 𝓤 H A W .typed n _ is .0)) $ rewrite ! 47 (λ (u : Val). ‵ (fat fullShare D′.mir l₁₄ 0 u)) (ap only (LL.tells D.the-type D′.the-laws n (v ∷ []) is)) refl $
-              stores-it e n n-is (subst (Is D.the-row n) (LL.tells D.the-type D′.the-laws n (v ∷ []) is) is)))
+              assigns ! (addr ! (from ! (hop ! (look ! 23 refl) (stop !)))) (from ! (stop !)) (init ! 85 refl (tt, tt)) $
+              assigns ! (of-opd ! (load ! (from ! (hop ! (look ! 21 refl) (fld ! refl (stop !)))) (look ! 12 refl))) (from ! (stop !)) (store ! 81 refl (tt, tt)) $
+              move ! (1 ∷ []) $ notes-injection ! mem′ run fm (known .note) d (c′ .ais) place (a .bd) (a .od) gd gp (canonical .iscSmall) (λ _ _. (and-then ! (load ! (from ! (stop !)) (look ! 86 refl)) (and-then ! (load ! (from ! (stop !)) (look ! 82 refl)) (and-then ! (load ! (from ! (stop !)) (look ! 40 refl)) (no-more !))))) (λ gn.
+              land ! (from ! (stop !)) (init ! 83 refl (tt, tt)) $ move ! (1 ∷ []) $ assigns ! (of-opd ! (load ! (from ! (stop !)) (look ! 43 refl))) (from ! (stop !)) (init ! 19 refl (LL.lawful An.the-type An′.the-laws 𝓤 H A W .typed r _ gr .0)) $
+              ends (Then mir.t-12) refl c′ noted ys r refl gc′ gn gr (promised noted (noted-is e)) (held blank blank (holds (I′.lowered id)) (holds (P′.lowered place)) (holds (D′.lowered d)) (holds (An′.lowered r)) (eqb group 10) 0 0 0 6 (holds (vbool (c′ .ais))) (holds vunit) (holds (vptr (a .bd) (a .od))) blank 0 blank))
 
-          tests-it : Sq W (At ys d c′ (answered blank blank blank (c .ais) blank blank blank)) (runs C′ Λ E (afters 11 (taken mir.s-11)) (Then mir.t-12))
+          tests-it : Sq W (At ys d c′ (answered blank (c .ais) blank blank)) (runs C′ Λ E (afters 11 (taken mir.s-11)) (Then mir.t-12))
           tests-it =
-              assigns ! (bin ! (load ! (from ! (fld ! refl (stop !))) (look-in ! 43 (sub ! 1 refl (whole !)))) (lit ! tt) tt) (from ! (stop !)) (store ! 85 refl (tt, tt)) $
-              first ! $ branches ! (load ! (from ! (stop !)) (look ! 85 refl))
+              assigns ! (bin ! (load ! (from ! (fld ! refl (stop !))) (look-in ! 43 (sub ! 1 refl (whole !)))) (lit ! tt) tt) (from ! (stop !)) (store ! 81 refl (tt, tt)) $
+              first ! $ branches ! (load ! (from ! (stop !)) (look ! 81 refl))
               (λ t. assigns ! (of-opd ! (load ! (from ! (stop !)) (look ! 43 refl))) (from ! (stop !)) (init ! 19 refl (LL.lawful An.the-type An′.the-laws 𝓤 H A W .typed r _ gr .0)) $
-              ends Then-noted refl c′ d ys r refl gc′ gd gr (promised d (passed (eqb (r .count) 1) (injectedDevice (c .ais) d place) d (holds-false (eqb (r .count) 1) t))) (held blank blank (holds (I′.lowered id)) (holds (P′.lowered place)) (holds (D′.lowered d)) (holds (An′.lowered r)) blank blank (eqb group 10) 0 0 0 6 (holds (vbool (not (eqb (r .count) 1)))) blank blank blank blank 0 blank))
+              ends Then-noted refl c′ d ys r refl gc′ gd gr (promised d (passed (eqb (r .count) 1) (injectedDevice (c .ais) d place) d (holds-false (eqb (r .count) 1) t))) (held blank blank (holds (I′.lowered id)) (holds (P′.lowered place)) (holds (D′.lowered d)) (holds (An′.lowered r)) (eqb group 10) 0 0 0 6 (holds (vbool (not (eqb (r .count) 1)))) blank blank blank 0 blank))
               (λ t. skips ! $ exec ! C′ Λ E (afters 13 (taken mir.s-11)) (Then mir.t-12) $ notes-it (not-not (eqb (r .count) 1) t))
 
         -- `answer_inject` is called
-        injects-it : Is P.the-row place (P′.lowered place ∷ []) → Sq W (At ys d c (injected blank (holds (P′.lowered place)) (holds (D′.lowered d)) blank blank blank 6 (holds (vbool (c .ais))) blank blank blank)) (runs C′ Λ E (afters 10 (taken mir.s-11)) (Then mir.t-12))
+        injects-it : Is P.the-row place (P′.lowered place ∷ []) → Sq W (At ys d c (injected blank (holds (P′.lowered place)) (holds (D′.lowered d)) blank 6 (holds (vbool (c .ais))) blank blank)) (runs C′ Λ E (afters 10 (taken mir.s-11)) (Then mir.t-12))
         injects-it gp =
             nothing ! $ owned ! I.the-row (Is I.the-row) (makes-id 𝓤 H A W) id _ fits-id $ fjoin ! $ owned ! P.the-row (Is P.the-row) (LL.makes P.the-type P′.the-plain 𝓤 H A) place _ gp $ fjoin ! $ owned ! D.the-row (Is D.the-row) (LL.makes D.the-type D′.the-plain 𝓤 H A) d _ gd $ fjoin ! $
             owned ! bool (Is bool) (bool-makes 𝓤 H A W) (c .ais) _ refl $ fjoin ! $ nothing ! $ move ! (10 ∷ 11 ∷ 12 ∷ 13 ∷ 0 ∷ 1 ∷ []) $
             calls-four inject-ways ! fm (AnswerInject 𝓤 H A mem′ run) (known .inject) to-inject c gc (a .bc) (a .oc) An.the-row (‵ ftrue) O₄ {Y = Y₄} (λ y. fsep ftrue (fsep ftrue (fsep ftrue (fsep ftrue ftrue))))
             (λ z w. (singles : List ℕ) → Injected attr (controller (c .slots) (c .order) (c .counts) singles (c .ais)) (controller (w .0) (w .1 .0) (w .1 .1 .0) singles (c .ais)) d place z) goes₄ (λ n v. id⊢ 𝓤 _)
-            (λ n i. (and-then ! (load ! (from ! (stop !)) (look ! 80 refl)) (and-then ! (load ! (from ! (stop !)) (look ! 82 refl)) (and-then ! (load ! (from ! (stop !)) (look ! 84 refl)) (and-then ! (load ! (from ! (stop !)) (look ! 86 refl)) (and-then ! (load ! (from ! (stop !)) (look ! 42 refl)) (and-then ! (load ! (from ! (stop !)) (look ! 40 refl)) (and-then ! (load ! (from ! (stop !)) (look ! 38 refl)) (no-more !))))))))) (λ z v w φ g′ is.
+            (λ n i. (and-then ! (load ! (from ! (stop !)) (look ! 76 refl)) (and-then ! (load ! (from ! (stop !)) (look ! 78 refl)) (and-then ! (load ! (from ! (stop !)) (look ! 80 refl)) (and-then ! (load ! (from ! (stop !)) (look ! 82 refl)) (and-then ! (load ! (from ! (stop !)) (look ! 42 refl)) (and-then ! (load ! (from ! (stop !)) (look ! 40 refl)) (and-then ! (load ! (from ! (stop !)) (look ! 38 refl)) (no-more !))))))))) (λ z v w φ g′ is.
             land ! (from ! (stop !)) (init ! 45 refl (LL.lawful An.the-type An′.the-laws 𝓤 H A W .typed z _ is .0)) $ rewrite ! 45 (λ (u : Val). ‵ (fat fullShare An′.mir l₁₂ 0 u)) (ap only (An′.lowers .val-is z (v ∷ []) is)) refl $
             move ! (5 ∷ []) $ drop ! $ move ! (4 ∷ []) $ drop ! $ move ! (4 ∷ 5 ∷ 6 ∷ 7 ∷ 8 ∷ 9 ∷ 10 ∷ 11 ∷ 0 ∷ 1 ∷ 2 ∷ 3 ∷ []) $
             tests-it gp z (subst (Is An.the-row z) (An′.lowers .val-is z (v ∷ []) is) is) (left-by inject-ways Y₄ c w) g′ refl (φ (c .singles)))
 
         -- its operands
-        operands : Is P.the-row place (P′.lowered place ∷ []) → Sq W (At ys d c (injected blank (holds (P′.lowered place)) (holds (D′.lowered d)) blank blank blank 3 blank blank blank blank)) (runs C′ Λ E (afters 6 (taken mir.s-11)) (Then mir.t-12))
+        operands : Is P.the-row place (P′.lowered place ∷ []) → Sq W (At ys d c (injected blank (holds (P′.lowered place)) (holds (D′.lowered d)) blank 3 blank blank blank)) (runs C′ Λ E (afters 6 (taken mir.s-11)) (Then mir.t-12))
         operands gp =
+            assigns ! (addr ! (from ! (hop ! (look ! 21 refl) (fld ! refl (stop !))))) (from ! (stop !)) (init ! 75 refl (tt, tt)) $
+            assigns ! (addr ! (from ! (hop ! (look ! 21 refl) (fld ! refl (stop !))))) (from ! (stop !)) (init ! 77 refl (tt, tt)) $
             assigns ! (addr ! (from ! (hop ! (look ! 21 refl) (fld ! refl (stop !))))) (from ! (stop !)) (init ! 79 refl (tt, tt)) $
-            assigns ! (addr ! (from ! (hop ! (look ! 21 refl) (fld ! refl (stop !))))) (from ! (stop !)) (init ! 81 refl (tt, tt)) $
-            assigns ! (addr ! (from ! (hop ! (look ! 21 refl) (fld ! refl (stop !))))) (from ! (stop !)) (init ! 83 refl (tt, tt)) $
-            assigns ! (of-opd ! (load ! (from ! (hop ! (look ! 21 refl) (fld ! refl (stop !)))) (look ! 12 refl))) (from ! (stop !)) (init ! 85 refl (tt, tt)) $ injects-it gp
+            assigns ! (of-opd ! (load ! (from ! (hop ! (look ! 21 refl) (fld ! refl (stop !)))) (look ! 12 refl))) (from ! (stop !)) (init ! 81 refl (tt, tt)) $ injects-it gp
 
         takes-inject : Sq W (At ys d c (tested (eqb group 10))) (runs C′ Λ E (taken mir.s-11) (Then mir.t-12))
         takes-inject =
             assigns ! (agg ! (and-then ! (load ! (from ! (stop !)) (look ! 29 refl)) (no-more !))) (from ! (stop !)) (init ! 37 refl (typed-id 𝓤 H A W id fits-id)) $
-            assigns ! (addr ! (from ! (fld ! refl (hop ! (look-in ! 25 (sub ! 0 refl (whole !))) (stop !))))) (from ! (stop !)) (init ! 73 refl (tt, tt)) $
-            assigns ! (agg ! (and-then ! (load ! (from ! (stop !)) (look ! 73 refl)) (and-then ! (load ! (from ! (fld ! refl (stop !))) (look-in ! 25 (sub ! 1 refl (whole !)))) (no-more !)))) (from ! (stop !)) (init ! 75 refl (tt, (tt, (record { fits = room .0 }, tt)))) $
-            looks-up ! mem′ run fm (known .look-up) ys id (a .bt) (a .ot) room fits-id (λ _ _. (and-then ! (load ! (from ! (stop !)) (look ! 76 refl)) (and-then ! (load ! (from ! (stop !)) (look ! 38 refl)) (no-more !))))
+            assigns ! (addr ! (from ! (fld ! refl (hop ! (look-in ! 25 (sub ! 0 refl (whole !))) (stop !))))) (from ! (stop !)) (init ! 69 refl (tt, tt)) $
+            assigns ! (agg ! (and-then ! (load ! (from ! (stop !)) (look ! 69 refl)) (and-then ! (load ! (from ! (fld ! refl (stop !))) (look-in ! 25 (sub ! 1 refl (whole !)))) (no-more !)))) (from ! (stop !)) (init ! 71 refl (tt, (tt, (record { fits = room .0 }, tt)))) $
+            looks-up ! mem′ run fm (known .look-up) ys id (a .bt) (a .ot) room fits-id (λ _ _. (and-then ! (load ! (from ! (stop !)) (look ! 72 refl)) (and-then ! (load ! (from ! (stop !)) (look ! 38 refl)) (no-more !))))
             (λ gp. land ! (from ! (stop !)) (init ! 39 refl (LL.lawful P.the-type P′.the-laws 𝓤 H A W .typed place _ gp .0)) $
-            assigns ! (addr ! (from ! (hop ! (look ! 23 refl) (stop !)))) (from ! (stop !)) (init ! 77 refl (tt, tt)) $
-            move ! (1 ∷ []) $ reads-device ! mem′ run fm (known .read-device) d (a .bd) (a .od) gd (λ _ _. (and-then ! (load ! (from ! (stop !)) (look ! 78 refl)) (no-more !)))
+            assigns ! (addr ! (from ! (hop ! (look ! 23 refl) (stop !)))) (from ! (stop !)) (init ! 73 refl (tt, tt)) $
+            move ! (1 ∷ []) $ reads-device ! mem′ run fm (known .read-device) d (a .bd) (a .od) gd (λ _ _. (and-then ! (load ! (from ! (stop !)) (look ! 74 refl)) (no-more !)))
             (land ! (from ! (stop !)) (init ! 41 refl (LL.lawful D.the-type D′.the-laws 𝓤 H A W .typed d _ gd .0)) $ move ! (1 ∷ []) $ operands gp))
 
       -- ---- a request about an adapter's place
       takes-place : onPlace group ≡ true → Sq W (At ys d c (blank ∷ plainly (eqb group 10) 0 0 0 (holds (vbool (onPlace group))) 0 blank)) (runs C′ Λ E (taken mir.s-13) (Then mir.t-14))
       takes-place on =
-          assigns ! (addr ! (from ! (fld ! refl (hop ! (look-in ! 25 (sub ! 0 refl (whole !))) (stop !))))) (from ! (stop !)) (init ! 95 refl (tt, tt)) $
-          assigns ! (agg ! (and-then ! (load ! (from ! (stop !)) (look ! 95 refl)) (and-then ! (load ! (from ! (fld ! refl (stop !))) (look-in ! 25 (sub ! 1 refl (whole !)))) (no-more !)))) (from ! (stop !)) (init ! 97 refl (tt, (tt, (record { fits = room .0 }, tt)))) $
-          move ! (0 ∷ 17 ∷ 18 ∷ []) $ sets-place ! mem′ run fm (known .set-place) κp qp bp op γp ps ys (a .bt) (a .ot) room group attr group-fits attr-fits on (λ _ _ _. (and-then ! (load ! (from ! (stop !)) (look ! 97 refl)) (and-then ! (load ! (from ! (stop !)) (look ! 27 refl)) (and-then ! (load ! (from ! (stop !)) (look ! 29 refl)) (and-then ! (load ! (from ! (stop !)) (look ! 31 refl)) (no-more !)))))) (λ z v zs φ is.
+          assigns ! (addr ! (from ! (fld ! refl (hop ! (look-in ! 25 (sub ! 0 refl (whole !))) (stop !))))) (from ! (stop !)) (init ! 89 refl (tt, tt)) $
+          assigns ! (agg ! (and-then ! (load ! (from ! (stop !)) (look ! 89 refl)) (and-then ! (load ! (from ! (fld ! refl (stop !))) (look-in ! 25 (sub ! 1 refl (whole !)))) (no-more !)))) (from ! (stop !)) (init ! 91 refl (tt, (tt, (record { fits = room .0 }, tt)))) $
+          move ! (0 ∷ 17 ∷ 18 ∷ []) $ sets-place ! mem′ run fm (known .set-place) κp qp bp op γp ps ys (a .bt) (a .ot) room group attr group-fits attr-fits on (λ _ _ _. (and-then ! (load ! (from ! (stop !)) (look ! 91 refl)) (and-then ! (load ! (from ! (stop !)) (look ! 27 refl)) (and-then ! (load ! (from ! (stop !)) (look ! 29 refl)) (and-then ! (load ! (from ! (stop !)) (look ! 31 refl)) (no-more !)))))) (λ z v zs φ is.
           land ! (from ! (stop !)) (init ! 19 refl (LL.lawful An.the-type An′.the-laws 𝓤 H A W .typed z _ is .0)) $ rewrite ! 19 (λ (u : Val). ‵ (fat fullShare An′.mir l₀ 0 u)) (ap only (An′.lowers .val-is z (v ∷ []) is)) refl $
           move ! (0 ∷ 3 ∷ 4 ∷ 5 ∷ 6 ∷ 7 ∷ 8 ∷ 9 ∷ 10 ∷ 11 ∷ 12 ∷ 13 ∷ 14 ∷ 15 ∷ 16 ∷ 17 ∷ 18 ∷ 1 ∷ 2 ∷ []) $
           ends (Then mir.t-14) refl c d zs z (φ .same-length) gc gd (subst (Is An.the-row z) (An′.lowers .val-is z (v ∷ []) is) is) (place-promises group attr c d ys ps z right (valid right) zs φ) (plainly (eqb group 10) 0 0 0 (holds (vbool (onPlace group))) 2 blank))
 
       -- ---- any other request is about the device record, or of no group
-      takes-modes : OfModes group → Sq W (At ys d c (blank ∷ plainly (eqb group 10) 0 0 0 (holds (vbool (onPlace group))) 0 blank)) (runs C′ Λ E mir.t-14 (atRet E Post))
+      takes-modes : (group ≡ 2 → ⊥) × (group ≡ 3 → ⊥) × (group ≡ 8 → ⊥) × (group ≡ 10 → ⊥) × (onPlace group ≡ false) → Sq W (At ys d c (blank ∷ plainly (eqb group 10) 0 0 0 (holds (vbool (onPlace group))) 0 blank)) (runs C′ Λ E mir.t-14 (atRet E Post))
       takes-modes other =
-          assigns ! (addr ! (from ! (hop ! (look ! 23 refl) (stop !)))) (from ! (stop !)) (init ! 99 refl (tt, tt)) $
-          assigns ! (of-opd ! (load ! (from ! (hop ! (look ! 21 refl) (fld ! refl (stop !)))) (look ! 12 refl))) (from ! (stop !)) (store ! 51 refl (tt, tt)) $
-          move ! (1 ∷ 17 ∷ 18 ∷ []) $ sets-modes ! mem′ run fm (known .set-modes) κp qp bp op γp ps d (a .bd) (a .od) gd (c .ais) group attr group-fits attr-fits other (λ _ _ _. (and-then ! (load ! (from ! (stop !)) (look ! 99 refl)) (and-then ! (load ! (from ! (stop !)) (look ! 51 refl)) (and-then ! (load ! (from ! (stop !)) (look ! 27 refl)) (and-then ! (load ! (from ! (stop !)) (look ! 29 refl)) (and-then ! (load ! (from ! (stop !)) (look ! 31 refl)) (no-more !))))))) (λ z v y φ is gy.
+          assigns ! (addr ! (from ! (hop ! (look ! 23 refl) (stop !)))) (from ! (stop !)) (init ! 93 refl (tt, tt)) $
+          assigns ! (of-opd ! (load ! (from ! (hop ! (look ! 21 refl) (fld ! refl (stop !)))) (look ! 12 refl))) (from ! (stop !)) (store ! 47 refl (tt, tt)) $
+          move ! (1 ∷ 17 ∷ 18 ∷ []) $ sets-modes ! mem′ run fm (known .set-modes) κp qp bp op γp ps d (a .bd) (a .od) gd (c .ais) group attr group-fits attr-fits other (λ _ _ _. (and-then ! (load ! (from ! (stop !)) (look ! 93 refl)) (and-then ! (load ! (from ! (stop !)) (look ! 47 refl)) (and-then ! (load ! (from ! (stop !)) (look ! 27 refl)) (and-then ! (load ! (from ! (stop !)) (look ! 29 refl)) (and-then ! (load ! (from ! (stop !)) (look ! 31 refl)) (no-more !))))))) (λ z v y φ is gy.
           land ! (from ! (stop !)) (init ! 19 refl (LL.lawful An.the-type An′.the-laws 𝓤 H A W .typed z _ is .0)) $ rewrite ! 19 (λ (u : Val). ‵ (fat fullShare An′.mir l₀ 0 u)) (ap only (An′.lowers .val-is z (v ∷ []) is)) refl $
           move ! (3 ∷ 0 ∷ 4 ∷ 5 ∷ 6 ∷ 7 ∷ 8 ∷ 9 ∷ 10 ∷ 11 ∷ 12 ∷ 13 ∷ 14 ∷ 15 ∷ 16 ∷ 17 ∷ 18 ∷ 1 ∷ 2 ∷ []) $
           ends (atRet E Post) refl c y ys z refl gc gy (subst (Is An.the-row z) (An′.lowers .val-is z (v ∷ []) is) is) (modes-promises group attr c d ys ps z right (valid right) y φ) (plainly (c .ais) 0 0 0 (holds (vbool (onPlace group))) 0 (holds (vptr (a .bd) (a .od)))))
@@ -448,35 +425,35 @@ module _ {M : Type 1} (𝓤 : URA M) (H : Heap 𝓤) (A : Atoms 𝓤) (W : Given
 
       asks-about-place : not-records → eqb group 10 ≡ false → Sq W (At ys d c (tested (eqb group 10))) (runs C′ Λ E mir.t-12 (atRet E Post))
       asks-about-place n n₁₀ =
-          asks-place ! mem′ run fm (known .on-place) group group-fits (λ _. (and-then ! (load ! (from ! (stop !)) (look ! 28 refl)) (no-more !))) (land ! (from ! (stop !)) (init ! 93 refl (tt, tt)) $ first ! $ branches ! (load ! (from ! (stop !)) (look ! 93 refl))
+          asks-place ! mem′ run fm (known .on-place) group group-fits (λ _. (and-then ! (load ! (from ! (stop !)) (look ! 28 refl)) (no-more !))) (land ! (from ! (stop !)) (init ! 87 refl (tt, tt)) $ first ! $ branches ! (load ! (from ! (stop !)) (look ! 87 refl))
           (λ t. takes-place (holds-true (onPlace group) t))
           (λ t. skips ! $ exec ! C′ Λ E mir.t-14 (atRet E Post) $ takes-modes (eqb-false group 2 (n .0), eqb-false group 3 (n .1), eqb-false group 8 (n .2), eqb-false group 10 n₁₀, holds-false (onPlace group) t)))
 
       asks-injection : not-records → Sq W (At ys d c (tested (eqb group 8))) (runs C′ Λ E mir.t-10 (atRet E Post))
       asks-injection n =
-          assigns ! (bin ! (load ! (from ! (stop !)) (look ! 27 refl)) (lit ! tt) tt) (from ! (stop !)) (store ! 51 refl (tt, tt)) $ first ! $ branches ! (load ! (from ! (stop !)) (look ! 51 refl)) (λ t. takes-inject (holds-true (eqb group 10) t))
+          assigns ! (bin ! (load ! (from ! (stop !)) (look ! 27 refl)) (lit ! tt) tt) (from ! (stop !)) (store ! 47 refl (tt, tt)) $ first ! $ branches ! (load ! (from ! (stop !)) (look ! 47 refl)) (λ t. takes-inject (holds-true (eqb group 10) t))
           (λ t. skips ! $ exec ! C′ Λ E mir.t-12 (atRet E Post) $ asks-about-place n (holds-false (eqb group 10) t))
 
       asks-clear-io : eqb group 2 ≡ false → eqb group 3 ≡ false → Sq W (At ys d c (tested (eqb group 3))) (runs C′ Λ E mir.t-8 (atRet E Post))
       asks-clear-io n₂ n₃ =
-          assigns ! (bin ! (load ! (from ! (stop !)) (look ! 27 refl)) (lit ! tt) tt) (from ! (stop !)) (store ! 51 refl (tt, tt)) $ first ! $ branches ! (load ! (from ! (stop !)) (look ! 51 refl)) (λ t. takes-clear-io (holds-true (eqb group 8) t))
+          assigns ! (bin ! (load ! (from ! (stop !)) (look ! 27 refl)) (lit ! tt) tt) (from ! (stop !)) (store ! 47 refl (tt, tt)) $ first ! $ branches ! (load ! (from ! (stop !)) (look ! 47 refl)) (λ t. takes-clear-io (holds-true (eqb group 8) t))
           (λ t. skips ! $ exec ! C′ Λ E mir.t-10 (atRet E Post) $ asks-injection (n₂, n₃, holds-false (eqb group 8) t))
 
       asks-clear : eqb group 2 ≡ false → Sq W (At ys d c (tested (eqb group 2))) (runs C′ Λ E mir.t-6 (atRet E Post))
       asks-clear n₂ =
-          assigns ! (bin ! (load ! (from ! (stop !)) (look ! 27 refl)) (lit ! tt) tt) (from ! (stop !)) (store ! 51 refl (tt, tt)) $ first ! $ branches ! (load ! (from ! (stop !)) (look ! 51 refl)) (λ t. takes-clear (holds-true (eqb group 3) t))
+          assigns ! (bin ! (load ! (from ! (stop !)) (look ! 27 refl)) (lit ! tt) tt) (from ! (stop !)) (store ! 47 refl (tt, tt)) $ first ! $ branches ! (load ! (from ! (stop !)) (look ! 47 refl)) (λ t. takes-clear (holds-true (eqb group 3) t))
           (λ t. skips ! $ exec ! C′ Λ E mir.t-8 (atRet E Post) $ asks-clear-io n₂ (holds-false (eqb group 3) t))
 
       asks-enqueue : Sq W (At ys d c (tested wrong)) (runs C′ Λ E mir.t-4 (atRet E Post))
       asks-enqueue =
-          assigns ! (bin ! (load ! (from ! (stop !)) (look ! 27 refl)) (lit ! tt) tt) (from ! (stop !)) (store ! 51 refl (tt, tt)) $ first ! $ branches ! (load ! (from ! (stop !)) (look ! 51 refl)) (λ t. takes-enqueue (holds-true (eqb group 2) t))
+          assigns ! (bin ! (load ! (from ! (stop !)) (look ! 27 refl)) (lit ! tt) tt) (from ! (stop !)) (store ! 47 refl (tt, tt)) $ first ! $ branches ! (load ! (from ! (stop !)) (look ! 47 refl)) (λ t. takes-enqueue (holds-true (eqb group 2) t))
           (λ t. skips ! $ exec ! C′ Λ E mir.t-6 (atRet E Post) $ asks-clear (holds-false (eqb group 2) t))
 
     -- the table's length is looked at, and all is opened
     starts-it : Sq W (Passed a (‵ (flft κp qp) ∷ ‵ OwnP ∷ locals E (blank ∷ holds (vptr (a .bc) (a .oc)) ∷ holds (vptr (a .bd) (a .od)) ∷ holds (table a) ∷ holds (vint w32 group) ∷ holds (vint w64 attr) ∷ holds sp ∷ []) [])) (runs C′ Λ E mir.t-1 (atRet E Post))
     starts-it =
-        assigns ! (of-opd ! (load ! (from ! (fld ! refl (stop !))) (look-in ! 14 (sub ! 1 refl (whole !))))) (from ! (stop !)) (init ! 38 refl (tt, record { fits = room .0 })) $
-        assigns ! (bin ! (load ! (from ! (stop !)) (look ! 38 refl)) (lit ! tt) tt) (from ! (stop !)) (init ! 40 refl (tt, tt)) $ first ! $ branches ! (load ! (from ! (stop !)) (look ! 40 refl))
+        assigns ! (of-opd ! (load ! (from ! (fld ! refl (stop !))) (look-in ! 14 (sub ! 1 refl (whole !))))) (from ! (stop !)) (init ! 34 refl (tt, record { fits = room .0 })) $
+        assigns ! (bin ! (load ! (from ! (stop !)) (look ! 34 refl)) (lit ! tt) tt) (from ! (stop !)) (init ! 36 refl (tt, tt)) $ first ! $ branches ! (load ! (from ! (stop !)) (look ! 36 refl))
         (λ t. refuses-it (holds-false (eqb (length ys) imageSize) t))
         (λ t. skips ! $ exec ! C′ Λ E mir.t-4 (atRet E Post) $ opens-all ! tt a (λ gc gd. asks-enqueue (right-length c _ (eqb-true (length ys) imageSize (not-not (eqb (length ys) imageSize) t))) gc gd))
 
@@ -487,9 +464,9 @@ module _ {M : Type 1} (𝓤 : URA M) (H : Heap 𝓤) (A : Atoms 𝓤) (W : Given
       -- [the payload's token; true; the payload; true; the references]
       keep ! (4 ∷ 5 ∷ 6 ∷ 7 ∷ 8 ∷ 9 ∷ 0 ∷ 2 ∷ []) $
       enter ! C′ Λ code.function (vptr (a .bc) (a .oc) ∷ vptr (a .bd) (a .od) ∷ table a ∷ vint w32 group ∷ vint w64 attr ∷ sp ∷ []) _ $
-      alloc1 ! (λ l₀. alloc1 ! (λ l₁. alloc1 ! (λ l₂. alloc1 ! (λ l₃. alloc1 ! (λ l₄. alloc1 ! (λ l₅. alloc1 ! (λ l₆. alloc1 ! (λ l₇. alloc1 ! (λ l₈. alloc1 ! (λ l₉. alloc1 ! (λ l₁₀. alloc1 ! (λ l₁₁. alloc1 ! (λ l₁₂. alloc1 ! (λ l₁₃. alloc1 ! (λ l₁₄. alloc1 ! (λ l₁₅. alloc1 ! (λ l₁₆. alloc1 ! (λ l₁₇. alloc1 ! (λ l₁₈. alloc1 ! (λ l₁₉. alloc1 ! (λ l₂₀. alloc1 ! (λ l₂₁. alloc1 ! (λ l₂₂. alloc1 ! (λ l₂₃. alloc1 ! (λ l₂₄. alloc1 ! (λ l₂₅. alloc1 ! (λ l₂₆. alloc1 ! (λ l₂₇. alloc1 ! (λ l₂₈. alloc1 ! (λ l₂₉. alloc1 ! (λ l₃₀. alloc1 ! (λ l₃₁. alloc1 ! (λ l₃₂. alloc1 ! (λ l₃₃. alloc1 ! (λ l₃₄. alloc1 ! (λ l₃₅. alloc1 ! (λ l₃₆. alloc1 ! (λ l₃₇. alloc1 ! (λ l₃₈. alloc1 ! (λ l₃₉. alloc1 ! (λ l₄₀. alloc0 ! $ params1 ! $
-      pass1 ! (init ! 78 refl (tt, tt)) $ pass1 ! (init ! 76 refl (tt, tt)) $ pass1 ! (init ! 74 refl (tt, (tt, (record { fits = room .0 }, tt)))) $ pass1 ! (init ! 72 refl (tt, record { fits = group-fits })) $ pass1 ! (init ! 70 refl (tt, record { fits = attr-fits })) $ pass1 ! (init ! 68 refl (tt, (tt, (record { fits = room-p .0 }, tt)))) $ pass0 ! $
-      keep ! (82 ∷ 83 ∷ 84 ∷ 85 ∷ 86 ∷ 87 ∷ 88 ∷ 89 ∷ 80 ∷ 81 ∷ 78 ∷ 79 ∷ 76 ∷ 77 ∷ 74 ∷ 75 ∷ 72 ∷ 73 ∷ 70 ∷ 71 ∷ 68 ∷ 69 ∷ 66 ∷ 67 ∷ 64 ∷ 65 ∷ 62 ∷ 63 ∷ 60 ∷ 61 ∷ 58 ∷ 59 ∷ 56 ∷ 57 ∷ 54 ∷ 55 ∷ 52 ∷ 53 ∷ 50 ∷ 51 ∷ 48 ∷ 49 ∷ 46 ∷ 47 ∷ 44 ∷ 45 ∷ 42 ∷ 43 ∷ 40 ∷ 41 ∷ 38 ∷ 39 ∷ 36 ∷ 37 ∷ 34 ∷ 35 ∷ 32 ∷ 33 ∷ 30 ∷ 31 ∷ 28 ∷ 29 ∷ 26 ∷ 27 ∷ 24 ∷ 25 ∷ 22 ∷ 23 ∷ 20 ∷ 21 ∷ 18 ∷ 19 ∷ 16 ∷ 17 ∷ 14 ∷ 15 ∷ 12 ∷ 13 ∷ 10 ∷ 11 ∷ 8 ∷ 9 ∷ 6 ∷ 7 ∷ 4 ∷ 5 ∷ 2 ∷ 3 ∷ 0 ∷ 1 ∷ []) $ starts-it C′ Λ fm known l₀ l₁ l₂ l₃ l₄ l₅ l₆ l₇ l₈ l₉ l₁₀ l₁₁ l₁₂ l₁₃ l₁₄ l₁₅ l₁₆ l₁₇ l₁₈ l₁₉ l₂₀ l₂₁ l₂₂ l₂₃ l₂₄ l₂₅ l₂₆ l₂₇ l₂₈ l₂₉ l₃₀ l₃₁ l₃₂ l₃₃ l₃₄ l₃₅ l₃₆ l₃₇ l₃₈ l₃₉ l₄₀)))))))))))))))))))))))))))))))))))))))))
+      alloc1 ! (λ l₀. alloc1 ! (λ l₁. alloc1 ! (λ l₂. alloc1 ! (λ l₃. alloc1 ! (λ l₄. alloc1 ! (λ l₅. alloc1 ! (λ l₆. alloc1 ! (λ l₇. alloc1 ! (λ l₈. alloc1 ! (λ l₉. alloc1 ! (λ l₁₀. alloc1 ! (λ l₁₁. alloc1 ! (λ l₁₂. alloc1 ! (λ l₁₃. alloc1 ! (λ l₁₄. alloc1 ! (λ l₁₅. alloc1 ! (λ l₁₆. alloc1 ! (λ l₁₇. alloc1 ! (λ l₁₈. alloc1 ! (λ l₁₉. alloc1 ! (λ l₂₀. alloc1 ! (λ l₂₁. alloc1 ! (λ l₂₂. alloc1 ! (λ l₂₃. alloc1 ! (λ l₂₄. alloc1 ! (λ l₂₅. alloc1 ! (λ l₂₆. alloc1 ! (λ l₂₇. alloc1 ! (λ l₂₈. alloc1 ! (λ l₂₉. alloc1 ! (λ l₃₀. alloc1 ! (λ l₃₁. alloc1 ! (λ l₃₂. alloc1 ! (λ l₃₃. alloc1 ! (λ l₃₄. alloc1 ! (λ l₃₅. alloc1 ! (λ l₃₆. alloc1 ! (λ l₃₇. alloc0 ! $ params1 ! $
+      pass1 ! (init ! 72 refl (tt, tt)) $ pass1 ! (init ! 70 refl (tt, tt)) $ pass1 ! (init ! 68 refl (tt, (tt, (record { fits = room .0 }, tt)))) $ pass1 ! (init ! 66 refl (tt, record { fits = group-fits })) $ pass1 ! (init ! 64 refl (tt, record { fits = attr-fits })) $ pass1 ! (init ! 62 refl (tt, (tt, (record { fits = room-p .0 }, tt)))) $ pass0 ! $
+      keep ! (76 ∷ 77 ∷ 78 ∷ 79 ∷ 80 ∷ 81 ∷ 82 ∷ 83 ∷ 74 ∷ 75 ∷ 72 ∷ 73 ∷ 70 ∷ 71 ∷ 68 ∷ 69 ∷ 66 ∷ 67 ∷ 64 ∷ 65 ∷ 62 ∷ 63 ∷ 60 ∷ 61 ∷ 58 ∷ 59 ∷ 56 ∷ 57 ∷ 54 ∷ 55 ∷ 52 ∷ 53 ∷ 50 ∷ 51 ∷ 48 ∷ 49 ∷ 46 ∷ 47 ∷ 44 ∷ 45 ∷ 42 ∷ 43 ∷ 40 ∷ 41 ∷ 38 ∷ 39 ∷ 36 ∷ 37 ∷ 34 ∷ 35 ∷ 32 ∷ 33 ∷ 30 ∷ 31 ∷ 28 ∷ 29 ∷ 26 ∷ 27 ∷ 24 ∷ 25 ∷ 22 ∷ 23 ∷ 20 ∷ 21 ∷ 18 ∷ 19 ∷ 16 ∷ 17 ∷ 14 ∷ 15 ∷ 12 ∷ 13 ∷ 10 ∷ 11 ∷ 8 ∷ 9 ∷ 6 ∷ 7 ∷ 4 ∷ 5 ∷ 2 ∷ 3 ∷ 0 ∷ 1 ∷ []) $ starts-it C′ Λ fm known l₀ l₁ l₂ l₃ l₄ l₅ l₆ l₇ l₈ l₉ l₁₀ l₁₁ l₁₂ l₁₃ l₁₄ l₁₅ l₁₆ l₁₇ l₁₈ l₁₉ l₂₀ l₂₁ l₂₂ l₂₃ l₂₄ l₂₅ l₂₆ l₂₇ l₂₈ l₂₉ l₃₀ l₃₁ l₃₂ l₃₃ l₃₄ l₃₅ l₃₆ l₃₇))))))))))))))))))))))))))))))))))))))
 
 module _ {M : Type 1} (𝓤 : URA M) (H : Heap 𝓤) (A : Atoms 𝓤) (W : Given 𝓤 H A) (mem′ : Memory → SProp 𝓤) (run : Routine → Fun 𝓤) where
   walks : (C′ : Calls 𝓤 H) (Λ : Loops 𝓤 H) → FmC 𝓤 H (W .laws) C′ → Known 𝓤 H A mem′ run C′ → Walks 𝓤 H A f.ended stayed (WpFn 𝓤 H C′ Λ code.function) (f.clauses 𝓤 H A mem′ run)
@@ -517,8 +494,7 @@ flic-set-spec 𝓤 H 𝓜 𝓖 𝓡 =
       look-up = cited 𝓤 H (LookUp 𝓤 H (𝓖 .A) (𝓜 .mem) (𝓡 .run)) 𝓜 𝓡 code.env look-up-def.name look-up-def.routine code.calls-lent-table·look-up (look-up-thm.met 𝓤 H 𝓜 𝓖 𝓡);
       read-device = cited 𝓤 H (ReadDevice 𝓤 H (𝓖 .A) (𝓜 .mem) (𝓡 .run)) 𝓜 𝓡 code.env read-device-def.name read-device-def.routine code.calls-lent-table·read-device (read-device-thm.met 𝓤 H 𝓜 𝓖 𝓡);
       inject = cited 𝓤 H (AnswerInject 𝓤 H (𝓖 .A) (𝓜 .mem) (𝓡 .run)) 𝓜 𝓡 code.env answer-inject-def.name answer-inject-def.routine code.calls-calls·answer-inject (answer-inject-thm.met 𝓤 H 𝓜 𝓖 𝓡);
-      after = cited 𝓤 H (AfterInjection 𝓤 H (𝓖 .A) (𝓜 .mem) (𝓡 .run)) 𝓜 𝓡 code.env after-injection-def.name after-injection-def.routine code.calls-adapters·after-injection (after-injection-thm.met 𝓤 H 𝓜 𝓖 𝓡);
-      store-device = cited 𝓤 H (StoreDevice 𝓤 H (𝓖 .A) (𝓜 .mem) (𝓡 .run)) 𝓜 𝓡 code.env store-device-def.name store-device-def.routine code.calls-lent-table·store-device (store-device-thm.met 𝓤 H 𝓜 𝓖 𝓡);
+      note = cited 𝓤 H (NoteInjection 𝓤 H (𝓖 .A) (𝓜 .mem) (𝓡 .run)) 𝓜 𝓡 code.env note-injection-def.name note-injection-def.routine code.calls-lent-table·note-injection (note-injection-thm.met 𝓤 H 𝓜 𝓖 𝓡);
       on-place = cited 𝓤 H (OnPlace 𝓤 H (𝓖 .A) (𝓜 .mem) (𝓡 .run)) 𝓜 𝓡 code.env on-place-def.name on-place-def.routine code.calls-adapter-requests·on-place (on-place-thm.met 𝓤 H 𝓜 𝓖 𝓡);
       set-place = cited 𝓤 H (SetPlace 𝓤 H (𝓖 .A) (𝓜 .mem) (𝓡 .run)) 𝓜 𝓡 code.env set-place-def.name set-place-def.routine code.calls-lent-requests·set-place (set-place-thm.met 𝓤 H 𝓜 𝓖 𝓡);
       set-modes = cited 𝓤 H (SetModes 𝓤 H (𝓖 .A) (𝓜 .mem) (𝓡 .run)) 𝓜 𝓡 code.env set-modes-def.name set-modes-def.routine code.calls-lent-requests·set-modes (set-modes-thm.met 𝓤 H 𝓜 𝓖 𝓡);

@@ -1,4 +1,4 @@
--- From an outcome of the rules to the answer that tells it. Assumes nothing.
+-- From an outcome of the rules to the answer that tells it.
 use Prim.Native.Nat.{ℕ}
 use mathlib.Core.Path.{_≡_, ap, sym, _∙_, subst}
 use mathlib.Core.List.{List, _++_}

@@ -1,4 +1,4 @@
--- The capability of a fresh controller is the list's flag; of a list without one it decides nothing. Assumes nothing.
+-- The capability of a fresh controller is the list's flag; of a list without one it decides nothing.
 use Rattle.numbers.proofs.Basics.{_≡_, refl, ap, _∙_, Bool, true, false, List, ℕ, _≤_, _<_, leb-true, leb-false}
 use Rattle.numbers.proofs.Basics.{lt-leb, eqb-true, length, leb, eqb}
 use Rattle.rules.specs.Bytes.{choose}

@@ -1,4 +1,4 @@
--- From the tests and the inner calls of a public call to what it promises. Assumes nothing.
+-- From the tests and the inner calls of a public call to what it promises.
 use Prim.Native.Nat.{ℕ, _<_, _≤_}
 use mathlib.Core.Path.{_≡_, refl, sym, ap, _∙_}
 use mathlib.Core.Bool.{true, false}

@@ -1,4 +1,4 @@
--- What a reader of paper 02, ticket 1, asks of the rules, for any limits. Assumes nothing.
+-- What a reader of paper 02, ticket 1, asks of the rules, for any limits.
 use Prim.Native.Nat.{ℕ, zero, suc, _+_, _*_, _%_, _<_, _≤_, min}
 use mathlib.Core.Path.{_≡_, refl, sym, ap, _∙_}
 use mathlib.Core.Bool.{Bool, true, false, true≢false}

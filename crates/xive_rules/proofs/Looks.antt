@@ -1,5 +1,5 @@
 -- The look for an initialised source comes to a refusal or goes on with the source, by what there is at the number.
--- Assumes nothing.
+--
 use Prim.Native.Nat.{ℕ}
 use mathlib.Core.Path.{_≡_, refl}
 use mathlib.Core.Bool.{Bool, true, false}

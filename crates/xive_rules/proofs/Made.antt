@@ -1,6 +1,6 @@
 -- The facts of Reachable say no more than what calls leave: whatever sources satisfy them, with words of 64 bits, are
 -- made of fresh ones by calls, from what is read of each: it is initialised with its type and level, and targeted with
--- its word. Assumes nothing.
+-- its word.
 use Prim.Native.Nat.{ℕ, suc, _+_, _*_, _<_, _≤_}
 use mathlib.Core.Path.{_≡_, refl, sym, ap, _∙_}
 use mathlib.Core.Option.{Option, none, some}

@@ -1,5 +1,5 @@
 -- What every list of calls leaves of fresh sources: as many sources as there were; of each that is initialised type and
--- level are one bit, the level of an MSI is 0, and the server of the targeting is one that there is. Assumes nothing.
+-- level are one bit, the level of an MSI is 0, and the server of the targeting is one that there is.
 use Prim.Native.Nat.{ℕ, _<_}
 use mathlib.Core.Path.{_≡_, refl, _∙_, subst}
 use mathlib.Core.Bool.{Bool, true, false}

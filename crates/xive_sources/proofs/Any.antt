@@ -1,5 +1,5 @@
 -- Any array of 1,024 stored numbers will do: it stands for sources that satisfy the facts of Reachable, and calls on
--- fresh sources leave just these. Assumes nothing.
+-- fresh sources leave just these.
 use Prim.Native.Nat.{ℕ, _<_}
 use mathlib.Core.Path.{_≡_, _∙_, subst}
 use mathlib.Core.Option.{Option, some}

@@ -1,4 +1,4 @@
--- Stored numbers and the sources that they stand for. Assumes nothing.
+-- Stored numbers and the sources that they stand for.
 use Prim.Native.Nat.{ℕ, zero, suc, _+_, _*_, _/_, _%_, _<_, _≤_}
 use mathlib.Core.Path.{_≡_, refl, sym, ap, _∙_, subst}
 use mathlib.Core.Bool.{Bool, true, false}

@@ -1,4 +1,4 @@
--- `adapter_requests::about` meets its contract. Assumes nothing.
+-- `adapter_requests::about` meets its contract.
 use Rattle.numbers.proofs.Basics.{sym, _∙_, eq-eqb, ne-eqb, needs}
 use Rattle.rules.proofs.Checks.{chosen, passed}
 use Rattle.adapter_requests.specs.States.{aboutOf}

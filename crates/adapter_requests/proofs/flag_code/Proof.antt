@@ -1,4 +1,4 @@
--- `adapter_requests::flag_code` meets its contract. Assumes nothing.
+-- `adapter_requests::flag_code` meets its contract.
 use borrow.Author.Tests.{eq-eqb, ne-eqb}
 use Rattle.rules.specs.Bytes.{choose}
 use Rattle.rules.specs.Requests.{request, setsApf}

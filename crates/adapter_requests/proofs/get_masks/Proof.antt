@@ -1,4 +1,4 @@
--- `adapter_requests::get_masks` meets its contract. Assumes nothing.
+-- `adapter_requests::get_masks` meets its contract.
 use Rattle.numbers.proofs.Basics.{refl, ap, _∙_, length, eq-eqb, ne-eqb, le-leb, lt-leb, not-true, not-false, [], _∷_}
 use Rattle.numbers.proofs.Basics.{needs}
 use Rattle.rules.proofs.Checks.{passes, fails}

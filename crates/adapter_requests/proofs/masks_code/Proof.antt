@@ -1,4 +1,4 @@
--- `adapter_requests::masks_code` meets its contract. Assumes nothing.
+-- `adapter_requests::masks_code` meets its contract.
 use Rattle.numbers.proofs.Basics.{_∙_, arith, length, eq-eqb, ne-eqb, le-leb, lt-leb, not-true, not-false}
 use Rattle.rules.specs.Bytes.{choose}
 use Rattle.rules.specs.Requests.{request}

@@ -1,4 +1,4 @@
--- `adapter_requests::mode_code` meets its contract. Assumes nothing.
+-- `adapter_requests::mode_code` meets its contract.
 use Rattle.numbers.proofs.Basics.{_≤_, _≡_, ap, _∙_, [], arith, length, needs, eq-eqb, ne-eqb, le-leb, lt-leb}
 use Rattle.numbers.proofs.Basics.{not-true, not-false}
 use Rattle.rules.specs.Bytes.{choose, byte, field}

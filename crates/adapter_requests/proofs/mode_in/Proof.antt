@@ -1,4 +1,4 @@
--- `adapter_requests::mode_in` meets its contract. Assumes nothing.
+-- `adapter_requests::mode_in` meets its contract.
 use Rattle.numbers.proofs.Basics.{ℕ, refl, ap, eqb, needs}
 use Rattle.adapter_requests.proofs.mode_in.Statement.{statement}
 use Rattle.adapter_requests.proofs.mode_in.Tie as tie

@@ -1,4 +1,4 @@
--- `adapter_requests::modes_after` meets its contract. Assumes nothing.
+-- `adapter_requests::modes_after` meets its contract.
 use Rattle.numbers.proofs.Basics.{ap, sym, _∙_, arith, needs}
 use Rattle.adapters.specs.Values.{deviceOf}
 use Rattle.adapter_requests.proofs.Laws.{after-mode, after-masks, after-flag}

@@ -1,4 +1,4 @@
--- `adapter_requests::modify_code` meets its contract. Assumes nothing.
+-- `adapter_requests::modify_code` meets its contract.
 use Rattle.numbers.proofs.Basics.{_≡_, ap, _∙_, true, not, _&&_, _||_, [], arith, length, getD, leb, eqb, needs}
 use Rattle.numbers.proofs.Basics.{eq-eqb, ne-eqb, le-leb, lt-leb, lt-ltb, le-ltb, not-true, not-false}
 use Rattle.rules.specs.Bytes.{choose, byte, field}

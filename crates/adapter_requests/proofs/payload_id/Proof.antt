@@ -1,4 +1,4 @@
--- `adapter_requests::payload_id` meets its contract. Assumes nothing.
+-- `adapter_requests::payload_id` meets its contract.
 use Rattle.numbers.proofs.Basics.{sym, _∙_, lt-leb, needs}
 use Rattle.rules.proofs.Checks.{passed}
 use Rattle.adapter_requests.specs.States.{payloadId}

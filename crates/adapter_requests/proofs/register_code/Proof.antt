@@ -1,4 +1,4 @@
--- `adapter_requests::register_code` meets its contract. Assumes nothing.
+-- `adapter_requests::register_code` meets its contract.
 use Rattle.numbers.proofs.Basics.{ℕ, _≡_, refl, ap, sym, _∙_, [], arith, true, length, getD, leb, needs, eq-eqb}
 use Rattle.numbers.proofs.Basics.{ne-eqb, le-leb, lt-leb, lt-ltb, le-ltb}
 use Rattle.rules.specs.Bytes.{choose, byte, field}

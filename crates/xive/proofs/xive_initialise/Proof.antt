@@ -1,4 +1,4 @@
--- `xive::xive_initialise` meets its contract. Assumes nothing.
+-- `xive::xive_initialise` meets its contract.
 use borrow.Author.Needs.{needs}
 use Rattle.xive.proofs.Laws.{initialise-short, initialise-unknown, initialise-done}
 use Rattle.xive.proofs.xive_initialise.Statement.{statement}

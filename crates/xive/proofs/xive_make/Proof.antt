@@ -1,4 +1,4 @@
--- `xive::xive_make` meets its contract. Assumes nothing.
+-- `xive::xive_make` meets its contract.
 use Rattle.xive_rules.specs.Sources.{fresh}
 use Rattle.xive_sources.proofs.Laws.{zeros-stored}
 use Rattle.xive.proofs.xive_make.Statement.{statement}

@@ -1,4 +1,4 @@
--- `xive::xive_target` meets its contract. Assumes nothing.
+-- `xive::xive_target` meets its contract.
 use Prim.Native.Nat.{ℕ, _≤_}
 use mathlib.Core.Path.{_≡_, _∙_, sym, ap}
 use mathlib.Core.List.{List}

@@ -1,4 +1,4 @@
--- `xive_sources::initialised_with` meets its contract. Assumes nothing.
+-- `xive_sources::initialised_with` meets its contract.
 use mathlib.Core.Path.{refl}
 use borrow.Author.Needs.{needs}
 use Rattle.xive_sources.proofs.Laws.{initial-stored}

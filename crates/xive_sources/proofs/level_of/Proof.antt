@@ -1,4 +1,4 @@
--- `xive_sources::level_of` meets its contract. Assumes nothing.
+-- `xive_sources::level_of` meets its contract.
 use mathlib.Core.Path.{sym}
 use borrow.Author.Needs.{needs}
 use Rattle.xive_sources.proofs.Laws.{as-msi, as-lsi}

@@ -1,4 +1,4 @@
--- `xive_sources::look_up` meets its contract. Assumes nothing.
+-- `xive_sources::look_up` meets its contract.
 use borrow.Author.Needs.{needs}
 use Rattle.xive_sources.proofs.Laws.{too-large, not-there, there}
 use Rattle.xive_sources.proofs.look_up.Statement.{statement}

@@ -1,4 +1,4 @@
--- `xive_sources::targeted_with` meets its contract. Assumes nothing.
+-- `xive_sources::targeted_with` meets its contract.
 use mathlib.Core.Path.{refl}
 use native.Mathlib.Omega.{arith}
 use borrow.Author.Needs.{needs}

@@ -1,14 +1,14 @@
 -- A reply from the outcome that it tells, and what each request comes to once its checks are known.
-use Rattle.numbers.proofs.Basics.{ℕ, zero, suc, _≤_, _<_, _≡_, refl, ap, sym, _∙_, subst, Bool, true, false}
+use Rattle.numbers.proofs.Basics.{leb, lt-leb, _<_, ℕ, zero, suc, _≤_, _≡_, refl, ap, sym, _∙_, subst, Bool, true, false}
 use Rattle.numbers.proofs.Basics.{true≢false, List, [], _∷_, arith, length, getD, set, drop, eqb, eq-eqb, ne-eqb}
 use Rattle.numbers.proofs.Basics.{eqb-true, eqb-false, le-leb}
 use lib.Seq.{set-getD}
 use Rattle.rules.specs.Bytes.{choose, byte, field}
-use Rattle.rules.specs.Requests.{setRequest, noRequest, adapterRegister, adapterModify, aism, nonZero, registers, adapterIn, modifies, withMask, setsMode, request}
-use Rattle.rules.proofs.Checks.{passes, chosen, passed}
+use Rattle.rules.specs.Requests.{setRequest, noRequest, withMask}
+use Rattle.rules.proofs.Checks.{passes, fails, chosen, passed}
 use Rattle.rules.specs.State as rules
 use Rattle.rules.specs.State.{Limits, Pending, State}
-use Rattle.rules.specs.Outcome.{Outcome, refuse, accept, result, tell}
+use Rattle.rules.specs.Outcome.{Outcome, refuse, accept, need_else_⨾_, result, tell}
 use Rattle.rules.specs.Machine.{answerOf}
 use Rattle.adapters.specs.declared.Device.{Device}
 use Rattle.adapters.specs.declared.Place.{Place}
@@ -159,20 +159,26 @@ pub entered : (s : State) (id id′ : ℕ) (p : rules.Place) (device : Device) (
     → withPlace id p s ≡ stateWith s id′ (placeOf place) (s .pending) (deviceOf device)
 entered s id id′ p device place e h d = λ i. record { ais = s .ais; adapters = set (s .adapters) (e i) (h i); pending = s .pending; device = d i }
 
-module _ (L : Limits) (s : State) (attr : ℕ) (b : List ℕ) where
-  -- ---- groups 6 and 7: the attribute and the lent length have passed
-  pub registering : attr ≡ 0 → 8 ≤ length b → request L s adapterRegister attr b ≡ registers L s (field 0 4 b) (adapterIn b)
-  unfolding request
-  registering z n = passes _ _ _ (eq-eqb attr 0 z) ∙ passes _ _ _ (le-leb 8 (length b) n)
+-- ---- the checks that come first: the attribute, the capability, the lent length
+pub bad-attr : {attr : ℕ} (rest : Outcome State) → (attr ≡ 0 → ⊥) → (need eqb attr 0 else 22 ⨾ rest) ≡ refuse 22
+bad-attr {attr} rest h = fails _ _ _ (ne-eqb attr 0 h)
 
-  pub modifying : attr ≡ 0 → 16 ≤ length b → request L s adapterModify attr b ≡ modifies L s (field 0 4 b) (byte 4 b) (nonZero (byte 5 b))
-  unfolding request
-  modifying z n = passes _ _ _ (eq-eqb attr 0 z) ∙ passes _ _ _ (le-leb 16 (length b) n)
+module _ {attr n len : ℕ} (rest : Outcome State) (z : attr ≡ 0) where
+  pub short : len < n → (need eqb attr 0 else 22 ⨾ need leb n len else 14 ⨾ rest) ≡ refuse 14
+  short h = passes _ _ _ (eq-eqb attr 0 z) ∙ fails _ _ _ (lt-leb n len h)
 
-  -- ---- group 9
-  pub moding : attr ≡ 0 → s .ais ≡ true → 4 ≤ length b → request L s aism attr b ≡ setsMode s (byte 0 b) (field 2 2 b)
-  unfolding request
-  moding z a n = passes _ _ _ (eq-eqb attr 0 z) ∙ passes _ _ _ a ∙ passes _ _ _ (le-leb 4 (length b) n)
+  pub opened : n ≤ len → (need eqb attr 0 else 22 ⨾ need leb n len else 14 ⨾ rest) ≡ rest
+  opened h = passes _ _ _ (eq-eqb attr 0 z) ∙ passes _ _ _ (le-leb n len h)
+
+pub no-ais : {attr : ℕ} {ais : Bool} (rest : Outcome State) → attr ≡ 0 → ais ≡ false → (need eqb attr 0 else 22 ⨾ need ais else 95 ⨾ rest) ≡ refuse 95
+no-ais {attr} rest z a = passes _ _ _ (eq-eqb attr 0 z) ∙ fails _ _ _ a
+
+module _ {attr n len : ℕ} {ais : Bool} (rest : Outcome State) (z : attr ≡ 0) (a : ais ≡ true) where
+  pub short-ais : len < n → (need eqb attr 0 else 22 ⨾ need ais else 95 ⨾ need leb n len else 14 ⨾ rest) ≡ refuse 14
+  short-ais h = passes _ _ _ (eq-eqb attr 0 z) ∙ passes _ _ _ a ∙ fails _ _ _ (lt-leb n len h)
+
+  pub opened-ais : n ≤ len → (need eqb attr 0 else 22 ⨾ need ais else 95 ⨾ need leb n len else 14 ⨾ rest) ≡ rest
+  opened-ais h = passes _ _ _ (eq-eqb attr 0 z) ∙ passes _ _ _ a ∙ passes _ _ _ (le-leb n len h)
 
 -- the payload's id, where there is one
 pub id-there : (b : List ℕ) → 4 ≤ length b → payloadId b ≡ field 0 4 b

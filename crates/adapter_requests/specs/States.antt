@@ -16,17 +16,21 @@ use Rattle.adapters.specs.Values.{placeOf, deviceOf, Canonical, withMasked, mas
 use Rattle.answers.specs.Answers.{Answers}
 use Rattle.adapter_requests.specs.declared.Reply.{Reply}
 
--- the id in the payload of REGISTER and MODIFY, and 2^32, an id that no table has, where the payload is too short for one
+-- an id that no table has
+abbrev pub noAdapter : ℕ
+noAdapter = 2 ^ 32
+
+-- the id in the payload of REGISTER and MODIFY; a payload too short for one names no adapter
 unfoldable pub payloadId : List ℕ → ℕ
-payloadId b = choose (leb 4 (length b)) (field 0 4 b) (2 ^ 32)
+payloadId b = choose (leb 4 (length b)) (field 0 4 b) noAdapter
 
 -- whether a set request is about an adapter's place: REGISTER, MODIFY
 unfoldable pub onPlace : ℕ → Bool
 onPlace group = eqb group 6 || eqb group 7
 
--- the id that a set request is about; 2^32, an id that no table has, where it is about none
+-- the id that a set request is about; most are about no adapter
 unfoldable pub aboutOf : ℕ → ℕ → List ℕ → ℕ
-aboutOf group attr b = choose (eqb group 10) attr (choose (onPlace group) (payloadId b) (2 ^ 32))
+aboutOf group attr b = choose (eqb group 10) attr (choose (onPlace group) (payloadId b) noAdapter)
 
 -- what a request comes to that is decided by its code: 0 is accepted, with count 0 and nothing written
 unfoldable pub decided : ℕ → State → Outcome State

@@ -1,6 +1,5 @@
 -- `adapter_requests::mode_code` meets its contract.
-use Rattle.numbers.proofs.Basics.{_≤_, _≡_, ap, _∙_, [], arith, length, needs, eq-eqb, ne-eqb, le-leb, lt-leb}
-use Rattle.numbers.proofs.Basics.{not-true, not-false}
+use Rattle.numbers.proofs.Basics.{_≤_, _≡_, ap, _∙_, [], arith, needs, le-leb, lt-leb, not-true, not-false}
 use Rattle.rules.specs.Bytes.{choose, byte, field}
 use Rattle.rules.specs.State.{Limits, State, withDevice}
 use Rattle.rules.specs.State as rules
@@ -8,34 +7,27 @@ use Rattle.rules.specs.Outcome.{accept}
 use Rattle.rules.specs.Requests.{aism, request, setsMode}
 use Rattle.rules.proofs.Checks.{passes, fails}
 use Rattle.adapter_requests.specs.States.{decided, modesAfter}
-use Rattle.adapter_requests.proofs.Laws.{not-accepted, moding, mode-is}
+use Rattle.adapter_requests.proofs.Laws.{not-accepted, bad-attr, no-ais, short-ais, opened-ais, mode-is}
 use Rattle.adapter_requests.proofs.mode_code.Statement.{statement}
 use Rattle.adapter_requests.proofs.mode_code.Tie as tie
 
 -- the attribute, the capability and the lent length have passed
 begun : (c : tie.Else3) (L : Limits) (s : State) → let a = c .before .before .before .before .args in
     s .ais ≡ a .ais → request L s aism (a .attr) (a .payload .now) ≡ setsMode s (byte 0 (a .payload .now)) (field 2 2 (a .payload .now))
-begun c L s e =
-    moding L s _ (c .before .before .before .before .args .payload .now) (c .before .before .if1 .left) (e ∙ not-false _ (c .before .if2 .left)) (c .if3 .left)
+unfolding request
+begun c L s e = opened-ais _ (c .before .before .if1 .left) (e ∙ not-false _ (c .before .if2 .left)) (c .if3 .left)
 
 returns : tie.Need-returns
 unfolding request decided choose
-returns c = (λ L s e. fails _ _ _ (ne-eqb _ 0 (c .if1 .taken)), not-accepted (omega arith))
+returns c = (λ L s e. bad-attr _ (c .if1 .taken), not-accepted (omega arith))
 
 returns-2 : tie.Need-returns-2
 unfolding request decided choose
-returns-2 c = (
-  λ L s e. passes _ _ _ (eq-eqb _ 0 (c .before .if1 .left)) ∙ fails _ _ _ (e ∙ not-true _ (c .if2 .taken)),
-  not-accepted (omega arith),
-)
+returns-2 c = (λ L s e. no-ais _ (c .before .if1 .left) (e ∙ not-true _ (c .if2 .taken)), not-accepted (omega arith))
 
 returns-3 : tie.Need-returns-3
 unfolding request decided choose
-returns-3 c = (
-  λ L s e. passes _ _ _ (eq-eqb _ 0 (c .before .before .if1 .left)) ∙ passes _ _ _ (e ∙ not-false _ (c .before .if2 .left))
-      ∙ fails _ _ _ (lt-leb 4 (length (c .before .before .before .before .args .payload .now)) (c .if3 .taken)),
-  not-accepted (omega arith),
-)
+returns-3 c = (λ L s e. short-ais _ (c .before .before .if1 .left) (e ∙ not-false _ (c .before .if2 .left)) (c .if3 .taken), not-accepted (omega arith))
 
 returns-4 : tie.Need-returns-4
 unfolding setsMode decided choose

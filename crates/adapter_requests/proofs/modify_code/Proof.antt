@@ -1,5 +1,5 @@
 -- `adapter_requests::modify_code` meets its contract.
-use Rattle.numbers.proofs.Basics.{_≡_, ap, _∙_, true, not, _&&_, _||_, [], arith, length, getD, leb, eqb, needs}
+use Rattle.numbers.proofs.Basics.{_≡_, ap, _∙_, true, not, _&&_, _||_, [], arith, getD, leb, eqb, needs}
 use Rattle.numbers.proofs.Basics.{eq-eqb, ne-eqb, le-leb, lt-leb, lt-ltb, le-ltb, not-true, not-false}
 use Rattle.rules.specs.Bytes.{choose, byte, field}
 use Rattle.rules.specs.State.{Limits, State, free, withAdapter}
@@ -9,39 +9,36 @@ use Rattle.rules.proofs.Checks.{passes, fails, found, missing, both}
 use Rattle.adapters.specs.Values.{placeOf, adapterOf}
 use Rattle.adapters.proofs.Laws.{place-used, place-free}
 use Rattle.adapter_requests.specs.States.{payloadId, decided, placeAfter, withPlace}
-use Rattle.adapter_requests.proofs.Laws.{not-accepted, modifying, id-there, place-there, modified}
+use Rattle.adapter_requests.proofs.Laws.{not-accepted, bad-attr, short, opened, id-there, place-there, modified}
 use Rattle.adapter_requests.proofs.modify_code.Statement.{statement}
 use Rattle.adapter_requests.proofs.modify_code.Tie as tie
 
 returns : tie.Need-returns
 unfolding request decided choose
-returns c = (λ L s e1 e4. fails _ _ _ (ne-eqb _ 0 (c .if1 .taken)), not-accepted (omega arith))
+returns c = (λ L s e1 e4. bad-attr _ (c .if1 .taken), not-accepted (omega arith))
 
 returns-2 : tie.Need-returns-2
 unfolding request decided choose
-returns-2 c = (
-  λ L s e1 e4. passes _ _ _ (eq-eqb _ 0 (c .before .if1 .left)) ∙ fails _ _ _ (lt-leb 16 (length (c .before .before .before .args .payload .now)) (c .if2 .taken)),
-  not-accepted (omega arith),
-)
+returns-2 c = (λ L s e1 e4. short _ (c .before .if1 .left) (c .if2 .taken), not-accepted (omega arith))
 
 returns-3 : tie.Need-returns-3
-unfolding modifies decided choose
+unfolding request modifies decided choose
 returns-3 c =
     let k = c .before .before in
     let b = k .before .before .before .args .payload .now in (
-      λ L s e1 e4. modifying L s _ b (k .before .if1 .left) (k .if2 .left)
+      λ L s e1 e4. opened _ (k .before .if1 .left) (k .if2 .left)
           ∙ fails _ _ _ (le-ltb (field 0 4 b) (L .places) (omega (arith, e1, c .if3 .taken, c .before .read-be .ensures .0))),
       not-accepted (omega arith),
     )
 
 returns-4 : tie.Need-returns-4
-unfolding modifies decided choose
+unfolding request modifies decided choose
 returns-4 c =
     let h = c .before .before in
     let k = h .before .before in
     let a = k .before .before .before .args in
     let b = a .payload .now in (
-      λ L s e1 e4. modifying L s _ b (k .before .if1 .left) (k .if2 .left)
+      λ L s e1 e4. opened _ (k .before .if1 .left) (k .if2 .left)
           ∙ passes _ _ _ (lt-ltb (field 0 4 b) (L .places) (omega (arith, e1, h .if3 .left, h .before .read-be .ensures .0)))
           ∙ missing _ _ _ (ap holding (place-there b (omega (arith, k .if2 .left)) (s .adapters) e4 ∙ place-free (a .place) (not-true _ (c .if4 .taken)))),
       not-accepted (omega arith),
@@ -53,13 +50,13 @@ begun : (c : tie.Else4) (L : Limits) (s : State) → let a = c .before .before .
     → request L s adapterModify (a .attr) (a .payload .now)
     ≡ (need leb 1 (byte 4 (a .payload .now)) && leb (byte 4 (a .payload .now)) 3 else 22 ⨾ need not (eqb (byte 4 (a .payload .now)) 1) || a .place .maskable else 22
     ⨾ accept 0 (choose (eqb (byte 4 (a .payload .now)) 1) (withAdapter (field 0 4 (a .payload .now)) (withMask (nonZero (byte 5 (a .payload .now))) (adapterOf (a .place))) s) s) [])
-unfolding modifies
+unfolding request modifies
 begun c L s e1 e4 =
     let h = c .before .before in
     let k = h .before .before in
     let a = k .before .before .before .args in
     let b = a .payload .now in
-    modifying L s _ b (k .before .if1 .left) (k .if2 .left)
+    opened _ (k .before .if1 .left) (k .if2 .left)
     ∙ passes _ _ _ (lt-ltb (field 0 4 b) (L .places) (omega (arith, e1, h .if3 .left, h .before .read-be .ensures .0)))
     ∙ found _ (adapterOf (a .place)) _ _ (ap holding (place-there b (omega (arith, k .if2 .left)) (s .adapters) e4 ∙ place-used (a .place) (not-false _ (c .if4 .left))))
 

@@ -1,6 +1,6 @@
 -- `adapter_requests::register_code` meets its contract.
-use Rattle.numbers.proofs.Basics.{ℕ, _≡_, refl, ap, sym, _∙_, [], arith, true, length, getD, leb, needs, eq-eqb}
-use Rattle.numbers.proofs.Basics.{ne-eqb, le-leb, lt-leb, lt-ltb, le-ltb}
+use Rattle.numbers.proofs.Basics.{ℕ, _≡_, refl, ap, sym, _∙_, [], arith, true, getD, leb, needs}
+use Rattle.numbers.proofs.Basics.{le-leb, lt-leb, lt-ltb, le-ltb}
 use Rattle.rules.specs.Bytes.{choose, byte, field}
 use Rattle.rules.specs.State.{Limits, State, free, withAdapter}
 use Rattle.rules.specs.Outcome.{accept, need_else_⨾_}
@@ -9,7 +9,7 @@ use Rattle.rules.proofs.Checks.{passes, fails}
 use Rattle.adapters.specs.Values.{placeOf}
 use Rattle.adapters.proofs.Laws.{place-used, place-free}
 use Rattle.adapter_requests.specs.States.{payloadId, decided, placeAfter}
-use Rattle.adapter_requests.proofs.Laws.{not-accepted, registering, id-there, place-there}
+use Rattle.adapter_requests.proofs.Laws.{not-accepted, bad-attr, short, opened, id-there, place-there}
 use Rattle.adapter_requests.proofs.register_code.Statement.{statement}
 use Rattle.adapter_requests.proofs.register_code.Tie as tie
 
@@ -18,30 +18,27 @@ begun : (c : tie.Else3) (L : Limits) (s : State) → let a = c .before .before .
     L .places ≡ a .places
     → request L s adapterRegister (a .attr) (a .payload .now)
     ≡ (need isFree (getD (s .adapters) (field 0 4 (a .payload .now)) free) else 22 ⨾ need leb (byte 4 (a .payload .now)) 7 else 22 ⨾ accept 0 (withAdapter (field 0 4 (a .payload .now)) (adapterIn (a .payload .now)) s) [])
-unfolding registers adapterIn
+unfolding request registers adapterIn
 begun c L s e =
     let k = c .before .before in
     let b = k .before .before .before .args .payload .now in
-    registering L s _ b (k .before .if1 .left) (k .if2 .left)
+    opened _ (k .before .if1 .left) (k .if2 .left)
     ∙ passes _ _ _ (lt-ltb (field 0 4 b) (L .places) (omega (arith, e, c .if3 .left, c .before .read-be .ensures .0)))
 
 returns : tie.Need-returns
 unfolding request decided choose
-returns c = (λ L s e1 e4. fails _ _ _ (ne-eqb _ 0 (c .if1 .taken)), not-accepted (omega arith))
+returns c = (λ L s e1 e4. bad-attr _ (c .if1 .taken), not-accepted (omega arith))
 
 returns-2 : tie.Need-returns-2
 unfolding request decided choose
-returns-2 c = (
-  λ L s e1 e4. passes _ _ _ (eq-eqb _ 0 (c .before .if1 .left)) ∙ fails _ _ _ (lt-leb 8 (length (c .before .before .before .args .payload .now)) (c .if2 .taken)),
-  not-accepted (omega arith),
-)
+returns-2 c = (λ L s e1 e4. short _ (c .before .if1 .left) (c .if2 .taken), not-accepted (omega arith))
 
 returns-3 : tie.Need-returns-3
-unfolding registers decided choose
+unfolding request registers decided choose
 returns-3 c =
     let k = c .before .before in
     let b = k .before .before .before .args .payload .now in (
-      λ L s e1 e4. registering L s _ b (k .before .if1 .left) (k .if2 .left)
+      λ L s e1 e4. opened _ (k .before .if1 .left) (k .if2 .left)
           ∙ fails _ _ _ (le-ltb (field 0 4 b) (L .places) (omega (arith, e1, c .if3 .taken, c .before .read-be .ensures .0))),
       not-accepted (omega arith),
     )

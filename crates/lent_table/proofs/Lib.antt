@@ -12,3 +12,4 @@ pub mod Record
 pub mod Tables
 pub mod Images
 pub mod Calls
+pub mod Ends

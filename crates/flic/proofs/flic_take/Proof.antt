@@ -1,5 +1,6 @@
 -- `flic_take`: the controller is opened at entry and closed at the exit; its four arrays, the slots shared, are lent to `take`, and the bytes are passed on.
-use Rattle.flic.proofs.Walk.{_≡_, refl, ℕ, _<_, _^_, Bool, [], _∷_, List, length, URA, fullShare, imm, named, erased, w8, w64, tyInt, tyBool, tyRef, mut, Val, vint, vbool, vptr, SProp, ent, id⊢, feq, GName, Lft, Share, Fml, ftrue, fsep, flft, fobs, fbor, Memory, Routine, Heap, Env, Calls, Loops, WpFn, Tables, Atoms, Fun, givenOf, tables, tablesOf, Given, Item, Sq, runs, atRet, ‵, ⋆, _⊛_, _$_, _∵_, !, qed, by, move, keep, drop, split, join, fsplit, fsplit3, fjoin, fjoin3, feqL, feqI, suffices, frame, done, look, init, stop, hop, fld, from, load, addr, and-then, no-more, assigns, land, returns, enter, alloc1, alloc0, params1, pass1, pass0, agg, whole, sub, look-in, Body, FmC, fmOf, WpFn-mono, owns, Is, mem, pointee, bool-vals, bool-tells, bool-makes, uint-vals, uint-tells, uint-makes, u8, RefT, MutRef, ptr-vals, mut-tells, finally, sliceVal, sliceTy, MutSlice, Room, slice-vals, mut-slice-tells, plain, owned, nothing, onEntry, Meets, tripleOf, Contract, Triple, entered, cited, says, Stays, stay-ref, walkOf, goes-ref, Walks, ends-at, walked, walk-meets, yes, _+_, tyArray, bool, needs, stay-dropped, goes-dropped, gave-slice, goes-gave-slice}
+use Rattle.flic.proofs.Walk.{_≡_, refl, ℕ, _<_, _^_, Bool, [], _∷_, List, length, URA, fullShare, imm, named, erased, w8, w64, tyInt, tyBool, tyRef, mut, Val, vint, vbool, vptr, SProp, ent, id⊢, feq, GName, Lft, Share, Fml, ftrue, fsep, flft, fobs, fbor, Memory, Routine, Heap, Env, Calls, Loops, WpFn, Atoms, Fun, givenOf, tablesOf, Given, Item, Sq, runs, atRet, ‵, ⋆, _⊛_, _$_, _∵_, !, qed, by, move, keep, drop, split, join, fsplit, fsplit3, fjoin, fjoin3, feqL, feqI, suffices, frame, done, look, init, stop, hop, fld, from, load, addr, and-then, no-more, assigns, land, returns, enter, alloc1, alloc0, params1, pass1, pass0, agg, whole, sub, look-in, Body, FmC, owns, Is, mem, pointee, bool-vals, bool-tells, bool-makes, uint-vals, uint-tells, uint-makes, u8, RefT, MutRef, ptr-vals, mut-tells, finally, sliceVal, sliceTy, MutSlice, Room, slice-vals, mut-slice-tells, plain, owned, nothing, onEntry, tripleOf, Contract, Triple, cited, says, Stays, stay-ref, walkOf, goes-ref, Walks, ends-at, walked, yes, _+_, tyArray, bool, needs, stay-dropped, goes-dropped, gave-slice, goes-gave-slice}
+use Rattle.lent_table.proofs.Ends.{concludes}
 use denote.Struct.Laws as LL
 use Rattle.answers.specs.declared.Answer.{Answer}
 use Rattle.answers.specs.Answers.{saw}
@@ -146,15 +147,9 @@ module _ {M : Type 1} (𝓤 : URA M) (H : Heap 𝓤) (A : Atoms 𝓤) (W : Given
       (λ κs qs bounds a _ are. needs 𝓤 (Ready (a .0 .now)) _ (λ ready. walk 𝓤 H A W mem′ run (κs .0) (κs .1 .0) (qs .0) (qs .1 .0) (a .0 .ptr .0) (a .0 .ptr .1) (a .1 .1 .1 .1 .0 .ptr .0) (a .1 .1 .1 .1 .0 .ptr .1)
       (a .0 .name) (a .1 .1 .1 .1 .0 .name) (a .0 .now) (a .1 .0) (a .1 .1 .0) (a .1 .1 .1 .0) (a .1 .1 .1 .1 .0 .now) (are .1 .0 .1) (are .1 .1 .1 .1 .0 .0 .1) ready C′ Λ fm known))
 
-  meets : (𝓣 : Tables 𝓤 H) → Triple 𝓤 (𝓣 .C take-def.name) (Take 𝓤 H A mem′ run) → Meets 𝓤 H A f.signature (WpFn 𝓤 H (𝓣 .C) (𝓣 .Λ) code.function) (f.spec 𝓤 H A mem′ run)
-  meets 𝓣 known = walk-meets 𝓤 H A f.ended stayed W
-      (goes-ref 𝓤 H A W 2 0 tt (plain (λ _. C.the-row)), (goes-dropped 𝓤 H A W 2 (plain (λ _. u8)) yes (λ κs x f. refl), (goes-dropped 𝓤 H A W 2 (plain (λ _. bool)) yes (λ κs x f. refl), (goes-dropped 𝓤 H A W 2 (plain (λ _. bool)) yes (λ κs x f. refl), (goes-gave-slice 𝓤 H A W 2 1 tt (plain (λ _. u8)), tt)))))
-      (f.clauses 𝓤 H A mem′ run) (WpFn 𝓤 H (𝓣 .C) (𝓣 .Λ) code.function) (WpFn-mono 𝓤 H (W .laws) 𝓣 code.function) (walks (𝓣 .C) (𝓣 .Λ) (fmOf 𝓤 H (W .laws) 𝓣) known)
-
 pub flic-take-spec : {M : Type 1} → stated.statement M
 unfolding code.routine tablesOf
 flic-take-spec 𝓤 H 𝓜 𝓖 𝓡 =
-    entered 𝓤 H (tripleOf 𝓤 H (𝓖 .A) f.signature (f.spec 𝓤 H (𝓖 .A) (𝓜 .mem) (𝓡 .run)))
-    (tables 𝓤 H 𝓜 𝓡 code.env .C) (tables 𝓤 H 𝓜 𝓡 code.env .Λ) #key code.function (code.unfolded 𝓤 H 𝓜 𝓡)
-    (meets 𝓤 H (𝓖 .A) (givenOf 𝓤 H 𝓜 𝓖) (𝓜 .mem) (𝓡 .run) (tablesOf 𝓤 H 𝓜 (tables 𝓤 H 𝓜 𝓡 code.env))
-    (cited 𝓤 H (Take 𝓤 H (𝓖 .A) (𝓜 .mem) (𝓡 .run)) 𝓜 𝓡 code.env take-def.name take-def.routine code.calls-record-take·take (take-thm.met 𝓤 H 𝓜 𝓖 𝓡)))
+    concludes 𝓤 H 𝓜 𝓖 𝓡 f.ended stayed (f.clauses 𝓤 H (𝓖 .A) (𝓜 .mem) (𝓡 .run)) code.env #key code.function (code.unfolded 𝓤 H 𝓜 𝓡)
+    (goes-ref 𝓤 H (𝓖 .A) (givenOf 𝓤 H 𝓜 𝓖) 2 0 tt (plain (λ _. C.the-row)), (goes-dropped 𝓤 H (𝓖 .A) (givenOf 𝓤 H 𝓜 𝓖) 2 (plain (λ _. u8)) yes (λ κs x f. refl), (goes-dropped 𝓤 H (𝓖 .A) (givenOf 𝓤 H 𝓜 𝓖) 2 (plain (λ _. bool)) yes (λ κs x f. refl), (goes-dropped 𝓤 H (𝓖 .A) (givenOf 𝓤 H 𝓜 𝓖) 2 (plain (λ _. bool)) yes (λ κs x f. refl), (goes-gave-slice 𝓤 H (𝓖 .A) (givenOf 𝓤 H 𝓜 𝓖) 2 1 tt (plain (λ _. u8)), tt)))))
+    (λ fm. walks 𝓤 H (𝓖 .A) (givenOf 𝓤 H 𝓜 𝓖) (𝓜 .mem) (𝓡 .run) _ _ fm (cited 𝓤 H (Take 𝓤 H (𝓖 .A) (𝓜 .mem) (𝓡 .run)) 𝓜 𝓡 code.env take-def.name take-def.routine code.calls-record-take·take (take-thm.met 𝓤 H 𝓜 𝓖 𝓡)))

@@ -1,6 +1,7 @@
 -- `flic_write_list`: a table of a wrong length is refused. Else the device record and the table are passed on and given up; the controller is looked into, and shut at the exit. The
 -- bytes are passed on whole.
-use Rattle.flic.proofs.Walk.{_≡_, refl, Bool, false, lit, bin, store, first, skips, branches, exec, returns-within, anyQ, afterSeq, Wp, atReturn, ℕ, [], _∷_, List, length, URA, named, erased, w8, w64, tyInt, tyBool, tyRef, imm, mut, Val, vint, vbool, vptr, SProp, ent, id⊢, feq, GName, Lft, Share, Fml, ftrue, fsep, flft, fobor, Memory, Routine, Heap, Env, Calls, Loops, WpFn, Tables, Atoms, Fun, Given, Item, Sq, runs, atRet, ‵, ⋆, _⊛_, _$_, _∵_, !, qed, by, move, keep, drop, split, join, fsplit, fsplit3, fjoin, feqL, suffices, frame, done, look, init, stop, hop, fld, from, load, addr, of-opd, and-then, no-more, assigns, land, returns, enter, alloc1, alloc0, params1, pass1, pass0, agg, whole, sub, look-in, FmC, fmOf, WpFn-mono, owns, Is, partAt, pointee, bool-makes, u8, RefT, ShrRef, ptr-vals, shr-tells, finally, sliceVal, sliceTy, MutSlice, ShrSlice, Room, slice-vals, mut-slice-tells, shr-slice-tells, plain, owned, nothing, onEntry, Meets, tripleOf, Contract, Triple, entered, cited, says, Stays, walkOf, Walks, ends-at, walked, walk-meets, yes, givenOf, tables, tablesOf, _+_, tyArray, bool, needs, stay-dropped, goes-dropped, gave-slice, goes-gave-slice}
+use Rattle.flic.proofs.Walk.{_≡_, refl, Bool, false, lit, bin, store, first, skips, branches, exec, returns-within, anyQ, afterSeq, Wp, atReturn, ℕ, [], _∷_, List, length, URA, named, erased, w8, w64, tyInt, tyBool, tyRef, imm, mut, Val, vint, vbool, vptr, SProp, ent, id⊢, feq, GName, Lft, Share, Fml, ftrue, fsep, flft, fobor, Memory, Routine, Heap, Env, Calls, Loops, WpFn, Atoms, Fun, Given, Item, Sq, runs, atRet, ‵, ⋆, _⊛_, _$_, _∵_, !, qed, by, move, keep, drop, split, join, fsplit, fsplit3, fjoin, feqL, suffices, frame, done, look, init, stop, hop, fld, from, load, addr, of-opd, and-then, no-more, assigns, land, returns, enter, alloc1, alloc0, params1, pass1, pass0, agg, whole, sub, look-in, FmC, owns, Is, partAt, pointee, bool-makes, u8, RefT, ShrRef, ptr-vals, shr-tells, finally, sliceVal, sliceTy, MutSlice, ShrSlice, Room, slice-vals, mut-slice-tells, shr-slice-tells, plain, owned, nothing, onEntry, tripleOf, Contract, Triple, cited, says, Stays, walkOf, Walks, ends-at, walked, yes, givenOf, tablesOf, _+_, tyArray, bool, needs, stay-dropped, goes-dropped, gave-slice, goes-gave-slice}
+use Rattle.lent_table.proofs.Ends.{concludes}
 use types.Kit as Kit
 use Rattle.numbers.proofs.Basics.{arith, eqb, not, eqb-true, eqb-false}
 use denote.Struct.Laws as LL
@@ -213,17 +214,12 @@ module _ {M : Type 1} (𝓤 : URA M) (H : Heap 𝓤) (A : Atoms 𝓤) (W : Given
       (λ κs qs bounds a _ are. needs 𝓤 (length (a .1 .1 .0 .now) ≡ limitsOf (a .0 .now) .places → Valid (a .0 .now) (a .1 .0 .now) (a .1 .1 .0 .now)) _ (λ valid. walk 𝓤 H A W mem′ run (refs (κs .0) (κs .1 .0) (κs .1 .1 .0) (qs .0) (qs .1 .0) (qs .1 .1 .0) (a .0) (a .1 .0) (a .1 .1 .0)) (κs .1 .1 .1 .0) (qs .1 .1 .1 .0)
       (a .1 .1 .1 .0 .ptr .0) (a .1 .1 .1 .0 .ptr .1) (a .1 .1 .1 .0 .name) (a .1 .1 .1 .0 .now) (are .1 .1 .0 .0 .1) (are .1 .1 .1 .0 .0 .1) valid C′ Λ fm known))
 
-  meets : (𝓣 : Tables 𝓤 H) → Known 𝓤 H A mem′ run (𝓣 .C) → Meets 𝓤 H A f.signature (WpFn 𝓤 H (𝓣 .C) (𝓣 .Λ) code.function) (f.spec 𝓤 H A mem′ run)
-  meets 𝓣 known = walk-meets 𝓤 H A f.ended stayed W
-      (goes-dropped 𝓤 H A W 4 (shrRefTo (0 ∷ []) tt (plain (λ _. C.the-row))) yes (λ κs x f. refl), (goes-dropped 𝓤 H A W 4 (shrRefTo (1 ∷ []) tt (plain (λ _. D.the-row))) yes (λ κs x f. refl), (goes-dropped 𝓤 H A W 4 (shrSliceOf (2 ∷ []) tt (plain (λ _. P.the-row))) yes (λ κs x f. refl), (goes-gave-slice 𝓤 H A W 4 3 tt (plain (λ _. u8)), tt))))
-      (f.clauses 𝓤 H A mem′ run) (WpFn 𝓤 H (𝓣 .C) (𝓣 .Λ) code.function) (WpFn-mono 𝓤 H (W .laws) 𝓣 code.function) (walks (𝓣 .C) (𝓣 .Λ) (fmOf 𝓤 H (W .laws) 𝓣) known)
-
 pub flic-write-list-spec : {M : Type 1} → stated.statement M
 unfolding code.routine tablesOf
 flic-write-list-spec 𝓤 H 𝓜 𝓖 𝓡 =
-    entered 𝓤 H (tripleOf 𝓤 H (𝓖 .A) f.signature (f.spec 𝓤 H (𝓖 .A) (𝓜 .mem) (𝓡 .run)))
-    (tables 𝓤 H 𝓜 𝓡 code.env .C) (tables 𝓤 H 𝓜 𝓡 code.env .Λ) #key code.function (code.unfolded 𝓤 H 𝓜 𝓡)
-    (meets 𝓤 H (𝓖 .A) (givenOf 𝓤 H 𝓜 𝓖) (𝓜 .mem) (𝓡 .run) (tablesOf 𝓤 H 𝓜 (tables 𝓤 H 𝓜 𝓡 code.env)) (record {
+    concludes 𝓤 H 𝓜 𝓖 𝓡 f.ended stayed (f.clauses 𝓤 H (𝓖 .A) (𝓜 .mem) (𝓡 .run)) code.env #key code.function (code.unfolded 𝓤 H 𝓜 𝓡)
+    (goes-dropped 𝓤 H (𝓖 .A) (givenOf 𝓤 H 𝓜 𝓖) 4 (shrRefTo (0 ∷ []) tt (plain (λ _. C.the-row))) yes (λ κs x f. refl), (goes-dropped 𝓤 H (𝓖 .A) (givenOf 𝓤 H 𝓜 𝓖) 4 (shrRefTo (1 ∷ []) tt (plain (λ _. D.the-row))) yes (λ κs x f. refl), (goes-dropped 𝓤 H (𝓖 .A) (givenOf 𝓤 H 𝓜 𝓖) 4 (shrSliceOf (2 ∷ []) tt (plain (λ _. P.the-row))) yes (λ κs x f. refl), (goes-gave-slice 𝓤 H (𝓖 .A) (givenOf 𝓤 H 𝓜 𝓖) 4 3 tt (plain (λ _. u8)), tt))))
+    (λ fm. walks 𝓤 H (𝓖 .A) (givenOf 𝓤 H 𝓜 𝓖) (𝓜 .mem) (𝓡 .run) _ _ fm (record {
       refuse = cited 𝓤 H (Refuse 𝓤 H (𝓖 .A) (𝓜 .mem) (𝓡 .run)) 𝓜 𝓡 code.env refuse-def.name refuse-def.routine code.calls-answers·refuse (refuse-thm.met 𝓤 H 𝓜 𝓖 𝓡);
       read-device = cited 𝓤 H (ReadDevice 𝓤 H (𝓖 .A) (𝓜 .mem) (𝓡 .run)) 𝓜 𝓡 code.env read-device-def.name read-device-def.routine code.calls-lent-table·read-device (read-device-thm.met 𝓤 H 𝓜 𝓖 𝓡);
       snapshot = cited 𝓤 H (Snapshot 𝓤 H (𝓖 .A) (𝓜 .mem) (𝓡 .run)) 𝓜 𝓡 code.env snapshot-def.name snapshot-def.routine code.calls-lent-table·snapshot (snapshot-thm.met 𝓤 H 𝓜 𝓖 𝓡);

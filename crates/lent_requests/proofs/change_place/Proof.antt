@@ -1,5 +1,6 @@
 -- `change_place`: the table is opened, `register` or `mask` is called, and the table is closed.
-use Rattle.lent_table.proofs.Walk.{_≡_, refl, sym, ap, subst, ℕ, _<_, _^_, true, false, [], _∷_, List, length, getD, set, length-set, URA, fullShare, named, erased, w32, tyInt, tyBool, tyUnit, tyRef, mut, Val, vunit, vint, vbool, vptr, SProp, ent, emp, via, fst∗, GName, Lft, Share, ftrue, flft, fobs, fobor, fauth, Memory, Routine, Heap, Env, Calls, Loops, Wp, WpFn, Tables, afterSeq, atReturn, Atoms, Fun, givenOf, tables, tablesOf, Given, Item, Sq, runs, anyQ, atRet, ‵, ⋆, _⊛_, _$_, _∵_, !, qed, by, move, keep, drop, split, join, fsplit, fjoin, feqI, suffices, frame, done, look, init, stop, hop, fld, from, load, lit, unit-lit, addr, of-opd, bin, and-then, no-more, assigns, first, skips, branches, exec, land, returns, returns-within, enter, alloc1, alloc0, params1, pass1, pass0, agg, whole, sub, look-in, FmC, fmOf, WpFn-mono, owns, pointee, uint-vals, uint-tells, u32, RefT, sliceVal, sliceTy, MutSlice, Room, heres, codedHoleys, Held, row, at-slice, slice-vals, mut-slice-tells, pureI, plain, nothing, opens-slice, closes-slice, onEntry, Meets, tripleOf, Triple, entered, cited, says, Stays, stay-slice, stay-dropped, walkOf, goes-slice, goes-dropped, Walks, ends-at, walked, walk-meets, yes}
+use Rattle.lent_table.proofs.Walk.{_≡_, refl, sym, ap, subst, ℕ, _<_, _^_, true, false, [], _∷_, List, length, getD, set, length-set, URA, fullShare, named, erased, w32, tyInt, tyBool, tyUnit, tyRef, mut, Val, vunit, vint, vbool, vptr, SProp, ent, emp, via, fst∗, GName, Lft, Share, ftrue, flft, fobs, fobor, fauth, Memory, Routine, Heap, Env, Calls, Loops, Wp, WpFn, afterSeq, atReturn, Atoms, Fun, givenOf, tablesOf, Given, Item, Sq, runs, anyQ, atRet, ‵, ⋆, _⊛_, _$_, _∵_, !, qed, by, move, keep, drop, split, join, fsplit, fjoin, feqI, suffices, frame, done, look, init, stop, hop, fld, from, load, lit, unit-lit, addr, of-opd, bin, and-then, no-more, assigns, first, skips, branches, exec, land, returns, returns-within, enter, alloc1, alloc0, params1, pass1, pass0, agg, whole, sub, look-in, FmC, owns, pointee, uint-vals, uint-tells, u32, RefT, sliceVal, sliceTy, MutSlice, Room, heres, codedHoleys, Held, row, at-slice, slice-vals, mut-slice-tells, pureI, plain, nothing, opens-slice, closes-slice, onEntry, Triple, cited, says, Stays, stay-slice, stay-dropped, walkOf, goes-slice, goes-dropped, Walks, ends-at, walked, yes}
+use Rattle.lent_table.proofs.Ends.{concludes}
 use types.Kit as Kit
 use lib.Dec.{eqb}
 use denote.Struct.Laws as LL
@@ -123,16 +124,10 @@ module _ {M : Type 1} (𝓤 : URA M) (H : Heap 𝓤) (A : Atoms 𝓤) (W : Given
       (λ κs. (slice-vals, (LL.vals I.the-type I′.the-laws, (uint-vals w32, (LL.vals P.the-type P′.the-laws, tt))))) (λ κs. (mut-slice-tells (named 0) (κs .0) R, (LL.tells I.the-type I′.the-laws, (uint-tells w32, (LL.tells P.the-type P′.the-laws, tt)))))
       (λ κs qs bounds a _ are. via 𝓤 _ (fst∗ 𝓤 _ (emp 𝓤)) (walk 𝓤 H A W mem′ run (κs .0) (qs .0) (a .0 .ptr .0) (a .0 .ptr .1) (a .0 .name) (a .0 .now) (a .1 .0) (a .1 .1 .0) (a .1 .1 .1 .0) (are .0 .0 .1) (are .1 .0) (are .1 .1 .0 .1) (are .1 .1 .1 .0) C Λ fm register mask))
 
-  meets : (𝓣 : Tables 𝓤 H) → Triple 𝓤 (𝓣 .C register-def.name) (Register 𝓤 H A mem′ run) → Triple 𝓤 (𝓣 .C mask-def.name) (Mask 𝓤 H A mem′ run) → Meets 𝓤 H A f.signature (WpFn 𝓤 H (𝓣 .C) (𝓣 .Λ) code.function) (f.spec 𝓤 H A mem′ run)
-  meets 𝓣 register mask = walk-meets 𝓤 H A f.ended stayed W
-      (goes-slice 𝓤 H A W 1 0 tt (plain (λ _. R)), (goes-dropped 𝓤 H A W 1 (plain (λ _. I.the-row)) yes (λ κs x f. refl), (goes-dropped 𝓤 H A W 1 (plain (λ _. u32)) yes (λ κs x f. refl), (goes-dropped 𝓤 H A W 1 (plain (λ _. R)) yes (λ κs x f. refl), tt))))
-      (f.clauses 𝓤 H A mem′ run) (WpFn 𝓤 H (𝓣 .C) (𝓣 .Λ) code.function) (WpFn-mono 𝓤 H (W .laws) 𝓣 code.function) (walks (𝓣 .C) (𝓣 .Λ) (fmOf 𝓤 H (W .laws) 𝓣) register mask)
-
 pub change-place-spec : {M : Type 1} → stated.statement M
 unfolding code.routine tablesOf
 change-place-spec 𝓤 H 𝓜 𝓖 𝓡 =
-    entered 𝓤 H (tripleOf 𝓤 H (𝓖 .A) f.signature (f.spec 𝓤 H (𝓖 .A) (𝓜 .mem) (𝓡 .run)))
-    (tables 𝓤 H 𝓜 𝓡 code.env .C) (tables 𝓤 H 𝓜 𝓡 code.env .Λ) #key code.function (code.unfolded 𝓤 H 𝓜 𝓡)
-    (meets 𝓤 H (𝓖 .A) (givenOf 𝓤 H 𝓜 𝓖) (𝓜 .mem) (𝓡 .run) (tablesOf 𝓤 H 𝓜 (tables 𝓤 H 𝓜 𝓡 code.env))
-    (cited 𝓤 H (Register 𝓤 H (𝓖 .A) (𝓜 .mem) (𝓡 .run)) 𝓜 𝓡 code.env register-def.name register-def.routine code.calls-lent-table·register (register-thm.met 𝓤 H 𝓜 𝓖 𝓡))
+    concludes 𝓤 H 𝓜 𝓖 𝓡 f.ended stayed (f.clauses 𝓤 H (𝓖 .A) (𝓜 .mem) (𝓡 .run)) code.env #key code.function (code.unfolded 𝓤 H 𝓜 𝓡)
+    (goes-slice 𝓤 H (𝓖 .A) (givenOf 𝓤 H 𝓜 𝓖) 1 0 tt (plain (λ _. R)), (goes-dropped 𝓤 H (𝓖 .A) (givenOf 𝓤 H 𝓜 𝓖) 1 (plain (λ _. I.the-row)) yes (λ κs x f. refl), (goes-dropped 𝓤 H (𝓖 .A) (givenOf 𝓤 H 𝓜 𝓖) 1 (plain (λ _. u32)) yes (λ κs x f. refl), (goes-dropped 𝓤 H (𝓖 .A) (givenOf 𝓤 H 𝓜 𝓖) 1 (plain (λ _. R)) yes (λ κs x f. refl), tt))))
+    (λ fm. walks 𝓤 H (𝓖 .A) (givenOf 𝓤 H 𝓜 𝓖) (𝓜 .mem) (𝓡 .run) _ _ fm (cited 𝓤 H (Register 𝓤 H (𝓖 .A) (𝓜 .mem) (𝓡 .run)) 𝓜 𝓡 code.env register-def.name register-def.routine code.calls-lent-table·register (register-thm.met 𝓤 H 𝓜 𝓖 𝓡))
     (cited 𝓤 H (Mask 𝓤 H (𝓖 .A) (𝓜 .mem) (𝓡 .run)) 𝓜 𝓡 code.env mask-def.name mask-def.routine code.calls-lent-table·mask (mask-thm.met 𝓤 H 𝓜 𝓖 𝓡)))

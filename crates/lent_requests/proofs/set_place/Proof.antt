@@ -1,5 +1,6 @@
 -- `set_place`: the table is opened, the place of the payload's id is looked up, and the code decides; where it is 0 `change_place` is called. Then the table is closed.
-use Rattle.lent_table.proofs.Walk.{_≡_, refl, sym, ap, subst, ℕ, _<_, _^_, true, false, [], _∷_, List, length, getD, set, URA, fullShare, named, erased, w8, w32, w64, tyInt, tyBool, tyUnit, tyRef, imm, mut, Val, vunit, vint, vbool, vptr, SProp, ent, sep, id⊢, GName, Lft, Share, Fml, ftrue, fsep, flft, fobs, fobor, fauth, fat, Memory, Routine, Heap, Env, Calls, Loops, Wp, WpFn, Tables, afterSeq, atReturn, Atoms, sem, Fun, givenOf, tables, tablesOf, Given, Item, Sq, runs, anyQ, atRet, ‵, ⋆, _⊛_, _$_, _∵_, !, qed, by, move, keep, drop, split, join, rewrite, fsplit, fjoin, suffices, frame, done, look, init, stop, hop, fld, from, load, lit, addr, bin, and-then, no-more, assigns, first, skips, branches, exec, land, returns, returns-within, enter, alloc1, alloc0, params1, pass1, pass0, agg, whole, sub, look-in, FmC, fmOf, WpFn-mono, owns, Is, pointee, uint-vals, uint-tells, uint-makes, uint-lawful, u8, u32, u64, RefT, sliceVal, sliceTy, MutSlice, ShrSlice, Room, heres, codedHoleys, at-slice, slice-vals, mut-slice-tells, shr-slice-tells, pureI, Held, row, opens-slice, closes-slice, plain, only, owned, nothing, onEntry, Meets, tripleOf, Contract, Triple, entered, cited, needs, says, Stays, stay-slice, stay-dropped, walkOf, goes-slice, goes-dropped, Walks, ends-at, walked, walk-meets, yes}
+use Rattle.lent_table.proofs.Walk.{_≡_, refl, sym, ap, subst, ℕ, _<_, _^_, true, false, [], _∷_, List, length, getD, set, URA, fullShare, named, erased, w8, w32, w64, tyInt, tyBool, tyUnit, tyRef, imm, mut, Val, vunit, vint, vbool, vptr, SProp, ent, sep, id⊢, GName, Lft, Share, Fml, ftrue, fsep, flft, fobs, fobor, fauth, fat, Memory, Routine, Heap, Env, Calls, Loops, Wp, WpFn, afterSeq, atReturn, Atoms, sem, Fun, givenOf, tablesOf, Given, Item, Sq, runs, anyQ, atRet, ‵, ⋆, _⊛_, _$_, _∵_, !, qed, by, move, keep, drop, split, join, rewrite, fsplit, fjoin, suffices, frame, done, look, init, stop, hop, fld, from, load, lit, addr, bin, and-then, no-more, assigns, first, skips, branches, exec, land, returns, returns-within, enter, alloc1, alloc0, params1, pass1, pass0, agg, whole, sub, look-in, FmC, owns, Is, pointee, uint-vals, uint-tells, uint-makes, uint-lawful, u8, u32, u64, RefT, sliceVal, sliceTy, MutSlice, ShrSlice, Room, heres, codedHoleys, at-slice, slice-vals, mut-slice-tells, shr-slice-tells, pureI, Held, row, opens-slice, closes-slice, plain, only, owned, nothing, onEntry, tripleOf, Contract, Triple, cited, needs, says, Stays, stay-slice, stay-dropped, walkOf, goes-slice, goes-dropped, Walks, ends-at, walked, yes}
+use Rattle.lent_table.proofs.Ends.{concludes}
 use types.Kit as Kit
 use Rattle.numbers.proofs.Basics.{eqb, not, _∙_, eqb-true, eqb-false, arith}
 use denote.Struct.Laws as LL
@@ -266,17 +267,12 @@ module _ {M : Type 1} (𝓤 : URA M) (H : Heap 𝓤) (A : Atoms 𝓤) (W : Given
       (λ κs qs bounds a _ are. needs 𝓤 (onPlace (a .1 .0) ≡ true) _ (λ on. walk 𝓤 H A W mem′ run (κs .0) (κs .1 .0) (qs .0) (qs .1 .0) (a .0 .ptr .0) (a .0 .ptr .1) (a .0 .name) (a .0 .now) (a .1 .0) (a .1 .1 .0)
       (a .1 .1 .1 .0 .ptr .0) (a .1 .1 .1 .0 .ptr .1) (a .1 .1 .1 .0 .name) (a .1 .1 .1 .0 .now) (are .0 .0 .1) (are .1 .0 .1) (are .1 .1 .0 .1) (are .1 .1 .1 .0 .0 .1) on C Λ fm known))
 
-  meets : (𝓣 : Tables 𝓤 H) → Known 𝓤 H A mem′ run (𝓣 .C) → Meets 𝓤 H A f.signature (WpFn 𝓤 H (𝓣 .C) (𝓣 .Λ) code.function) (f.spec 𝓤 H A mem′ run)
-  meets 𝓣 known = walk-meets 𝓤 H A f.ended stayed W
-      (goes-slice 𝓤 H A W 2 0 tt (plain (λ _. R)), (goes-dropped 𝓤 H A W 2 (plain (λ _. u32)) yes (λ κs x f. refl), (goes-dropped 𝓤 H A W 2 (plain (λ _. u64)) yes (λ κs x f. refl), (goes-dropped 𝓤 H A W 2 (shrSliceOf (1 ∷ []) tt (plain (λ _. u8))) yes (λ κs x f. refl), tt))))
-      (f.clauses 𝓤 H A mem′ run) (WpFn 𝓤 H (𝓣 .C) (𝓣 .Λ) code.function) (WpFn-mono 𝓤 H (W .laws) 𝓣 code.function) (walks (𝓣 .C) (𝓣 .Λ) (fmOf 𝓤 H (W .laws) 𝓣) known)
-
 pub set-place-spec : {M : Type 1} → stated.statement M
 unfolding code.routine tablesOf
 set-place-spec 𝓤 H 𝓜 𝓖 𝓡 =
-    entered 𝓤 H (tripleOf 𝓤 H (𝓖 .A) f.signature (f.spec 𝓤 H (𝓖 .A) (𝓜 .mem) (𝓡 .run)))
-    (tables 𝓤 H 𝓜 𝓡 code.env .C) (tables 𝓤 H 𝓜 𝓡 code.env .Λ) #key code.function (code.unfolded 𝓤 H 𝓜 𝓡)
-    (meets 𝓤 H (𝓖 .A) (givenOf 𝓤 H 𝓜 𝓖) (𝓜 .mem) (𝓡 .run) (tablesOf 𝓤 H 𝓜 (tables 𝓤 H 𝓜 𝓡 code.env)) (record {
+    concludes 𝓤 H 𝓜 𝓖 𝓡 f.ended stayed (f.clauses 𝓤 H (𝓖 .A) (𝓜 .mem) (𝓡 .run)) code.env #key code.function (code.unfolded 𝓤 H 𝓜 𝓡)
+    (goes-slice 𝓤 H (𝓖 .A) (givenOf 𝓤 H 𝓜 𝓖) 2 0 tt (plain (λ _. R)), (goes-dropped 𝓤 H (𝓖 .A) (givenOf 𝓤 H 𝓜 𝓖) 2 (plain (λ _. u32)) yes (λ κs x f. refl), (goes-dropped 𝓤 H (𝓖 .A) (givenOf 𝓤 H 𝓜 𝓖) 2 (plain (λ _. u64)) yes (λ κs x f. refl), (goes-dropped 𝓤 H (𝓖 .A) (givenOf 𝓤 H 𝓜 𝓖) 2 (shrSliceOf (1 ∷ []) tt (plain (λ _. u8))) yes (λ κs x f. refl), tt))))
+    (λ fm. walks 𝓤 H (𝓖 .A) (givenOf 𝓤 H 𝓜 𝓖) (𝓜 .mem) (𝓡 .run) _ _ fm (record {
       payload-id = cited 𝓤 H (PayloadId 𝓤 H (𝓖 .A) (𝓜 .mem) (𝓡 .run)) 𝓜 𝓡 code.env payload-id-def.name payload-id-def.routine code.calls-adapter-requests·payload-id (payload-id-thm.met 𝓤 H 𝓜 𝓖 𝓡);
       look-up = cited 𝓤 H (LookUp 𝓤 H (𝓖 .A) (𝓜 .mem) (𝓡 .run)) 𝓜 𝓡 code.env look-up-def.name look-up-def.routine code.calls-lent-table·look-up (look-up-thm.met 𝓤 H 𝓜 𝓖 𝓡);
       place-code = cited 𝓤 H (PlaceCode 𝓤 H (𝓖 .A) (𝓜 .mem) (𝓡 .run)) 𝓜 𝓡 code.env place-code-def.name place-code-def.routine code.calls-adapter-requests·place-code (place-code-thm.met 𝓤 H 𝓜 𝓖 𝓡);

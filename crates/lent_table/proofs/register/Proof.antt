@@ -1,5 +1,6 @@
 -- `register`: the place of an id is stored through the slice, or nothing is done.
-use Rattle.lent_table.proofs.Walk.{_≡_, refl, sym, ap, subst, ℕ, [], _∷_, List, length, set, URA, named, Val, vunit, SProp, ent, emp, via, fst∗, GName, Lft, Share, ftrue, flft, Memory, Routine, Heap, Calls, Loops, WpFn, Tables, Atoms, Fun, givenOf, tables, tablesOf, Given, post, ‵, ⋆, _⊛_, _$_, _∵_, !, qed, move, keep, drop, split, join, fsplit, fjoin, feqI, suffices, frame, done, look, store-raw, init, stop, hop, from, load, of-opd, assigns-last, enter, alloc1, alloc0, params1, pass1, pass0, WpFn-mono, owns, Is, mem, RefT, sliceVal, MutSlice, Room, at-slice, slice-vals, mut-slice-tells, pureI, plain, owned, nothing, onEntry, Meets, tripleOf, entered, says, Stays, stay-slice, stay-none, walkOf, goes-none, goes-slice, Walks, ends-at, walked, walk-meets, yes}
+use Rattle.lent_table.proofs.Walk.{_≡_, refl, sym, ap, subst, ℕ, [], _∷_, List, length, set, URA, named, Val, vunit, SProp, ent, emp, via, fst∗, GName, Lft, Share, ftrue, flft, Memory, Routine, Heap, Calls, Loops, WpFn, Atoms, Fun, givenOf, tablesOf, Given, post, ‵, ⋆, _⊛_, _$_, _∵_, !, qed, move, keep, drop, split, join, fsplit, fjoin, feqI, suffices, frame, done, look, store-raw, init, stop, hop, from, load, of-opd, assigns-last, enter, alloc1, alloc0, params1, pass1, pass0, owns, Is, mem, RefT, sliceVal, MutSlice, Room, at-slice, slice-vals, mut-slice-tells, pureI, plain, owned, nothing, onEntry, says, Stays, stay-slice, stay-none, walkOf, goes-none, goes-slice, Walks, ends-at, walked, yes}
+use Rattle.lent_table.proofs.Ends.{concludes}
 use mir.Syntax.{place as local, deref, copy, rvOpd, Body as Code, assign}
 use denote.Struct.Laws as LL
 use Rattle.numbers.specs.declared.AdapterId.{AdapterId}
@@ -67,13 +68,9 @@ module _ {M : Type 1} (𝓤 : URA M) (H : Heap 𝓤) (A : Atoms 𝓤) (W : Given
       (λ κs. (slice-vals, (LL.vals I.the-type I′.the-laws, (LL.vals P.the-type P′.the-laws, tt)))) (λ κs. (mut-slice-tells (named 0) (κs .0) R, (LL.tells I.the-type I′.the-laws, (LL.tells P.the-type P′.the-laws, tt))))
       (λ κs qs bounds a _ are. via 𝓤 _ (fst∗ 𝓤 _ (emp 𝓤)) (walk 𝓤 H A W mem run (κs .0) (qs .0) (a .0 .ptr .0) (a .0 .ptr .1) (a .0 .name) (a .0 .now) (a .1 .0) (a .1 .1 .0) (are .0 .0 .1) (are .1 .0) (are .1 .1 .0) C Λ))
 
-  meets : (𝓣 : Tables 𝓤 H) → Meets 𝓤 H A f.signature (WpFn 𝓤 H (𝓣 .C) (𝓣 .Λ) code.function) (f.spec 𝓤 H A mem run)
-  meets 𝓣 = walk-meets 𝓤 H A f.ended stayed W (goes-slice 𝓤 H A W 1 0 tt (plain (λ _. R)), (goes-none 𝓤 H A W 1 (λ _. I.the-row) yes (λ κs x f. refl), (goes-none 𝓤 H A W 1 (λ _. R) yes (λ κs x f. refl), tt)))
-      (f.clauses 𝓤 H A mem run) (WpFn 𝓤 H (𝓣 .C) (𝓣 .Λ) code.function) (WpFn-mono 𝓤 H (W .laws) 𝓣 code.function) (walks (𝓣 .C) (𝓣 .Λ))
-
 pub register-spec : {M : Type 1} → stated.statement M
 unfolding code.routine tablesOf
 register-spec 𝓤 H 𝓜 𝓖 𝓡 =
-    entered 𝓤 H (tripleOf 𝓤 H (𝓖 .A) f.signature (f.spec 𝓤 H (𝓖 .A) (𝓜 .mem) (𝓡 .run)))
-    (tables 𝓤 H 𝓜 𝓡 code.env .C) (tables 𝓤 H 𝓜 𝓡 code.env .Λ) #key code.function (code.unfolded 𝓤 H 𝓜 𝓡)
-    (meets 𝓤 H (𝓖 .A) (givenOf 𝓤 H 𝓜 𝓖) (𝓜 .mem) (𝓡 .run) (tablesOf 𝓤 H 𝓜 (tables 𝓤 H 𝓜 𝓡 code.env)))
+    concludes 𝓤 H 𝓜 𝓖 𝓡 f.ended stayed (f.clauses 𝓤 H (𝓖 .A) (𝓜 .mem) (𝓡 .run)) code.env #key code.function (code.unfolded 𝓤 H 𝓜 𝓡)
+    (goes-slice 𝓤 H (𝓖 .A) (givenOf 𝓤 H 𝓜 𝓖) 1 0 tt (plain (λ _. R)), (goes-none 𝓤 H (𝓖 .A) (givenOf 𝓤 H 𝓜 𝓖) 1 (λ _. I.the-row) yes (λ κs x f. refl), (goes-none 𝓤 H (𝓖 .A) (givenOf 𝓤 H 𝓜 𝓖) 1 (λ _. R) yes (λ κs x f. refl), tt)))
+    (λ fm. walks 𝓤 H (𝓖 .A) (givenOf 𝓤 H 𝓜 𝓖) (𝓜 .mem) (𝓡 .run) _ _)

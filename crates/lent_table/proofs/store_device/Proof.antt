@@ -1,5 +1,6 @@
 -- `store_device`: the borrow is opened, the whole record is stored, and the borrow is closed at it.
-use Rattle.lent_table.proofs.Walk.{refl, ℕ, [], _∷_, List, URA, fullShare, named, Val, vunit, vptr, SProp, ent, sep, emp, via, fst∗, GName, Lft, Share, ftrue, flft, fobs, fbor, Memory, Routine, Heap, Calls, Loops, WpFn, Tables, Atoms, Fun, givenOf, tables, tablesOf, Given, post, ‵, _⊛_, _$_, _∵_, !, qed, by, move, keep, drop, split, join, fsplit, fsplit3, fjoin, fjoin3, feqI, suffices, frame, done, look, store-raw, init, forget, stop, hop, from, load, unit-lit, of-opd, assigns, returns, enter, alloc1, alloc0, params1, pass1, pass0, free1, free0, Body, WpFn-mono, owns, Is, shows, mem, RefT, MutRef, ptr-vals, mut-tells, plain, opens, closes, owned, nothing, spelt, onEntry, Meets, tripleOf, entered, says, Stays, stay-ref, stay-none, walkOf, goes-none, goes-ref, Walks, ends-at, walked, walk-meets, yes}
+use Rattle.lent_table.proofs.Walk.{refl, ℕ, [], _∷_, List, URA, fullShare, named, Val, vunit, vptr, SProp, ent, sep, emp, via, fst∗, GName, Lft, Share, ftrue, flft, fobs, fbor, Memory, Routine, Heap, Calls, Loops, WpFn, Atoms, Fun, givenOf, tablesOf, Given, post, ‵, _⊛_, _$_, _∵_, !, qed, by, move, keep, drop, split, join, fsplit, fsplit3, fjoin, fjoin3, feqI, suffices, frame, done, look, store-raw, init, forget, stop, hop, from, load, unit-lit, of-opd, assigns, returns, enter, alloc1, alloc0, params1, pass1, pass0, free1, free0, Body, owns, Is, shows, mem, RefT, MutRef, ptr-vals, mut-tells, plain, opens, closes, owned, nothing, spelt, onEntry, says, Stays, stay-ref, stay-none, walkOf, goes-none, goes-ref, Walks, ends-at, walked, yes}
+use Rattle.lent_table.proofs.Ends.{concludes}
 use denote.Struct.Laws as LL
 use Rattle.adapters.specs.declared.Device.{Device}
 use Rattle.adapters.proofs.Device as D
@@ -54,13 +55,9 @@ module _ {M : Type 1} (𝓤 : URA M) (H : Heap 𝓤) (A : Atoms 𝓤) (W : Given
       (λ κs. (ptr-vals, (LL.vals D.the-type D′.the-laws, tt))) (λ κs. (mut-tells (named 0) (κs .0) D.the-row, (LL.tells D.the-type D′.the-laws, tt)))
       (λ κs qs bounds a _ are. via 𝓤 _ (fst∗ 𝓤 _ (emp 𝓤)) (walk 𝓤 H A W at-mem run (κs .0) (qs .0) (a .0 .ptr .0) (a .0 .ptr .1) (a .0 .name) (a .0 .now) (a .1 .0) C Λ (are .1 .0)))
 
-  meets : (𝓣 : Tables 𝓤 H) → Meets 𝓤 H A f.signature (WpFn 𝓤 H (𝓣 .C) (𝓣 .Λ) code.function) (f.spec 𝓤 H A at-mem run)
-  meets 𝓣 = walk-meets 𝓤 H A f.ended stayed W (goes-ref 𝓤 H A W 1 0 tt (plain (λ _. D.the-row)), (goes-none 𝓤 H A W 1 (λ _. D.the-row) yes (λ κs x f. refl), tt))
-      (f.clauses 𝓤 H A at-mem run) (WpFn 𝓤 H (𝓣 .C) (𝓣 .Λ) code.function) (WpFn-mono 𝓤 H (W .laws) 𝓣 code.function) (walks (𝓣 .C) (𝓣 .Λ))
-
 pub store-device-spec : {M : Type 1} → stated.statement M
 unfolding code.routine tablesOf
 store-device-spec 𝓤 H 𝓜 𝓖 𝓡 =
-    entered 𝓤 H (tripleOf 𝓤 H (𝓖 .A) f.signature (f.spec 𝓤 H (𝓖 .A) (𝓜 .mem) (𝓡 .run)))
-    (tables 𝓤 H 𝓜 𝓡 code.env .C) (tables 𝓤 H 𝓜 𝓡 code.env .Λ) #key code.function (code.unfolded 𝓤 H 𝓜 𝓡)
-    (meets 𝓤 H (𝓖 .A) (givenOf 𝓤 H 𝓜 𝓖) (𝓜 .mem) (𝓡 .run) (tablesOf 𝓤 H 𝓜 (tables 𝓤 H 𝓜 𝓡 code.env)))
+    concludes 𝓤 H 𝓜 𝓖 𝓡 f.ended stayed (f.clauses 𝓤 H (𝓖 .A) (𝓜 .mem) (𝓡 .run)) code.env #key code.function (code.unfolded 𝓤 H 𝓜 𝓡)
+    (goes-ref 𝓤 H (𝓖 .A) (givenOf 𝓤 H 𝓜 𝓖) 1 0 tt (plain (λ _. D.the-row)), (goes-none 𝓤 H (𝓖 .A) (givenOf 𝓤 H 𝓜 𝓖) 1 (λ _. D.the-row) yes (λ κs x f. refl), tt))
+    (λ fm. walks 𝓤 H (𝓖 .A) (givenOf 𝓤 H 𝓜 𝓖) (𝓜 .mem) (𝓡 .run) _ _)

@@ -1,4 +1,5 @@
--- Which adapter a set request is about, what an accepted request leaves of its place or of the device record, and what a reply says.
+-- Which adapter a set request is about, what an accepted request leaves of its place or of the device record, and
+-- what a reply says.
 use Prim.Native.Nat.{ℕ, _^_, _≤_}
 use mathlib.Core.Path.{_≡_}
 use mathlib.Core.Bool.{Bool, true, _||_}
@@ -65,7 +66,8 @@ pub record ModesAsked (group : ℕ) (b : List ℕ) : Type 0 where
 abbrev pub stateWith : State → ℕ → rules.Place → Pending → rules.Device → State
 stateWith s id place pending device = record { ais = s .ais; adapters = set (s .adapters) id place; pending = pending; device = device }
 
--- What a reply says, for every state that the code's values stand for: the outcome's answer, next state and untouched payload.
+-- What a reply says, for every state that the code's values stand for: the outcome's answer and next state, and that the
+-- payload is untouched.
 -- `before` and `after` are the pending records, `id` is the place that the adapter is at.
 abbrev pub Replies : (places room : ℕ) (ais : Bool) (device : Device) (place : Place) (id : ℕ) (b : List ℕ) → (Limits → State → Outcome State)
     → (before after : Pending) → Reply → Type 0
@@ -88,7 +90,8 @@ Within enters p p′ = Unit
 unfoldable pub changeOf : ℕ → Change
 changeOf group = choose (eqb group 6) enters (choose (eqb group 7) masks keeps)
 
--- What a request that touches no pending record promises of its reply: the answer; a refusal leaves the values equal; a place made here stays so;
+-- What a request that touches no pending record promises of its reply: the answer; a refusal leaves the values equal; a
+-- place that a table may hold stays one;
 -- the place changes no more than so.
 pub record Replied (places room : ℕ) (ais : Bool) (device : Device) (place : Place) (id : ℕ) (b : List ℕ) (o : Limits → State → Outcome State) (change : Change) (r : Reply) : Type 0 where
   pub answer : (p : Pending) → Replies places room ais device place id b o p p r

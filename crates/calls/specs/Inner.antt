@@ -29,7 +29,8 @@ controller slots order counts singles ais = record { slots = slots; order = orde
 abbrev pub pendingIn : Controller → Pending
 pendingIn c = pendingOf (c .order) (c .counts) (c .slots) (c .singles)
 
--- A fresh controller's arrays, whatever the slots hold, and what is to be stored beside them: a table of free places and an empty device record.
+-- A fresh controller's arrays, whatever the slots hold, and what is to be stored beside them: a table of free places and
+-- an empty device record.
 pub record Began (order counts singles : List ℕ) (r : Played) : Type 0 where
   pub started : r ≡ record { answer = answered 0 0; device = record { simm = 0; nimm = 0; apf = false }; restored = imageSize; image = replicate imageSize 0 }
   pub pending : (slots : List ℕ) → pendingOf order counts slots singles ≡ nothing
@@ -39,7 +40,7 @@ pub record Began (order counts singles : List ℕ) (r : Played) : Type 0 where
 abbrev pub notedIn : Bool → Device → Place → Answer → Device
 notedIn ais d p r = choose (eqb (r .count) 1) (injectedDevice ais d p) d
 
--- INJECT, of an adapter id with the place p; the answer, of an id in the table, by the case that the injection comes to.
+-- INJECT of an adapter id whose place is p. For an id in the table the answer is also given by the case of the injection.
 pub record Injected (id : ℕ) (c c′ : Controller) (d : Device) (p : Place) (r : Answer) : Type 0 where
   pub answer : (s : State) (b : List ℕ) → s .ais ≡ c .ais → s .pending ≡ pendingIn c → s .device ≡ deviceOf d → getD (s .adapters) id free ≡ placeOf p
       → Answers (limitsOf c) s b (request (limitsOf c) s airqInject id b) r (withDevice (deviceOf (notedIn (c .ais) d p r)) (withPending (pendingIn c′) s)) b

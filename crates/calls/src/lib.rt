@@ -32,7 +32,8 @@ pub struct Controller {
     pub ais: bool,
 }
 
-// A controller is made fresh: its arrays but the slots, which hold no record then, and what is to be stored beside them.
+// A controller is made fresh. The slots stay as they are, and hold no record then. The result is what is to be stored
+// beside the arrays.
 pub fn start(
     slots: &mut [u8; SLOT_BYTES],
     order: &mut [u8; ORDER_BYTES],

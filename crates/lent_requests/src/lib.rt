@@ -1,4 +1,5 @@
-// Inner crate: the requests about an adapter's place and about the device record, on the lent table and record. Proved by hand.
+// Inner crate: the requests about an adapter's place and about the device record, on the lent table and the lent record.
+// Proved by hand.
 ghost use mathlib.Core.Path.{_≡_};
 ghost use mathlib.Core.Bool.{true, false};
 ghost use lib.Dec.{eqb};
@@ -35,7 +36,7 @@ pub fn change_modes(d: &mut Device, group: u32, payload: &[u8])
     lent_table::set_flag(d, group == APF_ENABLE);
 }
 
-// The table after an accepted request about the place of an id, which is p then: REGISTER enters it, MODIFY changes whether its adapter is masked.
+// Changes the table for an accepted request; p is the new place. REGISTER stores it at the id, MODIFY sets its masked field.
 pub fn change_place(t: &mut [Place], id: AdapterId, group: u32, p: Place)
     ensures { λ _. ⌜ now (t .exit) ≡ set (now (t .entry)) (id .0) (choose (eqb group 6) p (withMasked (p .masked) (getD (now (t .entry)) (id .0) unused))) ⌝ }
 {

@@ -1,4 +1,5 @@
-// Inner crate: the adapter table as a lent slice of places, and the device record behind a reference. Few and thin functions, proved by hand.
+// Inner crate: the adapter table as a lent slice of places, and the device record behind a reference.
+// Few and thin functions, proved by hand.
 ghost use mathlib.Core.Path.{_≡_};
 ghost use Prim.Native.Nat.{_≤_};
 ghost use lib.ListN.{getD, set};
@@ -11,10 +12,10 @@ use numbers::AdapterId;
 use numbers::PLACES;
 use numbers::Subclass;
 
-// The ids of an image's places are those below it.
+// Number of places in an image.
 pub const IDS: u64 = PLACES as u64;
 
-// The place of an id; an id without a place reads as free.
+// The place at the id. Past the table's end it reads as free.
 pub fn look_up(t: &[Place], id: AdapterId) -> Place
     ensures { λ r. ⌜ r ≡ getD (now (t .entry)) (id .0) unused ⌝ }
 {
@@ -25,7 +26,7 @@ pub fn look_up(t: &[Place], id: AdapterId) -> Place
     adapters::free_place()
 }
 
-// The place of an id is this; an id without a place changes nothing.
+// Stores p at the id. With an id past the table's end nothing happens.
 pub fn register(t: &mut [Place], id: AdapterId, p: Place)
     ensures { λ _. ⌜ now (t .exit) ≡ set (now (t .entry)) (id .0) p ⌝ }
 {
@@ -35,7 +36,7 @@ pub fn register(t: &mut [Place], id: AdapterId, p: Place)
     }
 }
 
-// The adapter at an id is masked or not; an id without a place changes nothing.
+// Masks or unmasks the adapter at the id. With an id past the table's end nothing happens.
 pub fn mask(t: &mut [Place], id: AdapterId, on: bool)
     ensures { λ _. ⌜ now (t .exit) ≡ set (now (t .entry)) (id .0) (withMasked on (getD (now (t .entry)) (id .0) unused)) ⌝ }
 {

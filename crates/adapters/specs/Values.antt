@@ -10,7 +10,7 @@ use Rattle.adapters.specs.declared.Place.{Place}
 use Rattle.adapters.specs.declared.Injection.{Injection}
 use Rattle.adapters.specs.declared.Injection.the-variants.{NoAdapter, Dropped, Full, Appended}
 
--- the rules' device record and adapter place
+-- the rules' device record that a device record stands for
 abbrev pub deviceOf : Device → rules.Device
 deviceOf d = record { simm = d .simm; nimm = d .nimm; apf = d .apf }
 
@@ -18,9 +18,16 @@ deviceOf d = record { simm = d .simm; nimm = d .nimm; apf = d .apf }
 abbrev pub deviceFrom : rules.Device → Device
 deviceFrom d = record { simm = d .simm; nimm = d .nimm; apf = d .apf }
 
+-- the rules' adapter and adapter place that a place stands for
 abbrev pub adapterOf : Place → rules.Adapter
 adapterOf p =
-    record { isc = p .isc .0; maskable = p .maskable; swap = p .swap; suppressible = p .suppressible; masked = p .masked }
+    record {
+      isc = p .isc .0;
+      maskable = p .maskable;
+      swap = p .swap;
+      suppressible = p .suppressible;
+      masked = p .masked;
+    }
 
 unfoldable pub placeOf : Place → rules.Place
 placeOf p = choose (p .used) (rules.holds (adapterOf p)) rules.free
@@ -37,10 +44,20 @@ withMasked on p =
       masked = on;
     }
 
--- What every place made here satisfies: unused, it is the one unused place; its subclass is below 8; only a maskable adapter is masked.
+-- the one unused place: all fields are 0 or false
 abbrev pub unused : Place
-unused = record { used = false; isc = record { 0 = 0 }; maskable = false; swap = false; suppressible = false; masked = false }
+unused =
+    record {
+      used = false;
+      isc = record { 0 = 0 };
+      maskable = false;
+      swap = false;
+      suppressible = false;
+      masked = false;
+    }
 
+-- What every place made here satisfies: an unused place has all fields 0 or false, the subclass is below 8, and only a
+-- maskable adapter is masked.
 pub record Canonical (p : Place) : Type 0 where
   pub unusedOne : p .used ≡ false → p ≡ unused
   pub iscSmall : p .isc .0 ≤ 7
@@ -49,22 +66,28 @@ pub record Canonical (p : Place) : Type 0 where
 -- 01, group 9: the device record with a subclass's mode set
 unfoldable pub modeSet : rules.Device → ℕ → Bool → rules.Device
 modeSet d isc single =
-    record { simm = choose single (withBit isc (d .simm)) (withoutBit isc (d .simm)); nimm = withoutBit isc (d .nimm); apf = d .apf }
+    record {
+      simm = choose single (withBit isc (d .simm)) (withoutBit isc (d .simm));
+      nimm = withoutBit isc (d .nimm);
+      apf = d .apf;
+    }
 
 -- 01, group 7, type 1: the place masked or unmasked
 unfoldable pub maskedAs : rules.Place → Bool → rules.Place
 maskedAs rules.free on = rules.free
 maskedAs (rules.holds x) on =
-    rules.holds (record { isc = x .isc; maskable = x .maskable; swap = x .swap; suppressible = x .suppressible; masked = on })
+    rules.holds
+    (record { isc = x .isc; maskable = x .maskable; swap = x .swap; suppressible = x .suppressible; masked = on })
 
 -- 01, group 10: whether suppression applies to the place and its subclass's bit of a mask is set
 abbrev pub underAis : Bool → Place → ℕ → Bool
 underAis ais p mask = ais && (p .suppressible && hasBit (p .isc .0) mask)
 
--- 01, group 10: masked or suppressed, then room
+-- 01, group 10: first whether the adapter is masked or suppressed, then whether there is room
 unfoldable pub injectionOf : Bool → Device → Place → Bool → Injection
 injectionOf ais d p full =
-    choose (p .used) (choose (p .masked || underAis ais p (d .nimm)) Dropped (choose full Full (Appended (p .isc)))) NoAdapter
+    choose (p .used)
+    (choose (p .masked || underAis ais p (d .nimm)) Dropped (choose full Full (Appended (p .isc)))) NoAdapter
 
 -- 01, group 10: an injection that is appended sets nimm in SINGLE mode
 unfoldable pub injectedDevice : Bool → Device → Place → Device

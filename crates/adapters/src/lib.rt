@@ -35,7 +35,8 @@ pub fn fresh_device() -> Device
     }
 }
 
-// The device record anew, field by field: a copy of the whole reads bytes that were just written one by one as a wider word, and waits.
+// Copies the device record field by field. A copy of the whole reads bytes that were just written one by one as a wider
+// word, and waits.
 pub fn by_fields(d: Device) -> Device
     ensures { λ r. ⌜ r ≡ d ⌝ }
 {
@@ -95,7 +96,7 @@ pub fn without_bit(isc: Subclass, mask: u8) -> u8
     mask
 }
 
-// A mode of one subclass: ALL clears both bits, SINGLE sets simm and clears nimm.
+// Sets the mode of one subclass: ALL clears both bits, SINGLE sets the bit of simm and clears that of nimm.
 pub fn mode_set(d: Device, isc: Subclass, single: bool) -> Device
     requires { ⌜ isc .0 ≤ 7 ⌝ }
     ensures { λ r. ⌜ deviceOf r ≡ modeSet (deviceOf d) (isc .0) single ⌝ }
@@ -151,7 +152,7 @@ pub fn registered(isc: Subclass, maskable: bool, swap: bool, suppressible: bool)
     }
 }
 
-// The place with its adapter masked or unmasked; a free one as it is.
+// The place with its adapter masked or unmasked. A free place stays as it is.
 pub fn mask_set(p: Place, on: bool) -> Place
     ensures { λ r. ⌜ placeOf r ≡ maskedAs (placeOf p) on ⌝ }
     ensures canonical { λ r. ⌜ (Canonical p → (on ≡ true → p .maskable ≡ true) → Canonical r) ⌝ }

@@ -34,7 +34,8 @@ pub fn refuse(code: u32) -> Answer
     Answer { code, count: 0 }
 }
 
-// The answer anew, field by field. A copy of the whole reads the code and the padding after it as one word, and waits where the code was just written.
+// Copies the answer field by field. A copy of the whole reads the code and the padding after it as one word, and waits
+// if the code was just written.
 pub fn by_fields(a: Answer) -> Answer
     ensures { λ r. ⌜ r ≡ a ⌝ }
 {

@@ -20,8 +20,9 @@ pub record Host : Type 0 where
   pub dev : Device
   pub tab : List Place
 
--- The table that a call is lent, what is in it afterwards, and what is then in the controller's own: it is lent its
--- own, or one of another length, and then its own stays.
+-- `lent` is the table that a call is lent, `left` what is in it afterwards. The last argument is what is then in the
+-- host's own table. Either the call is lent the host's own table, and updates it; or it is lent a table of another
+-- length, and the host's own table stays.
 pub data Lends (L : Limits) (own lent left : List Place) : List Place → Type 0 where
   its-own : lent ≡ own → Lends L own lent left left
   another : (length lent ≡ L .places → ⊥) → Lends L own lent left own
@@ -29,8 +30,9 @@ pub data Lends (L : Limits) (own lent left : List Place) : List Place → Type 0
 abbrev pub asked : Ask → List ℕ → ℕ → Call
 asked ask b n = record { ask = ask; buffer = b; tableLength = n }
 
--- What a call that is lent a table leaves, because it borrows it shared: a set its payload and the playing of a list
--- the list; a get and the writing of a list everything but the buffer. A take is lent no table.
+-- What a call that is lent a table leaves unchanged, because it borrows it shared. A set leaves its payload, the
+-- playing of a list leaves the list, and a get and the writing of a list leave everything but the buffer. A take is
+-- lent no table.
 abbrev pub Leaves : Ask → (c c′ : Controller) (d d′ : Device) (t t′ : List Place) (b b′ : List ℕ) → Type 0
 Leaves (setAttr group attr) c c′ d d′ t t′ b b′ = b′ ≡ b
 Leaves (getAttr group attr) c c′ d d′ t t′ b b′ = (c′ ≡ c) × (d′ ≡ d) × (t′ ≡ t)
@@ -38,17 +40,22 @@ Leaves (guestTake subclasses external mcheck) c c′ d d′ t t′ b b′ = ⊥
 Leaves writeList c c′ d d′ t t′ b b′ = (c′ ≡ c) × (d′ ≡ d) × (t′ ≡ t)
 Leaves playList c c′ d d′ t t′ b b′ = b′ ≡ b
 
--- A list of calls and what each caller saw, from one host to another. The table of a take is not looked at.
+-- A list of calls, with what each caller saw, from one host to another. The table of a take is not looked at.
 pub data Ran : Host → List Call → List Seen → Host → Type 0 where
   end : {h : Host} → Ran h [] [] h
-  asks : {h e : Host} {cs : List Call} {xs : List Seen} (ask : Ask) (b : List ℕ) (c′ : Controller) (d′ : Device) (t t′ u : List Place) (x : Seen)
-      → Leaves ask (h .ctl) c′ (h .dev) d′ t t′ b (x .buffer) → Lends (limitsOf (h .ctl)) (h .tab) t t′ u → Requested ask (h .ctl) c′ (h .dev) d′ t t′ b x
+  asks : {h e : Host} {cs : List Call} {xs : List Seen} (ask : Ask) (b : List ℕ) (c′ : Controller) (d′ : Device)
+      (t t′ u : List Place) (x : Seen)
+      → Leaves ask (h .ctl) c′ (h .dev) d′ t t′ b (x .buffer)
+      → Lends (limitsOf (h .ctl)) (h .tab) t t′ u
+      → Requested ask (h .ctl) c′ (h .dev) d′ t t′ b x
       → Ran (record { ctl = c′; dev = d′; tab = u }) cs xs e → Ran h (asked ask b (length t) ∷ cs) (x ∷ xs) e
-  take : {h e : Host} {cs : List Call} {xs : List Seen} (subclasses : ℕ) (external mcheck : Bool) (b : List ℕ) (c′ : Controller) (n : ℕ) (x : Seen)
+  take : {h e : Host} {cs : List Call} {xs : List Seen} (subclasses : ℕ) (external mcheck : Bool) (b : List ℕ)
+      (c′ : Controller) (n : ℕ) (x : Seen)
       → Taken subclasses external mcheck (h .ctl) c′ b x
-      → Ran (record { ctl = c′; dev = h .dev; tab = h .tab }) cs xs e → Ran h (asked (guestTake subclasses external mcheck) b n ∷ cs) (x ∷ xs) e
+      → Ran (record { ctl = c′; dev = h .dev; tab = h .tab }) cs xs e
+      → Ran h (asked (guestTake subclasses external mcheck) b n ∷ cs) (x ∷ xs) e
 
--- The premise of each call of a chain, at the host and the table that it is lent.
+-- The premise of each call of a chain, at the host and the table that the call is lent.
 abbrev pub LentPremise : Host → List Place → Type 0
 LentPremise h t = Premise (h .ctl) (h .dev) t
 

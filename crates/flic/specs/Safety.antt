@@ -1,7 +1,7 @@
 -- Demand 1, spelled out on the values before and after a call: what a refusal leaves, what comes of a table of another
 -- length, which codes there are, and that no call but the one which makes a controller changes the capability or the
--- limits. No name of Surface stands here, so that to drop a promise there does not change what is asked for here. That
--- each of these follows from its function's own contract is the theorem `safety` (proofs/Safety).
+-- limits. No name of Surface stands here, so a promise that is dropped there does not change what is asked for here.
+-- The theorem `safety` (proofs/Safety) says that each of these follows from its function's own contract.
 use Prim.Native.Nat.{ℕ}
 use mathlib.Core.Path.{_≡_}
 use mathlib.Core.Bool.{false}

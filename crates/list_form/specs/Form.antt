@@ -10,14 +10,15 @@ use Rattle.rules.specs.Outcome.{refuse}
 use Rattle.rules.specs.Requests.{isZero}
 use Rattle.rules.specs.MoveList.{headerBytes, tableEntryBytes, countIn, payloadOffset, TableEntry, tableEntryIn, tableEntriesIn, movable, formed, requestsIn, applies, mostRequests, plays}
 
--- the table entry at a place, from 0, and all of them
+-- the table entry at a place, counted from 0; all table entries
 abbrev pub slotAt : ℕ → List ℕ → TableEntry
 slotAt place b = tableEntryIn (drop (headerBytes + tableEntryBytes * place) b)
 
 abbrev pub slotsOf : List ℕ → List TableEntry
 slotsOf b = tableEntriesIn (countIn b) (drop headerBytes b)
 
--- place without gap, zero word, group
+-- whether an entry's payload is at this offset, so that there is no gap, its zero word is 0, and its group is one that
+-- a list may hold
 abbrev pub slotFormed : ℕ → TableEntry → Bool
 slotFormed at e = eqb (e .at) at && (isZero (e .zeroWord) && movable (e .group))
 
@@ -27,8 +28,8 @@ pub record Formed (b : List ℕ) : Type 0 where
   pub table : payloadOffset (countIn b) ≤ length b
   pub slots : formed (length b) (payloadOffset (countIn b)) (slotsOf b) ≡ true
 
--- What a code says of a list. Code 0: its form is good, and its requests are applied to a fresh controller. Any other:
--- it is refused with this code.
+-- What a code says of a list. Code 0: its form is good, and its requests are applied to a fresh controller. Any other
+-- code: the list is refused with it.
 pub record Form (ais : Bool) (b : List ℕ) (code : ℕ) : Type 0 where
   pub good : code ≡ 0 → Formed b
   pub played : code ≡ 0 → (L : Limits) (s : State) → s .ais ≡ ais

@@ -1,4 +1,4 @@
--- 01, 'Move list', the listing program: what comes of a list on a fresh controller of its flag.
+-- 01, 'Move list', the listing program: what comes of a list that is played on a fresh controller of its flag.
 use mathlib.Core.Path.{_≡_}
 use mathlib.Core.List.{List}
 use Prim.Native.Nat.{ℕ}

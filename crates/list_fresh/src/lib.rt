@@ -14,7 +14,7 @@ use numbers::ROOM;
 use numbers::SINGLES_BYTES;
 use numbers::SLOT_BYTES;
 
-// Whether the flag of a list is 1; a list too short for a header is refused in any case.
+// Whether the flag of a list is 1. A list that is too short for a header is refused in any case.
 fn capable(list: &[u8]) -> bool
     ensures { λ r. ⌜ (headerBytes ≤ length (now (list .entry)) → r ≡ eqb (aisFlagIn (now (list .entry))) 1) ⌝ }
 {
@@ -24,8 +24,7 @@ fn capable(list: &[u8]) -> bool
     numbers::read_be(list, 16, 4) == 1
 }
 
-// The lent arrays are made those of a fresh controller of the list's flag, whatever they held, and the list is played on
-// them.
+// Makes the lent arrays those of a fresh controller of the list's flag, whatever they held, and plays the list on them.
 pub fn play_fresh(
     slots: &mut [u8; SLOT_BYTES],
     order: &mut [u8; ORDER_BYTES],

@@ -14,7 +14,7 @@ use Rattle.adapters.specs.declared.Device.{Device}
 use Rattle.adapters.specs.Values.{deviceOf}
 use Rattle.list_image.specs.Places.{placesOf}
 
--- limits, by the numbers that the code passes on
+-- the limits that have the numbers which the code passes on
 abbrev pub limitsFrom : (places room : ℕ) → Limits
 limitsFrom places room = record { places = places; room = room }
 
@@ -27,7 +27,7 @@ stateOf ais places image pending device =
 abbrev pub requestIn : Limits → State → List ℕ → TableEntry → Outcome State
 requestIn L s b e = request L s (setRequest (e .group)) (e .attr) (part (e .at) (e .size) b)
 
--- An answer to the requests of a list: all are applied, their number is the count and this is the next state; or the one at the place that is
--- the count was refused with the code.
+-- What an answer says of a list's requests. Code 0: all were applied, the count is their number, and `next` is the next
+-- state. Any other code: the request at the place that the count says was refused with this code.
 unfoldable pub ranTo : Answer → State → Outcome State
 ranTo a next = choose (eqb (a .code) 0) (accept (a .count) next []) (reset (a .code) (a .count))

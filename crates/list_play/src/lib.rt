@@ -26,13 +26,15 @@ use numbers::PLACES;
 use numbers::SINGLES_BYTES;
 use numbers::SLOT_BYTES;
 
-// What came of a request: its answer; or of a list's requests: code 0 and their number, or the code and place of the refused one. And the device record.
+// Answer and device record after one request, or after a list's requests. The answer to a list's requests is code 0 and
+// their number, or the code and place of the refused one.
 struct Ran {
     answer: Answer,
     device: Device,
 }
 
-// A set request of a list, on the place of the image that it is about, by the functions that answer a single request of its group.
+// Applies a set request of a list to the place of the image that it is about, by the functions that answer a single
+// request of its group.
 fn apply(
     slots: &mut [u8; SLOT_BYTES],
     order: &mut [u8; ORDER_BYTES],
@@ -70,7 +72,7 @@ fn apply(
     }
 }
 
-// The request of the table entry at a place.
+// Applies the request of the table entry at a place.
 fn apply_at(
     slots: &mut [u8; SLOT_BYTES],
     order: &mut [u8; ORDER_BYTES],
@@ -109,7 +111,7 @@ fn apply_at(
     )
 }
 
-// The requests one after another, to the first that is refused.
+// Applies the requests one after another, up to the first that is refused.
 fn apply_all(
     slots: &mut [u8; SLOT_BYTES],
     order: &mut [u8; ORDER_BYTES],
@@ -158,8 +160,8 @@ fn apply_all(
     Ran { answer, device: d }
 }
 
-// An answer. Where the controller was made fresh, `restored` is the number of its places, the image has them, and the device record is this;
-// where nothing changed it is 0.
+// The answer to a list. Where the controller was made fresh, `restored` is the number of its places, `image` has these
+// places, and `device` is the device record. Where nothing changed, `restored` is 0.
 pub struct Played {
     pub answer: Answer,
     pub device: Device,
@@ -181,7 +183,7 @@ fn not_played(code: u32) -> Played
     }
 }
 
-// A move list is played. A refusal of form changes nothing; one part-way leaves the controller fresh.
+// Plays a move list. A refusal of form changes nothing. A refusal part-way leaves the controller fresh.
 pub fn play_list(
     slots: &mut [u8; SLOT_BYTES],
     order: &mut [u8; ORDER_BYTES],

@@ -17,7 +17,8 @@ put b at xs = take at b ++ (xs ++ drop (at + length xs) b)
 abbrev pub five : (w a b c d e : ℕ) → List ℕ
 five w a b c d e = bytes 4 a ++ (bytes 4 b ++ (bytes 4 c ++ (bytes 4 d ++ bytes w e)))
 
--- Of an adapter: MODIFY if masked, or REGISTER. Of every adapter of an image, by rising id.
+-- `entryOf`: the entry of an adapter, MODIFY (if it is masked) or REGISTER. `each`: such entries of all adapters of an
+-- image, by rising id.
 abbrev pub entryOf : Bool → ℕ → Adapter → List ListRequest
 entryOf true = modifyRequest
 entryOf false = registerRequest
@@ -25,7 +26,7 @@ entryOf false = registerRequest
 abbrev pub each : Bool → List ℕ → List ListRequest
 each modify image = byRisingId (entryOf modify) 0 (placesOf image)
 
--- whether a place has such an entry, its group and its payload's length
+-- whether a place has such an entry; the entry's group; the length of its payload
 abbrev pub isWritten : Bool → Place → Bool
 isWritten modify p = p .used && (not modify || p .masked)
 

@@ -22,7 +22,8 @@ use Rattle.store_queues.specs.Slots.{mostPending}
 abbrev pub maskEntry : Bool → ℕ → ℕ → List ListRequest
 maskEntry masks simm nimm = choose masks (record { group = 11; attr = 0; payload = simm ∷ nimm ∷ [] } ∷ []) []
 
--- REGISTER and MODIFY of an image's adapters; ENQUEUE of the records, AISM_ALL, APF_ENABLE; and all of them
+-- the entries REGISTER and MODIFY of an image's adapters; the entries ENQUEUE of the records, AISM_ALL and APF_ENABLE;
+-- all of these
 unfoldable pub adapterEntries : List ℕ → List ListRequest
 adapterEntries image = each false image ++ each true image
 
@@ -32,7 +33,7 @@ otherEntries rs masks simm nimm apf = enqueueRequest rs ++ (maskEntry masks simm
 abbrev pub entriesFrom : List ℕ → List Record → Bool → ℕ → ℕ → Bool → List ListRequest
 entriesFrom image rs masks simm nimm apf = adapterEntries image ++ otherEntries rs masks simm nimm apf
 
--- how many entries they are, and the bytes of their payloads
+-- how many entries there are, and how many bytes their payloads have
 abbrev pub otherCount : Parts → ℕ
 otherCount p = oneIf (ltb 0 (p .records)) + oneIf (p .masks) + oneIf (p .apf)
 
@@ -42,14 +43,14 @@ countOf p = p .registers + p .modifies + otherCount p
 abbrev pub bytesOf : Parts → ℕ
 bytesOf p = 8 * p .registers + 16 * p .modifies + recordBytes * p .records + 2 * oneIf (p .masks)
 
--- the most of both: every place registered and masked, a full listing, AISM_ALL and APF_ENABLE
+-- the most of both: every place is registered and masked, the listing is full, and AISM_ALL and APF_ENABLE are written
 abbrev pub mostEntries : ℕ
 mostEntries = 2 * imageSize + 3
 
 abbrev pub mostPayload : ℕ
 mostPayload = (8 + 16) * imageSize + recordBytes * mostPending + 2
 
--- what is counted
+-- the counts of an image's entries, with their bounds and that of the records
 pub record Counted (image : List ℕ) (p : Parts) : Type 0 where
   pub registers : p .registers ≡ length (each false image)
   pub modifies : p .modifies ≡ length (each true image)
@@ -57,12 +58,12 @@ pub record Counted (image : List ℕ) (p : Parts) : Type 0 where
   pub fewModifies : p .modifies ≤ imageSize
   pub fewRecords : p .records ≤ mostPending
 
--- so many whole records
+-- n whole records
 pub record Whole (rs : List Record) (n : ℕ) : Type 0 where
   pub count : length rs ≡ n
   pub size : length (flatten rs) ≡ recordBytes * n
 
--- writing a list, of what is pending, with the table as an image and the device record by value
+-- writing a list: p is what is pending, the table is given as an image, and the device record by value
 pub record Written (ais : Bool) (d : Device) (image : List ℕ) (p : Pending) (b b′ : List ℕ) (r : Answer) : Type 0 where
   pub answer : (L : Limits) (s : State) → s .ais ≡ ais → s .adapters ≡ placesOf image → s .pending ≡ p
       → s .device ≡ deviceOf d → Answers L s b (writes s b) r s b′

@@ -1,6 +1,6 @@
--- The invariant: what holds of every state that a fresh one can reach. Paper 01, 'How much each promise says', allows the
--- calls one premise, that controller and table come from a fresh pair by these operations (`Reached`). The premise is
--- stated as facts of the state (`Sound`), and that both say the same is proved (`Premise.exactly` in proofs).
+-- The invariant: what holds of every state that a fresh one can reach. Paper 01, 'How much each promise says', allows
+-- the calls one premise: controller and table come from a fresh pair by these operations (`Reached`). The premise is
+-- stated as facts of the state (`Sound`). It is proved that both say the same (`Premise.exactly` in proofs).
 use Prim.Native.Nat.{ℕ, suc, _<_, _≤_}
 use mathlib.Core.Path.{_≡_}
 use mathlib.Core.Bool.{Bool, true, false}
@@ -10,7 +10,8 @@ use lib.ListN.{length}
 use Rattle.rules.specs.State.{Limits, Adapter, Place, free, holds, Record, recordBytes, Pending, State, fresh, Kind, kind, subclass, queued, listing}
 use Rattle.rules.specs.Machine.{Call, after}
 
--- P holds of every element of a list; of what an option has. `A × B` says both A and B, and `Unit` says nothing.
+-- `All P`: P holds of every element of a list. `Maybe P`: P holds of what an option has. `A × B` says both A and B, and
+-- `Unit` says nothing.
 abbrev pub All {ℓ} : {A : Type ℓ} → (A → Type 0) → List A → Type 0
 All P [] = Unit {0}
 All P (x ∷ xs) = P x × All P xs
@@ -28,7 +29,8 @@ abbrev pub SoundPlace : Place → Type 0
 SoundPlace free = Unit {0}
 SoundPlace (holds x) = SoundAdapter x
 
--- 'Pending records': 72 bytes. A queue holds records of its kind alone, an I/O queue those of its subclass.
+-- 'Pending records': a record has 72 bytes. A queue holds only records of its kind, and an I/O queue only those of its
+-- subclass.
 abbrev pub Whole : Record → Type 0
 Whole r = length r ≡ recordBytes
 
@@ -41,7 +43,7 @@ pub record IsIo (isc : ℕ) (r : Record) : Type 0 where
   pub is-io : kind r ≡ Kind.io
   pub is-subclass : subclass r ≡ isc
 
--- I/O queues of which the first is that of subclass isc
+-- I/O queues; the first of them is that of subclass isc
 abbrev pub IoQueues : ℕ → List (List Record) → Type 0
 IoQueues isc [] = Unit {0}
 IoQueues isc (q ∷ qs) = All (IsIo isc) q × IoQueues (suc isc) qs
@@ -53,8 +55,8 @@ pub record SoundPending (p : Pending) : Type 0 where
   pub in-service : Maybe (IsKind Kind.service) (p .service)
   pub in-mchk : Maybe (IsKind Kind.mchk) (p .mchk)
 
--- 'What it holds': so many adapter places, at most so many records in the nine queues; without the AIS capability both
--- masks are 0.
+-- 'What it holds': the limits say how many adapter places there are, and how many records the nine queues hold at most.
+-- Without the AIS capability both masks are 0.
 pub record Sound (L : Limits) (s : State) : Type 0 where
   pub table : length (s .adapters) ≡ L .places
   pub adapters : All SoundPlace (s .adapters)
@@ -68,7 +70,8 @@ pub record Reached (L : Limits) (s : State) : Type 0 where
   pub calls : List Call
   pub is : after L (fresh L ais) calls ≡ s
 
--- 'What the controller is': bytes are below 256. A state of bytes, and a call that is lent bytes.
+-- 'What the controller is': bytes are below 256. `OfBytes`: the records and the masks of a state are bytes.
+-- `LentBytes`: a call is lent bytes.
 abbrev pub IsByte : ℕ → Type 0
 IsByte n = n < 256
 

@@ -138,9 +138,9 @@ tableEntriesIn (suc n) b = tableEntryIn b ∷ tableEntriesIn n (drop tableEntryB
 abbrev pub movable : ℕ → Bool
 movable group = eqb group 2 || (eqb group 4 || (eqb group 6 || (eqb group 7 || eqb group 11)))
 
--- The form of the table, entry by entry: the payload starts where the one before ended, zero word, group; and the last
--- payload ends at the end. (A payload that ends past the total is refused by the last end; no offset can wrap, numbers
--- have no bound.)
+-- The form of the table. In each entry the payload starts where the one before ended, the zero word is 0, and the group
+-- is one that a list may hold. The last payload ends at the end. (A payload that ends past the total is refused by the
+-- check of the last end. No offset can wrap, because numbers have no bound.)
 unfoldable pub formed : ℕ → ℕ → List TableEntry → Bool
 formed end at [] = eqb at end
 formed end at (e ∷ es) = eqb (e .at) at && (isZero (e .zeroWord) && (movable (e .group) && formed end (at + e .size) es))

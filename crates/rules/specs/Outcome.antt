@@ -1,6 +1,6 @@
--- Paper 01, 'Codes and the order of checks': the codes, what a call comes to, and how that is told. All but the codes is
--- for any controller: A is the type of its states. (000 also has ENOBUFS, where an allocation of the kernel fails.
--- Nothing is allocated here.)
+-- Paper 01, 'Codes and the order of checks': the codes, what a call comes to, and how that is told. Everything but the
+-- codes is for any controller: A is the type of its states. (000 also has ENOBUFS, where an allocation of the kernel
+-- fails. Nothing is allocated here.)
 use Prim.Native.Nat.{ℕ}
 use mathlib.Core.Bool.{Bool, true, false}
 use mathlib.Core.Option.{Option, none, some}
@@ -34,8 +34,8 @@ pub data Outcome (A : Type 0) : Type 0 where
   accept : (count : ℕ) (next : A) (written : List ℕ) → Outcome A
   resetWith : (code place further : ℕ) → Outcome A
 
--- 'Request numbers and effects': the answer is a code and a count; where a list is played there can be a further number.
--- Beside them stand the next state and the buffer as the call leaves it.
+-- 'Request numbers and effects': the answer is a code and a count. Where a list is played there can be a further
+-- number. Beside them stand the next state and the buffer as the call leaves it.
 pub record Answer (A : Type 0) : Type 0 where
   pub code : ℕ
   pub count : ℕ
@@ -43,12 +43,13 @@ pub record Answer (A : Type 0) : Type 0 where
   pub next : A
   pub buffer : List ℕ
 
--- An answer of the machine is written out here alone.
+-- Answers of the machine are written out only here.
 abbrev pub tellWith : {A : Type 0} → (code count further : ℕ) (next : A) (buffer : List ℕ) → Answer A
-tellWith code count further next buffer = record { code = code; count = count; further = further; next = next; buffer = buffer }
+tellWith code count further next buffer =
+    record { code = code; count = count; further = further; next = next; buffer = buffer }
 
--- In paper 01 a refusal that changes nothing has count 0, and no answer has a further number. The rules say it here
--- alone: they use these three.
+-- In paper 01 a refusal that changes nothing has count 0, and no answer has a further number. The rules say this only
+-- here: they use these three definitions.
 abbrev pub refuse : {A : Type 0} → (code : ℕ) → Outcome A
 refuse code = refuseWith code 0
 
@@ -64,16 +65,16 @@ unfoldable pub need_else_⨾_ : {A : Type 0} → Bool → ℕ → Outcome A → 
 need true else code ⨾ rest = rest
 need false else code ⨾ rest = refuse code
 
--- The same for a value that may be missing: where there is none, the call is refused; one that is there is handed on to
--- the rest.
+-- The same for a value that may be missing. If there is none, the call is refused with the code. Otherwise the rest
+-- gets the value.
 infixr 10 present_else_⨾_
 unfoldable pub present_else_⨾_ : {X A : Type 0} → Option X → ℕ → (X → Outcome A) → Outcome A
 present none else code ⨾ rest = refuse code
 present (some x) else code ⨾ rest = rest x
 
--- The answer to a caller who lent a buffer to a controller in a state; `afresh` is that controller made fresh. A refusal
--- changes nothing. `accept` writes at the buffer's start, and the bytes after that stay. `resetWith` has the place of
--- the refused request as count, and leaves the controller fresh and the buffer as it was.
+-- The answer to a caller who lent a buffer to a controller in this state. `afresh` is that controller made fresh. A
+-- refusal changes nothing. `accept` writes at the buffer's start, and the bytes after that stay. `resetWith` has the
+-- place of the refused request as count, and leaves the controller fresh and the buffer as it was.
 unfoldable pub result : {A : Type 0} → (afresh state : A) → List ℕ → Outcome A → Answer A
 result afresh state b (refuseWith code count) = tell code count state b
 result afresh state b (accept count next written) = tell 0 count next (written ++ drop (length written) b)
@@ -89,10 +90,10 @@ pub record Seen : Type 0 where
 abbrev pub seen : {A : Type 0} → Answer A → Seen
 seen a = record { code = a .code; count = a .count; further = a .further; buffer = a .buffer }
 
--- What is seen of an answer of this code and count that leaves this buffer, whatever state comes next.
+-- What the caller sees of an answer with this code and count that leaves this buffer, whatever state comes next.
 abbrev pub sees : (code count : ℕ) (buffer : List ℕ) → Seen
 sees code count buffer = seen {A = Unit {0}} (tell code count tt buffer)
 
--- The answer of which this is seen, with the state that comes next.
+-- The answer of which the caller sees x. `next` is the state that comes next.
 abbrev pub answering : {A : Type 0} → Seen → A → Answer A
 answering x next = tellWith (x .code) (x .count) (x .further) next (x .buffer)

@@ -115,7 +115,7 @@ enqueues L s rs =
 unfoldable pub clears : State → Outcome State
 clears s = accept (length (listing (s .pending))) (withPending nothing s) []
 
--- 4 APF_ENABLE, 5 APF_DISABLE_WAIT: the page-fault flag is on, off; count: 0.
+-- 4 APF_ENABLE turns the page-fault flag on, 5 APF_DISABLE_WAIT turns it off; count: 0.
 unfoldable pub setsApf : State → Bool → Outcome State
 setsApf s on = accept 0 (withDevice (record { simm = s .device .simm; nimm = s .device .nimm; apf = on }) s) []
 
@@ -185,7 +185,8 @@ without f (r ∷ q) = choose (f r) (some q) (consTo r (without f q))
 
 -- The queues q ∷ qs after a removal. If the record was in q: the shortened queue, then qs. Otherwise: q, then the
 -- result for qs (later).
-abbrev pub orIn : Option (List Record) → List Record → List (List Record) → Option (List (List Record)) → Option (List (List Record))
+abbrev pub orIn : Option (List Record) → List Record → List (List Record) → Option (List (List Record))
+    → Option (List (List Record))
 orIn none q qs later = consTo q later
 orIn (some q′) q qs later = some (q′ ∷ qs)
 
@@ -220,7 +221,8 @@ setsMode s isc mode =
     need leb mode 1 else EINVAL ⨾
     accept 0 (withMasks (choose (eqb mode 0) (withoutBit isc (s .device .simm)) (withBit isc (s .device .simm))) (withoutBit isc (s .device .nimm)) s) []
 
--- For 10 AIRQ_INJECT: AIS capability, a suppressible adapter, and the bit of its subclass set in a mask.
+-- For 10 AIRQ_INJECT: there is AIS capability, the adapter is suppressible, and the bit of its subclass is set in a
+-- mask.
 abbrev pub underAis : State → Adapter → ℕ → Bool
 underAis s x mask = s .ais && (x .suppressible && hasBit (x .isc) mask)
 
@@ -230,14 +232,16 @@ abbrev pub adapterInterrupt : ℕ → Record
 adapterInterrupt isc =
     bytes 8 0x04000000 ++ (bytes 2 0 ++ (bytes 2 0 ++ (bytes 4 0 ++ (bytes 4 (0x80000000 + isc * 2 ^ 27) ++ replicate 52 0))))
 
--- The record is appended. Then, with AIS capability, suppressible, and simm bit set, the nimm bit is set.
+-- The record is appended. Then the nimm bit is set, if there is AIS capability, the adapter is suppressible and the
+-- simm bit is set.
 unfoldable pub injected : State → Adapter → State
 injected s x =
     withPending (addIo (x .isc) (adapterInterrupt (x .isc)) (s .pending))
     (withMasks (s .device .simm) (choose (underAis s x (s .device .simm)) (withBit (x .isc) (s .device .nimm)) (s .device .nimm)) s)
 
--- 10 AIRQ_INJECT: a masked adapter, or AIS capability and a suppressible adapter whose nimm bit is set: code 0, count
--- 0, no change. Otherwise the record is appended; count: 1. Refused: id above 63, free id; 16 without room.
+-- 10 AIRQ_INJECT: code 0, count 0 and no change, if the adapter is masked, or if there is AIS capability, the adapter
+-- is suppressible and its nimm bit is set. Otherwise the record is appended; count: 1. Refused: id above 63, free id;
+-- 16 without room.
 unfoldable pub injects : Limits → State → ℕ → Outcome State
 injects L s id =
     need ltb id (L .places) else EINVAL ⨾
@@ -295,7 +299,7 @@ request L s aism attr b =
 -- 10 AIRQ_INJECT: the attribute is the adapter id.
 request L s airqInject attr b =
     injects L s attr
--- 11 AISM_ALL (set, get), 2 bytes, simm and nimm: both stored, or both written; count: 0.
+-- 11 AISM_ALL, 2 bytes, simm and nimm: a set stores both, a get writes both; count: 0.
 request L s setAismAll attr b =
     need isZero attr else EINVAL ⨾
     need s .ais else EOPNOTSUPP ⨾

@@ -10,7 +10,7 @@ use Rattle.rules.specs.Bytes.{choose, field}
 
 -- 'How much each promise says': the limits of 64 and 256 enter proofs as parameters, once. A definition that makes a
 -- controller fresh, or asks whether there is an id or room for a record, takes them as its first argument L. (What the
--- listing program prints is over the paper's.) No other number in these files follows them.
+-- listing program prints is for the paper's limits.) No other number in these files follows them.
 pub record Limits : Type 0 where
   -- how many adapter places there are: ids 0 to places - 1
   pub places : ℕ
@@ -146,12 +146,12 @@ unfoldable pub addIo : ℕ → Record → Pending → Pending
 addIo isc r p =
     record { io = set (p .io) isc (getD (p .io) isc [] ++ (r ∷ [])); done = p .done; service = p .service; mchk = p .mchk }
 
--- The service record that is pending after one came: a second one is accepted and dropped.
+-- The service record that is pending after r came. A second one is accepted and dropped.
 abbrev pub firstOr : Option Record → Record → Record
 firstOr none r = r
 firstOr (some first) r = first
 
--- The machine check that is pending after one came: a second one is merged into the first.
+-- The machine check that is pending after r came. A second one is merged into the first.
 abbrev pub mergedOr : Option Record → Record → Record
 mergedOr none r = r
 mergedOr (some first) r = merged first r

@@ -1,5 +1,6 @@
-// P9 by the requests themselves, on the covered core: with AIS, adapter 5 of subclass 3 (maskable, no swap, suppressible) is registered, SINGLE is set for its
-// subclass, and it injects once. Writes the move list of that controller to standard output, if it has the paper's length.
+// Makes P9 by the requests themselves, on the covered core: with AIS, adapter 5 of subclass 3 (maskable, no swap,
+// suppressible) is registered, SINGLE is set for its subclass, and it injects once. Writes the move list of that
+// controller to standard output, if the list has the paper's length.
 ghost use mathlib.Core.Path.{_≡_};
 ghost use Rattle.adapters.specs.Values.{Canonical};
 use adapter_requests::Reply;

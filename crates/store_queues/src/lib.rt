@@ -87,8 +87,8 @@ pub fn slot_of(o: &[u8; ORDER_BYTES], q: Queue, at: usize) -> u8
     o[i]
 }
 
-// Appends r to a queue; the queues hold n records together. The record is written before the order and the counts:
-// so its bytes go straight from registers to the slot.
+// Appends r to a queue. The queues hold n records together. The record is written before the order and the counts, so
+// that its bytes go straight from registers to the slot.
 pub fn append(
     b: &mut [u8; SLOT_BYTES],
     o: &mut [u8; ORDER_BYTES],
@@ -113,7 +113,7 @@ pub fn append(
     }
 }
 
-// Takes the record at a place out of its queue. Its slot is free, the next one to be used.
+// Takes the record at a place out of its queue. Its slot is then free, and is the next one to be used.
 pub fn remove(o: &mut [u8; ORDER_BYTES], c: &mut [usize; COUNTS], q: Queue, at: usize)
     requires { ⌜ (q .0 < 9) × (at < getD (now c) (q .0) 0) × Held (now o) (now c) ⌝ }
     ensures { λ _. ⌜ Removed (q .0) at (now (o .entry)) (now (c .entry)) (now (o .exit)) (now (c .exit)) ⌝ }
@@ -182,7 +182,7 @@ pub fn list(b: &[u8; SLOT_BYTES], o: &[u8; ORDER_BYTES], c: &[usize; COUNTS], ou
     }
 }
 
-// Every slot is free: the last row has them all.
+// Makes every slot free: the last row has them all.
 fn free_all(o: &mut [u8])
     requires { ⌜ length (now o) ≡ 10 * slotCount ⌝ }
     ensures { λ _. ⌜ now (o .exit) ≡ paste (now (o .entry)) (9 * slotCount) (upFrom 0 slotCount) slotCount ⌝ }
@@ -194,7 +194,7 @@ fn free_all(o: &mut [u8])
     }
 }
 
-// No record is left, and every slot is free, whatever was there before.
+// Removes all records and makes every slot free, whatever was there before.
 pub fn reset(o: &mut [u8; ORDER_BYTES], c: &mut [usize; COUNTS])
     ensures { λ _. ⌜ Emptied (now (o .exit)) (now (c .exit)) ⌝ }
 {
@@ -202,7 +202,7 @@ pub fn reset(o: &mut [u8; ORDER_BYTES], c: &mut [usize; COUNTS])
     *c = [0usize; COUNTS];
 }
 
-// No record is left.
+// Removes all records.
 pub fn clear(o: &mut [u8; ORDER_BYTES], c: &mut [usize; COUNTS])
     requires { ⌜ Held (now o) (now c) ⌝ }
     ensures { λ _. ⌜ Emptied (now (o .exit)) (now (c .exit)) ⌝ }

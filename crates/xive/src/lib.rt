@@ -1,5 +1,5 @@
-// The public calls of the POWER9 sources: what a caller may use is this crate, with the array of stored numbers that he
-// lends and the `answers::Answer` or `xive_sources::Reading` that he gets.
+// The public calls of the POWER9 sources. A caller may use only this crate, with the array of stored numbers that the
+// caller lends and the `answers::Answer` or `xive_sources::Reading` that a call returns.
 ghost use mathlib.Core.Path.{_≡_};
 ghost use mathlib.Core.List.{[]};
 ghost use Rattle.xive_rules.specs.Sources.{ticketLimits, fresh, initialise, target, sync};
@@ -16,7 +16,7 @@ use xive_sources::SOURCES;
 use xive_sources::SourceNumber;
 use xive_sources::WORD_BYTES;
 
-// Makes a fresh controller: no source is initialised. An array of zeros is one, too.
+// Makes a fresh controller: no source is initialised. An array of zeros is a fresh controller, too.
 #[no_mangle]
 pub extern "C" fn xive_make(sources: &mut [u64; SOURCES])
     ensures { λ _. ⌜ sourcesOf (now (sources .exit)) ≡ fresh ticketLimits ⌝ }
@@ -73,7 +73,7 @@ pub extern "C" fn xive_target(sources: &mut [u64; SOURCES], number: u64, payload
     }
 }
 
-// Flushes event notifications, of which there are none here: it has no effect.
+// Flushes event notifications. There are none here, so it has no effect.
 #[no_mangle]
 pub extern "C" fn xive_sync(sources: &[u64; SOURCES], number: u64) -> Answer
     ensures { λ r. ⌜ Called (sync number) (now (sources .entry)) (now (sources .entry)) [] (saw r []) ⌝ }

@@ -10,8 +10,8 @@ use Rattle.rules.specs.Bytes.{choose}
 use Rattle.rules.specs.Outcome.{EINVAL, EFAULT, E2BIG, Outcome, accept, need_else_⨾_, present_else_⨾_, Answer, result}
 use Rattle.xive_rules.specs.Words.{wordBytes, wordIn, kindIn, levelIn, serverIn}
 
--- Ticket 1, refusals: a payload that is too short has paper 01's EFAULT, 14; a source number too large on initialise
--- its E2BIG, 7; 'not initialised' and 'server above 15' its EINVAL, 22. Elsewhere a source number too large is 2.
+-- Ticket 1, refusals: a payload that is too short gets paper 01's EFAULT, 14. A source number that is too large gets
+-- its E2BIG, 7, on initialise, and 2 on every other call. 'not initialised' and 'server above 15' get its EINVAL, 22.
 abbrev pub ENOENT : ℕ
 ENOENT = 2
 
@@ -24,14 +24,13 @@ pub record Limits : Type 0 where
 abbrev pub ticketLimits : Limits
 ticketLimits = record { sources = 1024; servers = 16 }
 
--- Ticket 1: an initialised source has its type, 0 MSI and 1 LSI, its level, and the targeting word, if it was targeted
--- since.
+-- Ticket 1: an initialised source has a type (0 MSI, 1 LSI) and a level, and a targeting word if it was targeted since.
 pub record Source : Type 0 where
   pub kind : ℕ
   pub level : ℕ
   pub targeting : Option ℕ
 
--- Ticket 1: all sources, by number; none: not initialised.
+-- Ticket 1: all sources, by number. `none`: not initialised.
 abbrev pub Sources : Type 0
 Sources = List (Option Source)
 
@@ -65,8 +64,8 @@ initialises L s n b =
     need ltb n (L .sources) else E2BIG ⨾
     accept 0 (withSource n (initial (wordIn b)) s) []
 
--- Ticket 1: every other call is about an initialised source, which it looks for after it has looked at the payload's
--- length.
+-- Ticket 1: every other call is about an initialised source. It looks for the source after it has looked at the
+-- payload's length.
 unfoldable pub onSource : {A : Type 0} → Limits → Sources → ℕ → (Source → Outcome A) → Outcome A
 onSource L s n rest =
     need ltb n (L .sources) else ENOENT ⨾
@@ -123,7 +122,7 @@ abbrev pub wordOrZero : Option ℕ → ℕ
 wordOrZero none = 0
 wordOrZero (some word) = word
 
--- Ticket 1: what is read of a source; of none, 0 and false.
+-- Ticket 1: what is read of a source. Without a source every value is 0 or false.
 unfoldable pub valuesOf : Option Source → Values
 valuesOf none = record { level = 0; kind = 0; masked = false; word = 0 }
 valuesOf (some x) = record { level = x .level; kind = x .kind; masked = isMasked (x .targeting); word = wordOrZero (x .targeting) }

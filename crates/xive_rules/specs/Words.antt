@@ -3,11 +3,11 @@ use Prim.Native.Nat.{ℕ, _+_, _*_, _/_, _%_, _^_}
 use mathlib.Core.List.{List}
 use Rattle.rules.specs.Bytes.{field}
 
--- So many bits of a word, from this bit on.
+-- As many bits of a word as `size` says, from the bit `from` on.
 abbrev pub bits : (from size : ℕ) → ℕ → ℕ
 bits from size word = word / 2 ^ from % 2 ^ size
 
--- Ticket 1: a payload begins with a word of 8 bytes, big-endian as every field of paper 01; what comes after it is not
+-- Ticket 1: a payload begins with a word of 8 bytes, big-endian as every field of paper 01. What comes after it is not
 -- read.
 abbrev pub wordBytes : ℕ
 wordBytes = 8
@@ -41,6 +41,6 @@ maskIn word = bits 32 1 word
 abbrev pub effectiveIn : ℕ → ℕ
 effectiveIn word = bits 33 31 word
 
--- The word of these four.
+-- The word that has these four values.
 abbrev pub targetingWord : (priority server mask effective : ℕ) → ℕ
 targetingWord priority server mask effective = effective * 2 ^ 33 + mask * 2 ^ 32 + server * 2 ^ 3 + priority

@@ -29,7 +29,7 @@ use Rattle.lent_requests.proofs.Maps.{map-replicate}
 use Rattle.lent_requests.proofs.Laws.{canonical-unused}
 use Rattle.calls.specs.declared.Controller.{Controller}
 use Rattle.list_play.specs.declared.Played.{Played}
-use Rattle.list_play.specs.Play.{stateOf as imageState}
+use Rattle.list_play.specs.Play.{imageState}
 use Rattle.list_play.proofs.Sized.{paper-sized}
 use Rattle.calls.specs.Limits.{limitsOf}
 use Rattle.calls.proofs.Limits.{limits-sized, limits-made, limits-kept}

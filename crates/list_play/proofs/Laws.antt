@@ -23,7 +23,7 @@ use Rattle.list_image.specs.Places.{placesOf}
 use Rattle.list_image.proofs.Laws.{places-none}
 use Rattle.list_form.specs.Form.{slotAt}
 use Rattle.list_form.proofs.Laws.{slotsFrom, next-slot, last-slot}
-use Rattle.list_play.specs.Play.{limitsFrom, stateOf, requestIn, ranTo}
+use Rattle.list_play.specs.Play.{limitsFrom, imageState, requestIn, ranTo}
 use Rattle.list_image.specs.Image.{imageSize}
 
 -- a reply about one place of an image, as an answer about the state that the image stands for
@@ -31,10 +31,10 @@ pub as-state : (places room : ℕ) (ais : Bool) (device : Device) (place : Place
     (a : Answer) (d : Device) → Replies places room ais device place id b o p₀ p₁ r → a ≡ r .answer → d ≡ r .device
     → placeOf place ≡ getD (take places (placesOf image)) id rules.free
     → take places (placesOf image′) ≡ set (take places (placesOf image)) id (placeOf (r .place))
-    → Answers (limitsFrom places room) (stateOf ais places image p₀ device) b (o (limitsFrom places room) (stateOf ais places image p₀ device)) a
-    (stateOf ais places image′ p₁ d) b
+    → Answers (limitsFrom places room) (imageState ais places image p₀ device) b (o (limitsFrom places room) (imageState ais places image p₀ device)) a
+    (imageState ais places image′ p₁ d) b
 as-state places room ais device place id image image′ b o p₀ p₁ r a d h ea ed f g =
-    h (limitsFrom places room) (stateOf ais places image p₀ device) refl refl refl refl refl (sym f)
+    h (limitsFrom places room) (imageState ais places image p₀ device) refl refl refl refl refl (sym f)
     ∙ (λ i. tell ((sym ea) i .code) ((sym ea) i .count) (record { ais = ais; adapters = (sym g) i; pending = p₁; device = deviceOf ((sym ed) i) }) b)
 
 -- the request of a table entry, by the numbers that were read of it
@@ -117,7 +117,7 @@ take-replicate (suc m) zero x h = absurd (not-suc-le-zero h)
 take-replicate (suc m) (suc n) x h = rw (take-replicate m n x (le-of-suc-le-suc h))
 
 pub fresh-is : (places room : ℕ) (ais : Bool) (device : Device) (p : Pending) → places ≤ imageSize → p ≡ nothing → device ≡ record { simm = 0; nimm = 0; apf = false }
-    → fresh (limitsFrom places room) ais ≡ stateOf ais places (replicate imageSize 0) p device
+    → fresh (limitsFrom places room) ais ≡ imageState ais places (replicate imageSize 0) p device
 unfolding fresh
 fresh-is places room ais device p h e d =
     λ i. record {

@@ -19,8 +19,8 @@ abbrev pub limitsFrom : (places room : ℕ) → Limits
 limitsFrom places room = record { places = places; room = room }
 
 -- a state from the capability, the first places of an image, the pending records and the device record
-abbrev pub stateOf : Bool → ℕ → List ℕ → Pending → Device → State
-stateOf ais places image pending device =
+abbrev pub imageState : Bool → ℕ → List ℕ → Pending → Device → State
+imageState ais places image pending device =
     record { ais = ais; adapters = take places (placesOf image); pending = pending; device = deviceOf device }
 
 -- the request of a table entry

@@ -13,7 +13,7 @@ ghost use Rattle.answers.specs.Answers.{Answers, answered};
 ghost use Rattle.store_queues.specs.Queues.{Held};
 ghost use Rattle.list_image.specs.Places.{AllCanonical};
 ghost use Rattle.list_form.specs.Form.{slotAt, slotsOf, Formed};
-ghost use Rattle.list_play.specs.Play.{limitsFrom, stateOf, requestIn, ranTo};
+ghost use Rattle.list_play.specs.Play.{limitsFrom, imageState, requestIn, ranTo};
 ghost use Rattle.list_image.specs.Image.{imageSize};
 ghost use Rattle.store_queues.specs.Slots.{slotCount};
 ghost use Rattle.store.specs.Lent.{before, after, HeldAfter, Stays};
@@ -50,7 +50,7 @@ fn apply(
     payload: &[u8],
 ) -> Ran
     requires { ⌜ (room ≤ slotCount) × (places ≤ imageSize) × Held (now order) (now counts) × AllCanonical (now image) × (movable group ≡ true) ⌝ }
-    ensures answer { λ r. ⌜ Answers (limitsFrom places room) (stateOf ais places (now (image .entry)) (before order counts slots singles) device) (now (payload .entry)) (request (limitsFrom places room) (stateOf ais places (now (image .entry)) (before order counts slots singles) device) (setRequest group) attr (now (payload .entry))) (r .answer) (stateOf ais places (now (image .exit)) (after order counts slots singles) (r .device)) (now (payload .entry)) ⌝ }
+    ensures answer { λ r. ⌜ Answers (limitsFrom places room) (imageState ais places (now (image .entry)) (before order counts slots singles) device) (now (payload .entry)) (request (limitsFrom places room) (imageState ais places (now (image .entry)) (before order counts slots singles) device) (setRequest group) attr (now (payload .entry))) (r .answer) (imageState ais places (now (image .exit)) (after order counts slots singles) (r .device)) (now (payload .entry)) ⌝ }
     ensures held { λ _. ⌜ HeldAfter order counts × AllCanonical (now (image .exit)) ⌝ }
 {
     if group == ENQUEUE {
@@ -87,7 +87,7 @@ fn apply_at(
     place: usize,
 ) -> Ran
     requires { ⌜ (room ≤ slotCount) × (places ≤ imageSize) × Held (now order) (now counts) × AllCanonical (now image) × Formed (now list) × (place < countIn (now list)) ⌝ }
-    ensures answer { λ r. ⌜ Answers (limitsFrom places room) (stateOf ais places (now (image .entry)) (before order counts slots singles) device) (part (slotAt place (now (list .entry)) .at) (slotAt place (now (list .entry)) .size) (now (list .entry))) (requestIn (limitsFrom places room) (stateOf ais places (now (image .entry)) (before order counts slots singles) device) (now (list .entry)) (slotAt place (now (list .entry)))) (r .answer) (stateOf ais places (now (image .exit)) (after order counts slots singles) (r .device)) (part (slotAt place (now (list .entry)) .at) (slotAt place (now (list .entry)) .size) (now (list .entry))) ⌝ }
+    ensures answer { λ r. ⌜ Answers (limitsFrom places room) (imageState ais places (now (image .entry)) (before order counts slots singles) device) (part (slotAt place (now (list .entry)) .at) (slotAt place (now (list .entry)) .size) (now (list .entry))) (requestIn (limitsFrom places room) (imageState ais places (now (image .entry)) (before order counts slots singles) device) (now (list .entry)) (slotAt place (now (list .entry)))) (r .answer) (imageState ais places (now (image .exit)) (after order counts slots singles) (r .device)) (part (slotAt place (now (list .entry)) .at) (slotAt place (now (list .entry)) .size) (now (list .entry))) ⌝ }
     ensures held { λ _. ⌜ HeldAfter order counts × AllCanonical (now (image .exit)) ⌝ }
 {
     let e = 20 + 24 * place;
@@ -126,7 +126,7 @@ fn apply_all(
     count: usize,
 ) -> Ran
     requires { ⌜ (room ≤ slotCount) × (places ≤ imageSize) × Held (now order) (now counts) × AllCanonical (now image) × Formed (now list) × (count ≡ countIn (now list)) ⌝ }
-    ensures answer { λ r. ⌜ applies (limitsFrom places room) 0 (stateOf ais places (now (image .entry)) (before order counts slots singles) device) (requestsIn (now (list .entry)) (slotsOf (now (list .entry)))) ≡ ranTo (r .answer) (stateOf ais places (now (image .exit)) (after order counts slots singles) (r .device)) ⌝ }
+    ensures answer { λ r. ⌜ applies (limitsFrom places room) 0 (imageState ais places (now (image .entry)) (before order counts slots singles) device) (requestsIn (now (list .entry)) (slotsOf (now (list .entry)))) ≡ ranTo (r .answer) (imageState ais places (now (image .exit)) (after order counts slots singles) (r .device)) ⌝ }
     ensures held { λ _. ⌜ HeldAfter order counts × AllCanonical (now (image .exit)) ⌝ }
 {
     let mut d = device;
@@ -195,7 +195,7 @@ pub fn play_list(
     list: &[u8],
 ) -> Played
     requires { ⌜ (room ≤ slotCount) × (0 < places) × (places ≤ imageSize) × Held (now order) (now counts) ⌝ }
-    ensures { λ r. ⌜ ((L : Limits) (s : State) → L .places ≡ places → L .room ≡ room → s .ais ≡ ais → Answers L s (now (list .entry)) (plays L s (now (list .entry))) (r .answer) (choose (eqb (r .restored) 0) s (stateOf ais places (r .image) (after order counts slots singles) (r .device))) (now (list .entry))) × ((HeldAfter order counts × AllCanonical (take places (r .image))) × (((r .restored ≡ 0 → ⊥) → r .restored ≡ places) × (((L : Limits) (s : State) → s .ais ≡ ais → (code count : ℕ) → plays L s (now (list .entry)) ≡ refuseWith code count → r .restored ≡ 0) × ((r .restored ≡ 0 → Stays slots × Stays order × Stays counts × Stays singles))))) ⌝ }
+    ensures { λ r. ⌜ ((L : Limits) (s : State) → L .places ≡ places → L .room ≡ room → s .ais ≡ ais → Answers L s (now (list .entry)) (plays L s (now (list .entry))) (r .answer) (choose (eqb (r .restored) 0) s (imageState ais places (r .image) (after order counts slots singles) (r .device))) (now (list .entry))) × ((HeldAfter order counts × AllCanonical (take places (r .image))) × (((r .restored ≡ 0 → ⊥) → r .restored ≡ places) × (((L : Limits) (s : State) → s .ais ≡ ais → (code count : ℕ) → plays L s (now (list .entry)) ≡ refuseWith code count → r .restored ≡ 0) × ((r .restored ≡ 0 → Stays slots × Stays order × Stays counts × Stays singles))))) ⌝ }
 {
     let code = list_form::form(list, ais);
     if code != 0 {

@@ -19,7 +19,7 @@ use Rattle.list_image.specs.Places.{placesOf}
 use Rattle.list_write.specs.Parts.{put, five, each}
 use Rattle.list_write.proofs.Entries.{put-put, length-five, maybe, maybe-length, maybe-payloads, maybe-size, maybe-table, payloads-append, table-append, each-size}
 use Rattle.list_write.specs.declared.Parts.{Parts}
-use Rattle.list_write.specs.Write.{maskEntry, adapterEntries, otherEntries, entriesFrom, otherCount, countOf, bytesOf, Counted, Whole}
+use Rattle.list_write.specs.Write.{maskEntry, adapterEntries, otherEntries, entriesFrom, otherCount, countOf, bytesOf, Counted, WholeListing}
 
 -- ---- parts one after another
 pub put-next : (b o o′ : List ℕ) (at n k : ℕ) (x y : List ℕ) → length x ≡ n → at + n ≤ length b → k ≡ at + n → o ≡ put b at x → o′ ≡ put o k y
@@ -67,7 +67,7 @@ unfolding enqueueRequest payloads flatten
 enqueue-payloads [] = refl
 enqueue-payloads (r ∷ rs) = append-nil (flatten (r ∷ rs))
 
-module _ (rs : List Record) (n : ℕ) (w : Whole rs n) where
+module _ (rs : List Record) (n : ℕ) (w : WholeListing rs n) where
   enqueue-count : length (enqueueRequest rs) ≡ oneIf (ltb 0 n)
   enqueue-count = rw (enqueue-is rs n (w .count)) (maybe-length (ofRecords rs) (ltb 0 n))
 
@@ -90,7 +90,7 @@ module _ (image : List ℕ) (p : Parts) (k : Counted image p) where
   unfolding adapterEntries
   adapters-size = rw (payloads-append (each false image) (each true image), length-append, registers-size, modifies-size)
 
-  module _ (rs : List Record) (simm nimm : ℕ) (w : Whole rs (p .records)) where
+  module _ (rs : List Record) (simm nimm : ℕ) (w : WholeListing rs (p .records)) where
     others-count : length (otherEntries rs (p .masks) simm nimm (p .apf)) ≡ otherCount p
     unfolding otherEntries
     others-count =
@@ -166,7 +166,7 @@ module _ (L : Limits) (s : State) (b : List ℕ) (a : Answer) (t : ℕ) (es : Li
       ∙ rw (f, ← e, ea) (rw (← et, g))
 
 -- ---- what the calls put
-module _ (p : Parts) (rs : List Record) (simm nimm : ℕ) (w : Whole rs (p .records)) where
+module _ (p : Parts) (rs : List Record) (simm nimm : ℕ) (w : WholeListing rs (p .records)) where
   pub others-put : (at pay q m : ℕ) (o₀ o₁ o₂ o₃ : List ℕ) → q ≡ oneIf (ltb 0 (p .records)) → m ≡ oneIf (p .masks) → at + 24 * otherCount p ≤ length o₀
       → o₁ ≡ put o₀ at (choose (ltb 0 (p .records)) (five 8 pay 2 (72 * p .records) 0 (72 * p .records)) [])
       → o₂ ≡ put o₁ (at + 24 * q) (choose (p .masks) (five 8 (pay + 72 * p .records) 11 2 0 0) [])

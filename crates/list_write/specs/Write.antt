@@ -59,7 +59,7 @@ pub record Counted (image : List ℕ) (p : Parts) : Type 0 where
   pub fewRecords : p .records ≤ mostPending
 
 -- n whole records
-pub record Whole (rs : List Record) (n : ℕ) : Type 0 where
+pub record WholeListing (rs : List Record) (n : ℕ) : Type 0 where
   pub count : length rs ≡ n
   pub size : length (flatten rs) ≡ recordBytes * n
 

@@ -12,7 +12,7 @@ ghost use Rattle.rules.specs.State.{Record, recordBytes, listing};
 ghost use Rattle.rules.specs.Requests.{nonZero};
 ghost use Rattle.store_queues.specs.Queues.{Held};
 ghost use Rattle.store.specs.Memory.{pendingOf};
-ghost use Rattle.list_write.specs.Write.{otherEntries, entriesFrom, otherCount, countOf, bytesOf, mostEntries, mostPayload, Counted, Whole, Written};
+ghost use Rattle.list_write.specs.Write.{otherEntries, entriesFrom, otherCount, countOf, bytesOf, mostEntries, mostPayload, Counted, WholeListing, Written};
 ghost use Rattle.store_queues.specs.Slots.{mostPending};
 ghost use Rattle.store.specs.Lent.{before};
 use adapters::Device;
@@ -195,7 +195,7 @@ fn payload_bytes(p: Parts) -> usize
 // The table entries of ENQUEUE, AISM_ALL and APF_ENABLE, the first payload at pay.
 fn put_others(out: &mut [u8], at: usize, pay: usize, p: Parts)
     requires { ⌜ (p .records ≤ mostPending) × (pay ≤ payloadOffset mostEntries + mostPayload) × (at + tableEntryBytes * otherCount p ≤ length (now out)) ⌝ }
-    ensures { λ _. ⌜ ((rs : List Record) (simm nimm : ℕ) → Whole rs (p .records) → now (out .exit) ≡ put (now (out .entry)) at (writtenTable pay (otherEntries rs (p .masks) simm nimm (p .apf)))) ⌝ }
+    ensures { λ _. ⌜ ((rs : List Record) (simm nimm : ℕ) → WholeListing rs (p .records) → now (out .exit) ≡ put (now (out .entry)) at (writtenTable pay (otherEntries rs (p .masks) simm nimm (p .apf)))) ⌝ }
 {
     let queued = 0 < p.records;
     let bytes = 72 * p.records;
@@ -210,7 +210,7 @@ fn put_others(out: &mut [u8], at: usize, pay: usize, p: Parts)
 // The table, its first payload at start.
 fn put_table(out: &mut [u8], start: usize, image: [u8; PLACES], p: Parts)
     requires { ⌜ Counted image p × (start ≤ payloadOffset mostEntries) × (headerBytes + tableEntryBytes * countOf p ≤ length (now out)) ⌝ }
-    ensures { λ _. ⌜ ((rs : List Record) (simm nimm : ℕ) → Whole rs (p .records) → now (out .exit) ≡ put (now (out .entry)) headerBytes (writtenTable start (entriesFrom image rs (p .masks) simm nimm (p .apf)))) ⌝ }
+    ensures { λ _. ⌜ ((rs : List Record) (simm nimm : ℕ) → WholeListing rs (p .records) → now (out .exit) ≡ put (now (out .entry)) headerBytes (writtenTable start (entriesFrom image rs (p .masks) simm nimm (p .apf)))) ⌝ }
 {
     put_slots(out, 20, start, image, false);
     let at = 20 + 24 * p.registers;
@@ -229,7 +229,7 @@ fn put_listing(
     at: usize,
     n: usize,
 )
-    requires { ⌜ Held (now order) (now counts) × Whole (listing (pendingOf (now order) (now counts) (now slots) (now singles))) n × (at + recordBytes * n ≤ length (now out)) ⌝ }
+    requires { ⌜ Held (now order) (now counts) × WholeListing (listing (pendingOf (now order) (now counts) (now slots) (now singles))) n × (at + recordBytes * n ≤ length (now out)) ⌝ }
     ensures { λ _. ⌜ now (out .exit) ≡ put (now (out .entry)) at (flatten (listing (before order counts slots singles))) ⌝ }
 {
     record_take::list_all(slots, order, counts, singles, &mut out[at..]);
@@ -257,7 +257,7 @@ fn put_payloads(
     device: Device,
     p: Parts,
 )
-    requires { ⌜ Held (now order) (now counts) × Counted image p × Whole (listing (pendingOf (now order) (now counts) (now slots) (now singles))) (p .records) × (start ≤ payloadOffset mostEntries) × (start + bytesOf p ≤ length (now out)) ⌝ }
+    requires { ⌜ Held (now order) (now counts) × Counted image p × WholeListing (listing (pendingOf (now order) (now counts) (now slots) (now singles))) (p .records) × (start ≤ payloadOffset mostEntries) × (start + bytesOf p ≤ length (now out)) ⌝ }
     ensures { λ _. ⌜ now (out .exit) ≡ put (now (out .entry)) start (payloads (entriesFrom image (listing (before order counts slots singles)) (p .masks) (device .simm) (device .nimm) (p .apf))) ⌝ }
 {
     put_adapter_payloads(out, start, image, false);

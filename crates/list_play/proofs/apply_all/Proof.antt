@@ -6,7 +6,7 @@ use Rattle.store.specs.Memory.{pendingOf}
 use Rattle.list_image.specs.Places.{AllCanonical}
 use Rattle.list_form.specs.Form.{slotsOf}
 use Rattle.list_form.proofs.Laws.{slotsFrom, slots-all}
-use Rattle.list_play.specs.Play.{limitsFrom, stateOf}
+use Rattle.list_play.specs.Play.{limitsFrom, imageState}
 use Rattle.list_play.proofs.Laws.{applies-next, applies-stops, applies-ends, ran-all, ran-part}
 use Rattle.list_play.proofs.apply_all.Statement.{statement}
 use Rattle.list_play.proofs.apply_all.Tie as tie
@@ -14,8 +14,8 @@ use Rattle.list_play.proofs.apply_all.Tie as tie
 abbrev Inv-loop : tie.InvT-loop
 Inv-loop slots₀ order₀ counts₀ singles₀ places room ais image₀ list count d₀ i₀ slots order counts singles image d i =
     (i ≤ count) × Held order counts × AllCanonical image
-    × (applies (limitsFrom places room) 0 (stateOf ais places image₀ (pendingOf order₀ counts₀ slots₀ singles₀) d₀) (requestsIn list (slotsOf list))
-    ≡ applies (limitsFrom places room) i (stateOf ais places image (pendingOf order counts slots singles) d) (requestsIn list (slotsFrom i count list)))
+    × (applies (limitsFrom places room) 0 (imageState ais places image₀ (pendingOf order₀ counts₀ slots₀ singles₀) d₀) (requestsIn list (slotsOf list))
+    ≡ applies (limitsFrom places room) i (imageState ais places image (pendingOf order counts slots singles) d) (requestsIn list (slotsFrom i count list)))
 
 abbrev μ-loop : tie.MeasureT-loop
 μ-loop slots₀ order₀ counts₀ singles₀ places room ais image₀ list count d₀ i₀ slots order counts singles image d i = count - i

@@ -8,7 +8,7 @@ use Rattle.answers.proofs.Laws.{not-refused}
 use Rattle.adapters.specs.Values.{deviceOf}
 use Rattle.list_image.specs.Places.{placesOf}
 use Rattle.list_write.specs.declared.Parts.{Parts}
-use Rattle.list_write.specs.Write.{entriesFrom, Counted, Whole}
+use Rattle.list_write.specs.Write.{entriesFrom, Counted, WholeListing}
 use Rattle.list_write.proofs.Laws.{entries-count, entries-size, entries-are, list-put, too-short, written}
 use Rattle.list_write.proofs.write_list.Statement.{statement}
 use Rattle.list_write.proofs.write_list.Tie as tie
@@ -40,7 +40,7 @@ counted c =
       fewRecords = c .before .pending-whole .ensures .2;
     }
 
-whole : (c : tie.After-has-masks) → Whole (pending c) (c .before .pending-whole .result)
+whole : (c : tie.After-has-masks) → WholeListing (pending c) (c .before .pending-whole .result)
 whole c =
     let e = c .before .pending-whole .ensures in
     record { count = sym (e .0); size = length-records _ (e .1) ∙ ap (λ (n : ℕ). 72 * n) (sym (e .0)) }

@@ -55,6 +55,7 @@ pub extern "C" fn flic_set(
         return answers::refuse(EFAULT);
     }
     if group == ENQUEUE {
+        // A variable of its own: without it every set request stores the payload's address and length on the stack.
         let records = payload;
         let r = record_add::enqueue_irqs(
             &mut c.slots,

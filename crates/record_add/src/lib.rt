@@ -188,7 +188,7 @@ pub fn enqueue_irqs(
     payload: &[u8],
 ) -> Answer
     requires { ⌜ (room ≤ slotCount) × Held (now order) (now counts) ⌝ }
-    ensures { λ r. ⌜ ((L : Limits) (s : State) → L .room ≡ room → s .pending ≡ before order counts slots singles → Answers L s (now (payload .entry)) (request L s enqueue attr (now (payload .entry))) r (withPending (after order counts slots singles) s) (now (payload .entry))) × ((HeldAfter order counts) × (((r .code ≡ 0 → ⊥) → Stays slots × Stays order × Stays counts × Stays singles))) ⌝ }
+    ensures { λ r. ⌜ ((L : Limits) (s : State) → L .room ≡ room → s .pending ≡ before order counts slots singles → Answers L s (now (payload .entry)) (request L s enqueue attr (now (payload .entry))) r (withPending (after order counts slots singles) s) (now (payload .entry))) × (HeldAfter order counts × ((r .code ≡ 0 → ⊥) → Stays slots × Stays order × Stays counts × Stays singles)) ⌝ }
 {
     if attr == 0 {
         return answers::refuse(EINVAL);

@@ -67,7 +67,7 @@ pub fn clear_irqs(
     attr: u64,
 ) -> Answer
     requires { ⌜ Held (now order) (now counts) ⌝ }
-    ensures { λ r. ⌜ ((L : Limits) (s : State) (slots b : List ℕ) → s .pending ≡ pendingOf (now (order .entry)) (now (counts .entry)) slots (now (singles .entry)) → Answers L s b (request L s clearIrqs attr b) r (withPending (pendingOf (now (order .exit)) (now (counts .exit)) slots (now (singles .exit))) s) b) × ((HeldAfter order counts) × (((r .code ≡ 0 → ⊥) → Stays order × Stays counts × Stays singles))) ⌝ }
+    ensures { λ r. ⌜ ((L : Limits) (s : State) (slots b : List ℕ) → s .pending ≡ pendingOf (now (order .entry)) (now (counts .entry)) slots (now (singles .entry)) → Answers L s b (request L s clearIrqs attr b) r (withPending (pendingOf (now (order .exit)) (now (counts .exit)) slots (now (singles .exit))) s) b) × (HeldAfter order counts × ((r .code ≡ 0 → ⊥) → Stays order × Stays counts × Stays singles)) ⌝ }
 {
     if attr != 0 {
         return answers::refuse(EINVAL);
@@ -138,7 +138,7 @@ pub fn clear_io(
     payload: &[u8],
 ) -> Answer
     requires { ⌜ Held (now order) (now counts) ⌝ }
-    ensures { λ r. ⌜ ((L : Limits) (s : State) (singles : List ℕ) → s .pending ≡ pendingOf (now (order .entry)) (now (counts .entry)) (now (slots .entry)) singles → Answers L s (now (payload .entry)) (request L s clearIoIrq attr (now (payload .entry))) r (withPending (pendingOf (now (order .exit)) (now (counts .exit)) (now (slots .entry)) singles) s) (now (payload .entry))) × ((HeldAfter order counts) × (((r .code ≡ 0 → ⊥) → Stays order × Stays counts))) ⌝ }
+    ensures { λ r. ⌜ ((L : Limits) (s : State) (singles : List ℕ) → s .pending ≡ pendingOf (now (order .entry)) (now (counts .entry)) (now (slots .entry)) singles → Answers L s (now (payload .entry)) (request L s clearIoIrq attr (now (payload .entry))) r (withPending (pendingOf (now (order .exit)) (now (counts .exit)) (now (slots .entry)) singles) s) (now (payload .entry))) × (HeldAfter order counts × ((r .code ≡ 0 → ⊥) → Stays order × Stays counts)) ⌝ }
 {
     if attr < 4 {
         return answers::refuse(EINVAL);
@@ -208,7 +208,7 @@ pub fn take(
     out: &mut [u8],
 ) -> Answer
     requires { ⌜ Held (now order) (now counts) ⌝ }
-    ensures { λ r. ⌜ ((L : Limits) (s : State) → s .pending ≡ before order counts slots singles → Answers L s (now (out .entry)) (takes s subclasses external mcheck (now (out .entry))) r (withPending (pendingOf (now (order .exit)) (now (counts .exit)) (now (slots .entry)) (now (singles .exit))) s) (now (out .exit))) × ((HeldAfter order counts) × (((r .code ≡ 0 → ⊥) → Stays order × Stays counts × Stays singles × Stays out))) ⌝ }
+    ensures { λ r. ⌜ ((L : Limits) (s : State) → s .pending ≡ before order counts slots singles → Answers L s (now (out .entry)) (takes s subclasses external mcheck (now (out .entry))) r (withPending (pendingOf (now (order .exit)) (now (counts .exit)) (now (slots .entry)) (now (singles .exit))) s) (now (out .exit))) × (HeldAfter order counts × ((r .code ≡ 0 → ⊥) → Stays order × Stays counts × Stays singles × Stays out)) ⌝ }
 {
     if out.len() < 72 {
         return answers::refuse(EFAULT);

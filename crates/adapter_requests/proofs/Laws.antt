@@ -3,20 +3,13 @@ use Rattle.numbers.proofs.Basics.{leb, lt-leb, _<_, ℕ, zero, suc, _≤_, _≡
 use Rattle.numbers.proofs.Basics.{true≢false, List, [], _∷_, arith, length, getD, set, drop, eqb, eq-eqb, ne-eqb}
 use Rattle.numbers.proofs.Basics.{eqb-true, eqb-false, le-leb}
 use lib.Seq.{set-getD}
-use Rattle.rules.specs.Bytes.{choose, byte, field}
-use Rattle.rules.specs.Requests.{setRequest, noRequest, withMask}
+use Rattle.rules.specs.{Bytes.choose, Bytes.byte, Bytes.field, Requests.setRequest, Requests.noRequest, Requests.withMask, State.Limits, State.Pending, State.State, Outcome.Outcome, Outcome.refuse, Outcome.accept, Outcome.need_else_⨾_, Outcome.result, Outcome.tell, Machine.answerOf}
 use Rattle.rules.proofs.Checks.{passes, fails, chosen, passed}
 use Rattle.rules.specs.State as rules
-use Rattle.rules.specs.State.{Limits, Pending, State}
-use Rattle.rules.specs.Outcome.{Outcome, refuse, accept, need_else_⨾_, result, tell}
-use Rattle.rules.specs.Machine.{answerOf}
-use Rattle.adapters.specs.declared.Device.{Device}
-use Rattle.adapters.specs.declared.Place.{Place}
-use Rattle.adapters.specs.Values.{placeOf, deviceOf, Canonical, maskedAs, modeSet}
-use Rattle.answers.specs.declared.Answer.{Answer}
+use Rattle.adapters.specs.{declared.Device.Device, declared.Place.Place, Values.placeOf, Values.deviceOf, Values.Canonical, Values.maskedAs, Values.modeSet}
+use Rattle.answers.specs.{declared.Answer.Answer, Answers.answered}
 use Rattle.adapter_requests.specs.declared.Reply.{Reply}
 use Rattle.adapter_requests.specs.States.{payloadId, onPlace, aboutOf, decided, withPlace, modesAfter, stateWith, Replied, Change, keeps, masks, enters, Within, changeOf}
-use Rattle.answers.specs.Answers.{answered}
 
 -- the state that the values stand for is the state itself
 pub as-it-was : (s : State) (id : ℕ) (device : Device) (place : Place) → s .device ≡ deviceOf device → getD (s .adapters) id rules.free ≡ placeOf place

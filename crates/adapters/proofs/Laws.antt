@@ -1,10 +1,8 @@
 -- Laws on the bits of a mask and on places.
 use Rattle.numbers.proofs.Basics.{ℕ, zero, suc, _+_, _≤_, _<_, _≡_, refl, Bool, true, false, arith, eqb-true}
 use Rattle.numbers.proofs.Basics.{eqb-false}
-use Rattle.rules.specs.Bytes.{choose}
-use Rattle.rules.specs.State.{free, holds, bit, hasBit}
-use Rattle.adapters.specs.declared.Place.{Place}
-use Rattle.adapters.specs.Values.{adapterOf, placeOf}
+use Rattle.rules.specs.{Bytes.choose, State.free, State.holds, State.bit, State.hasBit}
+use Rattle.adapters.specs.{declared.Place.Place, Values.adapterOf, Values.placeOf}
 
 -- a bit that is not set has room in a byte, and one that is set is at most the mask: by the eight subclasses
 pub bit-room : (n m : ℕ) → n ≤ 7 → m < 256 → (hasBit n m ≡ false → m + bit n < 256) × (hasBit n m ≡ true → bit n ≤ m)

@@ -1,14 +1,9 @@
 -- From an outcome of the rules to the answer that tells it.
 use Prim.Native.Nat.{ℕ}
-use mathlib.Core.Path.{_≡_, ap, sym, _∙_, subst}
-use mathlib.Core.List.{List, _++_}
+use mathlib.Core.{Path._≡_, Path.ap, Path.sym, Path._∙_, Path.subst, List.List, List._++_}
 use lib.ListN.{length, drop}
-use Rattle.rules.specs.State.{Limits, Pending, State, withPending}
-use Rattle.rules.specs.Outcome.{Outcome, refuse, accept, result, tell}
-use Rattle.rules.specs.Requests.{setRequest, request}
-use Rattle.rules.specs.Machine.{answerOf}
-use Rattle.answers.specs.declared.Answer.{Answer}
-use Rattle.answers.specs.Answers.{Answers, answered}
+use Rattle.rules.specs.{State.Limits, State.Pending, State.State, State.withPending, Outcome.Outcome, Outcome.refuse, Outcome.accept, Outcome.result, Outcome.tell, Requests.setRequest, Requests.request, Machine.answerOf}
+use Rattle.answers.specs.{declared.Answer.Answer, Answers.Answers, Answers.answered}
 
 pub same-state : (s : State) (p : Pending) → s .pending ≡ p → withPending p s ≡ s
 same-state s p e = ap (λ (q : Pending). withPending q s) (sym e)

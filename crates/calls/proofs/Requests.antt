@@ -1,27 +1,16 @@
 -- The cases of an injection, and which get request a group number is.
 use Rattle.numbers.proofs.Basics.{ℕ, zero, suc, _≤_, _<_, _≡_, refl, ap, sym, _∙_, subst, Bool, true, false, _&&_}
 use Rattle.numbers.proofs.Basics.{_||_, List, [], getD, ltb, leb, eqb, lt-ltb, le-ltb}
-use Rattle.rules.specs.Bytes.{choose}
+use Rattle.rules.specs.{Bytes.choose, State.Limits, State.Pending, State.State, State.withPending, State.withDevice, State.addIo, State.queued, Outcome.refuse, Outcome.accept, Outcome.need_else_⨾_, Requests.underAis as rules-underAis}
 use Rattle.rules.specs.State as rules
-use Rattle.rules.specs.State.{Limits, Pending, State, withPending, withDevice, addIo, queued}
-use Rattle.rules.specs.Outcome.{refuse, accept, need_else_⨾_}
 use Rattle.rules.specs.Requests.{holding, noRequest, airqInject, getRequest, injected, injects, adapterInterrupt, request}
-use Rattle.rules.specs.Requests.{underAis as rules-underAis}
 use Rattle.rules.proofs.Checks.{passes, fails, found, missing, chosen, passed}
-use Rattle.answers.specs.declared.Answer.{Answer}
-use Rattle.answers.specs.Answers.{Answers, answered}
-use Rattle.adapters.specs.declared.Device.{Device}
-use Rattle.adapters.specs.declared.Place.{Place}
-use Rattle.adapters.specs.declared.Injection.{Injection}
-use Rattle.adapters.specs.declared.Injection.the-variants.{NoAdapter, Dropped, Full, Appended}
-use Rattle.adapters.specs.Values.{placeOf, deviceOf, adapterOf, underAis, injectionOf, injectedDevice}
+use Rattle.answers.specs.{declared.Answer.Answer, Answers.Answers, Answers.answered}
+use Rattle.adapters.specs.{declared.Device.Device, declared.Place.Place, declared.Injection.Injection, declared.Injection.the-variants.NoAdapter, declared.Injection.the-variants.Dropped, declared.Injection.the-variants.Full, declared.Injection.the-variants.Appended, Values.placeOf, Values.deviceOf, Values.adapterOf, Values.underAis, Values.injectionOf, Values.injectedDevice}
 use Rattle.adapters.proofs.Laws.{place-used, place-free}
 use Rattle.numbers.specs.declared.Subclass.{Subclass}
 use Rattle.store_queues.specs.Queues.{total, Held}
-use Rattle.calls.specs.declared.Controller.{Controller}
-use Rattle.calls.specs.Limits.{limitsOf}
-use Rattle.calls.specs.Inner.{pendingIn, Injected}
-use Rattle.calls.specs.Cases.{answerFor}
+use Rattle.calls.specs.{declared.Controller.Controller, Limits.limitsOf, Inner.pendingIn, Inner.Injected, Cases.answerFor}
 
 -- the state that the values stand for is the state itself
 pub as-it-was : (s : State) (device : Device) (p : Pending) → s .pending ≡ p → s .device ≡ deviceOf device → s ≡ withDevice (deviceOf device) (withPending p s)

@@ -4,10 +4,8 @@
 --     gives-all    ⟶  tokens and parameters as the exit asks for them
 use Rattle.flic.proofs.Walk.{_≡_, refl, sym, ap, subst, ℕ, [], _∷_, List, length, URA, fullShare, named, Val, vptr, GName, Lft, Share, Fml, fsep, flft, fobs, fbor, fobor, fauth, Heap, Atoms, Soaks, Goal, Step, step, Given, Item, Seq, ‵, _⊛_, _$_, move, drop, split, join, fsplit, fsplit3, fjoin, fjoin3, feqI, Body, Is, shows, mem, cellAt, RefT, MutRef, sliceVal, MutSlice, Room, heres, codedHoleys, at-slice, pureI, Held, row, opens-slice, closes-slice, opens, closes, owned, peeks, spelt}
 use denote.Struct.Laws as LL
-use Rattle.adapters.specs.declared.Device.{Device}
-use Rattle.adapters.specs.declared.Place.{Place}
+use Rattle.adapters.specs.declared.{Device.Device, Place.Place}
 use Rattle.adapters.proofs.Device as D
-use Rattle.adapters.proofs.Device.Laws as D′
 use Rattle.adapters.proofs.Place as P
 use Rattle.calls.specs.declared.Controller.{Controller}
 use Rattle.calls.proofs.Controller as C
@@ -64,7 +62,7 @@ module _ {M : Type 1} {𝓤 : URA M} where
 
   -- all opened: the table by now t, the device record d, the controller c
   abbrev pub Open : (H : Heap 𝓤) → Refs → List Place → Device → Controller → List (Item 𝓤) → List (Item 𝓤)
-  Open H a t d c Γ = ‵ (row P.the-row fullShare t (a .bt) (a .ot)) ∷ ‵ (cellAt fullShare (D.the-row .mir) (D′.lowered d ∷ []) (a .bd) (a .od))
+  Open H a t d c Γ = ‵ (row P.the-row fullShare t (a .bt) (a .ot)) ∷ ‵ (cellAt fullShare (D.the-row .mir) (D.Laws.lowered d ∷ []) (a .bd) (a .od))
       ∷ ‵ (fobor (a .κd) (a .qd) (Body (mem D.the-row) (a .bd) (a .od) (a .γd))) ∷ ‵ (fobs (a .γd) (D.the-row .coded .code (a .d))) ∷ ‵ (fauth (a .γd) (D.the-row .coded .code (a .d)))
       ∷ ‵ (fobor (a .κt) (a .qt) (Held P.the-row (length (a .t)) (a .bt) (a .ot) (a .γt))) ∷ ‵ (fobs (a .γt) (codedHoleys P.the-row .code (heres P.the-row (a .t)))) ∷ ‵ (fauth (a .γt) (codedHoleys P.the-row .code (heres P.the-row (a .t))))
       ∷ OpenAt H (a .κc) (a .qc) (a .γc) (a .c) c (a .bc) (a .oc) Γ
@@ -80,17 +78,17 @@ module _ {M : Type 1} {𝓤 : URA M} {H : Heap 𝓤} {A : Atoms 𝓤} {K : Type 
       -- [t's token; T; d's; c's; the parameters'; Γ]
       move k (4 ∷ []) $ fsplit k $ move k (1 ∷ []) $ fsplit k $ move k (1 ∷ []) $ fsplit k $ move k (0 ∷ 4 ∷ 2 ∷ 6 ∷ 3 ∷ 7 ∷ 5 ∷ 1 ∷ []) $ s)
 
-  pub opens-all : K → Soaks G → (a : Refs) → (Has (a .c) → Is D.the-row (a .d) (D′.lowered (a .d) ∷ []) → Seq K W (Open H a (a .t) (a .d) (a .c) Γ) G) → Seq K W (Passed a Γ) G
+  pub opens-all : K → Soaks G → (a : Refs) → (Has (a .c) → Is D.the-row (a .d) (D.Laws.lowered (a .d) ∷ []) → Seq K W (Open H a (a .t) (a .d) (a .c) Γ) G) → Seq K W (Passed a Γ) G
   opens-all k z a s =
       fsplit k $ drop k $ fsplit k $ opens-slice k z P.the-row (a .t) (a .bt) (a .ot) $ move k (4 ∷ []) $ fsplit3 k $ drop k $ move k (0 ∷ 1 ∷ 6 ∷ []) $
-      opens k z D.the-row {h = a .d} (a .bd) (a .od) (λ vs. spelt k D.the-row (Is D.the-row) (shows 𝓤 H A D.the-row) (LL.vals D.the-type D′.the-laws) (LL.tells D.the-type D′.the-laws) fullShare (a .d) vs (a .bd) (a .od) $
-      move k (1 ∷ []) $ peeks k D.the-row (Is D.the-row) (shows 𝓤 H A D.the-row) (a .d) (D′.lowered (a .d) ∷ []) (λ gd. drop k $
+      opens k z D.the-row {h = a .d} (a .bd) (a .od) (λ vs. spelt k D.the-row (Is D.the-row) (shows 𝓤 H A D.the-row) (LL.vals D.the-type D.Laws.the-laws) (LL.tells D.the-type D.Laws.the-laws) fullShare (a .d) vs (a .bd) (a .od) $
+      move k (1 ∷ []) $ peeks k D.the-row (Is D.the-row) (shows 𝓤 H A D.the-row) (a .d) (D.Laws.lowered (a .d) ∷ []) (λ gd. drop k $
       -- [the device record and what closes it, 3; the table and what closes it, 3; the controller's; its token; Γ]
       move k (8 ∷ []) $ fsplit3 k $ drop k $ move k (0 ∷ 1 ∷ 10 ∷ []) $ opens-ctl k z (a .c) (a .bc) (a .oc) (λ gc. move k (13 ∷ 9 ∷ 10 ∷ 11 ∷ 12 ∷ 14 ∷ 15 ∷ 16 ∷ []) $ s gc gd)))
 
-  pub closes-all : K → Soaks G → (a : Refs) (t : List Place) (d : Device) (c : Controller) → length t ≡ length (a .t) → Is D.the-row d (D′.lowered d ∷ []) → Has c → Step K W (Closed a t d c Γ) G (Open H a t d c Γ) G
+  pub closes-all : K → Soaks G → (a : Refs) (t : List Place) (d : Device) (c : Controller) → length t ≡ length (a .t) → Is D.the-row d (D.Laws.lowered d ∷ []) → Has c → Step K W (Closed a t d c Γ) G (Open H a t d c Γ) G
   closes-all k z a t d c e gd gc = step (λ s. move {W = W} k (0 ∷ 5 ∷ 6 ∷ 7 ∷ []) $ closes-slice k z P.the-row (a .t) t e (a .bt) (a .ot) $
-      owned k D.the-row (Is D.the-row) (LL.makes D.the-type D′.the-plain 𝓤 H A) d _ gd $ move k (4 ∷ 0 ∷ 5 ∷ 6 ∷ 7 ∷ []) $ closes k z D.the-row d (D′.lowered d ∷ []) (a .bd) (a .od) $
+      owned k D.the-row (Is D.the-row) (LL.makes D.the-type D.Laws.the-plain 𝓤 H A) d _ gd $ move k (4 ∷ 0 ∷ 5 ∷ 6 ∷ 7 ∷ []) $ closes k z D.the-row d (D.Laws.lowered d ∷ []) (a .bd) (a .od) $
       move k (6 ∷ 7 ∷ 8 ∷ 9 ∷ 10 ∷ 11 ∷ 12 ∷ 13 ∷ 14 ∷ []) $ closes-ctl k z (a .c) c gc (a .bc) (a .oc) $ s)
 
   pub gives-all : K → (a : Refs) (t : List Place) (d : Device) (c : Controller) → length t ≡ length (a .t) → Room P.the-row (length (a .t)) → {T : Item 𝓤} {O : Fml}

@@ -1,30 +1,22 @@
 -- Calls as steps of a walk: of `adapter_requests::on_place`; of `lent_requests::set_place` and `lent_requests::set_modes`, which are lent the payload beside the table or the device record; and
 -- of `lent_table::read_device`, where the walk passes a shared reference of its own on. And a `&mut [u8]` that is not used any more, given up at its value.
 use Rattle.flic.proofs.Walk.{_≡_, refl, sym, ap, subst, ℕ, _<_, _^_, Bool, true, false, [], _∷_, List, length, URA, fullShare, named, w64, Val, vint, vptr, SProp, id⊢, GName, Lft, Share, Fml, ftrue, fsep, flft, fres, Memory, Routine, Heap, Env, Calls, Loops, Atoms, Fun, Given, Item, Goal, Step, step, Seq, runs, lands, ‵, _⊛_, _$_, move, drop, use1, split, join, fsplit, fjoin, Opds, FmC, Is, cellAt, bool-makes, uint-makes, u8, u64, RefT, ShrRef, finally, sliceVal, MutSlice, Room, heres, codedHoleys, row, only, owned, nothing, tripleOf, Contract, Triple, says, w32, u32, bool, vbool, bool-vals, bool-tells, ent, emp, _∵_, !, qed, frame, done, sem, exE, snd∗, ensured, lasts}
-use types.Kit as Kit
 use mir.Syntax.{Place as Where, Body as Code, Opd as Operand, seq, call}
 use denote.Slice.{res-finally}
 use denote.Struct.Laws as LL
 use Rattle.answers.specs.declared.Answer.{Answer}
 use Rattle.answers.proofs.Answer as An
-use Rattle.adapters.specs.declared.Device.{Device}
-use Rattle.adapters.specs.declared.Place.{Place}
+use Rattle.adapters.specs.declared.{Device.Device, Place.Place}
 use Rattle.adapters.proofs.Device as D
-use Rattle.adapters.proofs.Device.Laws as D′
 use Rattle.adapters.proofs.Place as P
 use Rattle.adapter_requests.specs.States.{onPlace}
 use Rattle.adapter_requests.proofs.on_place as on-place
 use Rattle.adapter_requests.proofs.on_place.Symbol.{name as #on-place}
 use Rattle.lent_requests.specs.Requests.{ModesSet, PlaceSet}
-use Rattle.lent_table.proofs.Record.{ReadDevice}
-use Rattle.lent_table.proofs.Gives.{at-list, Lent, LentCell, gives}
-use Rattle.lent_requests.proofs.Payload.{payload, Payload, asks-record, asks-table}
-use Rattle.lent_table.proofs.Called.{asks-nothing, calls-told}
-use Rattle.lent_table.proofs.read_device.Symbol.{name as #read-device}
+use Rattle.lent_table.proofs.{Record.ReadDevice, Gives.at-list, Gives.Lent, Gives.LentCell, Gives.gives, Called.asks-nothing, Called.calls-told, read_device.Symbol.name as #read-device}
+use Rattle.lent_requests.proofs.{Payload.payload, Payload.Payload, Payload.asks-record, Payload.asks-table, set_place.Symbol.name as #set-place, set_modes.Symbol.name as #set-modes}
 use Rattle.lent_requests.proofs.set_place as set-place
-use Rattle.lent_requests.proofs.set_place.Symbol.{name as #set-place}
 use Rattle.lent_requests.proofs.set_modes as set-modes
-use Rattle.lent_requests.proofs.set_modes.Symbol.{name as #set-modes}
 
 -- a `&mut [u8]` is given up: what is in it then is its last value
 module _ {M : Type 1} {𝓤 : URA M} {H : Heap 𝓤} {A : Atoms 𝓤} {K : Type 0} {W : Given 𝓤 H A} {Γ : List (Item 𝓤)} {G : Goal 𝓤 H} where
@@ -69,7 +61,7 @@ module _ {M : Type 1} (𝓤 : URA M) (H : Heap 𝓤) (A : Atoms 𝓤) (mem′ : 
 abbrev at-device : ℕ → ℕ → GName → Device → RefT Device
 at-device b o γ m = record { ptr = (b, o); name = γ; now = m }
 
-module _ {M : Type 1} {𝓤 : URA M} {H : Heap 𝓤} {A : Atoms 𝓤} {K : Type 0} {W : Given 𝓤 H A} {Γ : List (Item 𝓤)} {E : Env 𝓤 H} {C : Calls 𝓤 H} {Λ : Loops 𝓤 H} {p : Kit.Post 𝓤 H} {d : Where} {rest : Code} {xs : List Operand} where
+module _ {M : Type 1} {𝓤 : URA M} {H : Heap 𝓤} {A : Atoms 𝓤} {K : Type 0} {W : Given 𝓤 H A} {Γ : List (Item 𝓤)} {E : Env 𝓤 H} {C : Calls 𝓤 H} {Λ : Loops 𝓤 H} {p : types.Kit.Post 𝓤 H} {d : Where} {rest : Code} {xs : List Operand} where
   pub asks-place : K → (mem′ : Memory → SProp 𝓤) (run : Routine → Fun 𝓤) → FmC 𝓤 H (W .laws) C → Triple 𝓤 (C #on-place) (OnPlace 𝓤 H A mem′ run) → (group : ℕ) → group < 2 ^ 32
       → ((i : Item 𝓤) → Opds K W (i ∷ Γ) E xs (vint w32 group ∷ [])) → Seq K W Γ (lands C Λ E d (vbool (onPlace group)) rest p) → Seq K W Γ (runs C Λ E (seq (call #on-place xs d) rest) p)
   asks-place t mem′ run fm known group fits os k =
@@ -95,10 +87,10 @@ module _ {M : Type 1} {𝓤 : URA M} {H : Heap 𝓤} {A : Atoms 𝓤} {K : Type 
       (λ ν δ v. id⊢ 𝓤 _) (λ ν δ. os) k
 
   pub sets-modes : K → (mem′ : Memory → SProp 𝓤) (run : Routine → Fun 𝓤) → FmC 𝓤 H (W .laws) C → Triple 𝓤 (C #set-modes) (SetModes 𝓤 H A mem′ run) → (κ : Lft) (q : Share) (b o : ℕ) (γ : GName) (ps : List ℕ) (h : Device) (bd od : ℕ)
-      → Is D.the-row h (D′.lowered h ∷ []) → (ais : Bool) (group attr : ℕ) → group < 2 ^ 32 → attr < 2 ^ 64 → (group ≡ 2 → ⊥) × (group ≡ 3 → ⊥) × (group ≡ 8 → ⊥) × (group ≡ 10 → ⊥) × (onPlace group ≡ false)
+      → Is D.the-row h (D.Laws.lowered h ∷ []) → (ais : Bool) (group attr : ℕ) → group < 2 ^ 32 → attr < 2 ^ 64 → (group ≡ 2 → ⊥) × (group ≡ 3 → ⊥) × (group ≡ 8 → ⊥) × (group ≡ 10 → ⊥) × (onPlace group ≡ false)
       → ((i j k : Item 𝓤) → Opds K W (i ∷ j ∷ k ∷ Γ) E xs (vptr bd od ∷ vbool ais ∷ vint w32 group ∷ vint w64 attr ∷ payload κ b o γ ps ∷ []))
-      → ((z : Answer) (v : Val) (y : Device) → ModesSet ais group attr h y ps z → Is An.the-row z (v ∷ []) → Is D.the-row y (D′.lowered y ∷ []) → Seq K W (‵ (cellAt fullShare (D.the-row .mir) (D′.lowered y ∷ []) bd od) ∷ ‵ (flft κ q) ∷ ‵ (Payload κ b o γ ps) ∷ Γ) (lands C Λ E d v rest p))
-      → Seq K W (‵ (cellAt fullShare (D.the-row .mir) (D′.lowered h ∷ []) bd od) ∷ ‵ (flft κ q) ∷ ‵ (Payload κ b o γ ps) ∷ Γ) (runs C Λ E (seq (call #set-modes xs d) rest) p)
+      → ((z : Answer) (v : Val) (y : Device) → ModesSet ais group attr h y ps z → Is An.the-row z (v ∷ []) → Is D.the-row y (D.Laws.lowered y ∷ []) → Seq K W (‵ (cellAt fullShare (D.the-row .mir) (D.Laws.lowered y ∷ []) bd od) ∷ ‵ (flft κ q) ∷ ‵ (Payload κ b o γ ps) ∷ Γ) (lands C Λ E d v rest p))
+      → Seq K W (‵ (cellAt fullShare (D.the-row .mir) (D.Laws.lowered h ∷ []) bd od) ∷ ‵ (flft κ q) ∷ ‵ (Payload κ b o γ ps) ∷ Γ) (runs C Λ E (seq (call #set-modes xs d) rest) p)
   sets-modes t mem′ run fm known κ q b o γ ps h bd od gh ais group attr group-fits attr-fits other os k =
       asks-record t fm (SetModes 𝓤 H A mem′ run) known κ q b o γ ps h bd od gh
       (λ ν δ. (((ν ∷ [], (κ, tt)), (fullShare, (q, tt)), tt, (record { ptr = (bd, od); name = δ; now = h }, (ais, (group, (attr, (at-list b o γ ps, tt))))), (vptr bd od ∷ [], (vbool ais ∷ [], (vint w32 group ∷ [], (vint w64 attr ∷ [], (payload κ b o γ ps ∷ [], tt)))))), tt))
@@ -108,12 +100,12 @@ module _ {M : Type 1} {𝓤 : URA M} {H : Heap 𝓤} {A : Atoms 𝓤} {K : Type 
 
   -- the reference to the device record is given away
   pub reads-passed : K → (mem′ : Memory → SProp 𝓤) (run : Routine → Fun 𝓤) → FmC 𝓤 H (W .laws) C → Triple 𝓤 (C #read-device) (ReadDevice 𝓤 H A mem′ run) → (κ : Lft) (q : Share) (b o : ℕ) (γ : GName) (m : Device)
-      → ((i : Item 𝓤) → Opds K W (i ∷ Γ) E xs (vptr b o ∷ [])) → (Is D.the-row m (D′.lowered m ∷ []) → Seq K W (‵ (flft κ q) ∷ Γ) (lands C Λ E d (D′.lowered m) rest p))
+      → ((i : Item 𝓤) → Opds K W (i ∷ Γ) E xs (vptr b o ∷ [])) → (Is D.the-row m (D.Laws.lowered m ∷ []) → Seq K W (‵ (flft κ q) ∷ Γ) (lands C Λ E d (D.Laws.lowered m) rest p))
       → Seq K W (‵ (flft κ q) ∷ ‵ (ShrRef (named 0) κ D.the-row .own (at-device b o γ m) (vptr b o ∷ [])) ∷ Γ) (runs C Λ E (seq (call #read-device xs d) rest) p)
   reads-passed t mem′ run fm known κ q b o γ m os k =
       nothing t $ move t (2 ∷ 0 ∷ []) $ fjoin t $ nothing t $ move t (2 ∷ 0 ∷ []) $ join t $
       calls-told t fm (ReadDevice 𝓤 H A mem′ run) known (((κ, tt), (q, tt), tt, (at-device b o γ m, tt), (vptr b o ∷ [], tt)), tt) D.the-row (‵ (flft κ q) ⊛ ‵ ftrue)
       (fsep (ShrRef (named 0) κ D.the-row .own (at-device b o γ m) (vptr b o ∷ [])) ftrue) {X = Unit {0} × Unit {0}} (λ w. fsep ftrue ftrue) (λ z w. z ≡ m)
       (asks-nothing 𝓤 _) (λ v. id⊢ 𝓤 _) os (λ z v w e is. split t $ move t (2 ∷ []) $ drop t $ move t (1 ∷ []) $ drop t $
-      subst (λ (u : Val). Seq K W (‵ (flft κ q) ∷ Γ) (lands C Λ E d u rest p)) (sym (ap only (LL.tells D.the-type D′.the-laws m (v ∷ []) (subst (λ (y : Device). Is D.the-row y (v ∷ [])) e is))))
-      (k (subst (Is D.the-row m) (LL.tells D.the-type D′.the-laws m (v ∷ []) (subst (λ (y : Device). Is D.the-row y (v ∷ [])) e is)) (subst (λ (y : Device). Is D.the-row y (v ∷ [])) e is))))
+      subst (λ (u : Val). Seq K W (‵ (flft κ q) ∷ Γ) (lands C Λ E d u rest p)) (sym (ap only (LL.tells D.the-type D.Laws.the-laws m (v ∷ []) (subst (λ (y : Device). Is D.the-row y (v ∷ [])) e is))))
+      (k (subst (Is D.the-row m) (LL.tells D.the-type D.Laws.the-laws m (v ∷ []) (subst (λ (y : Device). Is D.the-row y (v ∷ [])) e is)) (subst (λ (y : Device). Is D.the-row y (v ∷ [])) e is))))

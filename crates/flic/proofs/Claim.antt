@@ -1,16 +1,10 @@
 -- Demand 3 holds: its statement is specs/Claim.
 use Rattle.numbers.proofs.Basics.{ℕ, _≤_, _≡_, refl, ap, sym, _∙_, subst, Bool, List, [], _∷_, _++_, length, take}
-use Rattle.rules.specs.State.{Limits, State, fresh}
-use Rattle.rules.specs.Outcome.{Answer as Told, Seen, seen, answering}
-use Rattle.rules.specs.MoveList.{countIn, mostRequests}
-use Rattle.rules.specs.Machine.{writeList, playList, Call, step, answers, after}
-use Rattle.rules.proofs.Reachable.{fresh-ais, reachable}
-use Rattle.rules.proofs.Move.{Move, move}
-use Rattle.rules.proofs.Replay.{Movable}
+use Rattle.rules.specs.{State.Limits, State.State, State.fresh, Outcome.Answer as Told, Outcome.Seen, Outcome.seen, Outcome.answering, MoveList.countIn, MoveList.mostRequests, Machine.writeList, Machine.playList, Machine.Call, Machine.step, Machine.answers, Machine.after}
+use Rattle.rules.proofs.{Reachable.fresh-ais, Reachable.reachable, Move.Move, Move.move, Replay.Movable}
 use Rattle.calls.specs.Limits.{limitsOf}
 use Rattle.calls.proofs.Limits.{limits-sized}
-use Rattle.flic.specs.Claim.{Fresh, machine, Moved, listOf, callsOf, Claim}
-use Rattle.flic.specs.Chain.{Host, its-own, asked, Ran}
+use Rattle.flic.specs.{Claim.Fresh, Claim.machine, Claim.Moved, Claim.listOf, Claim.callsOf, Claim.Claim, Chain.Host, Chain.its-own, Chain.asked, Chain.Ran}
 use Rattle.flic.proofs.Follows.{hostState, Good, own-length, Stepped, requested, follows}
 
 -- what the plain machine answers to one list after another

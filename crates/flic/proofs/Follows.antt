@@ -1,13 +1,9 @@
 -- A list of calls on a host: what its callers saw is what the plain machine answers, and the host stands for the machine's state.
 use Rattle.numbers.proofs.Basics.{ℕ, _≡_, refl, ap, sym, _∙_, subst, Bool, List, _∷_, length, length-map}
-use Rattle.rules.specs.State.{Limits, State}
-use Rattle.rules.specs.Outcome.{result, tell, Seen, seen, answering}
+use Rattle.rules.specs.{State.Limits, State.State, Outcome.result, Outcome.tell, Outcome.Seen, Outcome.seen, Outcome.answering}
 use Rattle.rules.specs.Machine.{Ask, setAttr, getAttr, guestTake, writeList, playList, Call, outcome, step, answers, after, answerOf}
-use Rattle.adapters.specs.declared.Device.{Device}
-use Rattle.adapters.specs.declared.Place.{Place}
-use Rattle.adapters.specs.Values.{placeOf}
-use Rattle.calls.specs.declared.Controller.{Controller}
-use Rattle.calls.specs.Limits.{limitsOf}
+use Rattle.adapters.specs.{declared.Device.Device, declared.Place.Place, Values.placeOf}
+use Rattle.calls.specs.{declared.Controller.Controller, Limits.limitsOf}
 use Rattle.flic.specs.Surface.{stateOf, Valid, Requested, Taken}
 use Rattle.flic.specs.Chain.{Host, Lends, its-own, another, asked, Leaves, Ran, end, asks, take}
 use Rattle.flic.proofs.Promises.{next-sound, Tabled, refused-table}

@@ -5,15 +5,11 @@
 --     lends-array, array-back      one array's cell: its token and its reference are put before the tokens T and the formula O of what is passed after it
 --     calls-four       the cells of c ∷ T ∷ O ∷ Γ  ⟶  the cells of the controller that the callee leaves ∷ T ∷ what it says of the rest ∷ Γ
 use Rattle.flic.proofs.Walk.{ℕ, [], _∷_, List, URA, fullShare, named, w8, w64, Val, vptr, ent, flent, GName, Lft, Share, Fml, ftrue, fsep, flft, fres, Heap, Env, Calls, Loops, Atoms, Soaks, Goal, Given, Item, mean, Seq, runs, lands, ‵, ⋆, _⊛_, _$_, move, drop, split, join, fsplit, fjoin, Opds, Body, FmC, RattleType, Is, shows, mem, partAt, cellAt, RefT, ShrRef, MutRef, owned, peeks, spelt, Contract, Triple, _+_}
-use types.Kit as Kit
 use types.Kit.{mean}
 use mir.Syntax.{Width, Name, Place as Where, Body as Code, Opd as Operand, seq, call}
-use Rattle.lent_table.proofs.Rows.{shares-cell, cell-shared-back, lends-cell, cell-back}
-use Rattle.calls.specs.declared.Controller.{Controller}
-use Rattle.calls.specs.Inner.{controller}
-use Rattle.flic.proofs.Ints.{Ints, ints, FitsInts, ints-tells, ints-makes}
-use Rattle.flic.proofs.Opened.{Has}
-use Rattle.lent_table.proofs.Called.{Told, calls-told}
+use Rattle.lent_table.proofs.{Rows.shares-cell, Rows.cell-shared-back, Rows.lends-cell, Rows.cell-back, Called.Told, Called.calls-told}
+use Rattle.calls.specs.{declared.Controller.Controller, Inner.controller}
+use Rattle.flic.proofs.{Ints.Ints, Ints.ints, Ints.FitsInts, Ints.ints-tells, Ints.ints-makes, Opened.Has}
 
 pub data Way : Type 0 where
   mutably : Way
@@ -214,7 +210,7 @@ module _ (ways : Ways) where
         -- [cell 3; T; O; cells 2, 1, 0; Γ]
         move t (5 ∷ 4 ∷ 3 ∷ 0 ∷ []) $ k (g₀, g₁, g₂, g₃)))))
 
-  module _ {M : Type 1} {𝓤 : URA M} {H : Heap 𝓤} {A : Atoms 𝓤} {K : Type 0} {W : Given 𝓤 H A} {Γ : List (Item 𝓤)} {E : Env 𝓤 H} {C : Calls 𝓤 H} {Λ : Loops 𝓤 H} {p : Kit.Post 𝓤 H} {d : Where} {rest : Code} {f : Name} {xs : List Operand} where
+  module _ {M : Type 1} {𝓤 : URA M} {H : Heap 𝓤} {A : Atoms 𝓤} {K : Type 0} {W : Given 𝓤 H A} {Γ : List (Item 𝓤)} {E : Env 𝓤 H} {C : Calls 𝓤 H} {Λ : Loops 𝓤 H} {p : types.Kit.Post 𝓤 H} {d : Where} {rest : Code} {f : Name} {xs : List Operand} where
     pub calls-four : K → FmC 𝓤 H (W .laws) C → (F : Contract 𝓤) → Triple 𝓤 (C f) F → (x : Loan → F .Ghost) (c : Controller) → Has c → (b o : ℕ)
         → (R : RattleType) (T : Item 𝓤) (O : Fml) {Y : Type 0} (L : Y → Fml) (Φ : R .Denot → Left Y → Type 0)
         → ((n : Loan) → ent 𝓤 (⋆ 𝓤 H A (Toks n T ∷ ‵ (Lent n c b o O) ∷ [])) (F .pre (x n))) → ((n : Loan) (v : Val) → ent 𝓤 (F .post (x n) v) (mean 𝓤 H A (Told R (Toks n T) (Last Y n L) Φ v)))

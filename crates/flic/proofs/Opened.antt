@@ -5,9 +5,7 @@ use prog.Model.{fieldsAt}
 use denote.Struct.Laws as LL
 use Rattle.calls.specs.declared.Controller.{Controller}
 use Rattle.calls.proofs.Controller as C
-use Rattle.calls.proofs.Controller.Laws as C′
-use Rattle.flic.proofs.Fields.{FieldsBack, fields-out, fields-in}
-use Rattle.flic.proofs.Ints.{Ints, ints, FitsInts, int-in, int-out}
+use Rattle.flic.proofs.{Fields.FieldsBack, Fields.fields-out, Fields.fields-in, Ints.Ints, Ints.ints, Ints.FitsInts, Ints.int-in, Ints.int-out}
 
 abbrev τs : Tys
 τs = tcons (tyArray (tyInt w8) 18432) (tcons (tyArray (tyInt w8) 2560) (tcons (tyArray (tyInt w64) 11) (tcons (tyArray (tyInt w8) 146) (tcons tyBool tnil))))
@@ -19,19 +17,19 @@ fields c = vcons (ints w8 (c .slots)) (vcons (ints w8 (c .order)) (vcons (ints w
 abbrev pub Has : Controller → Type 0
 Has c = FitsInts w8 18432 (c .slots) × FitsInts w8 2560 (c .order) × FitsInts w64 11 (c .counts) × FitsInts w8 146 (c .singles)
 
-has : (c : Controller) → Is C.the-row c (C′.lowered c ∷ []) → Has c
+has : (c : Controller) → Is C.the-row c (C.Laws.lowered c ∷ []) → Has c
 has c g = (
-  int-in w8 18432 (c .slots) (LL.owed C.the-type C′.the-laws c _ g .0),
-  int-in w8 2560 (c .order) (LL.owed C.the-type C′.the-laws c _ g .1 .0),
-  int-in w64 11 (c .counts) (LL.owed C.the-type C′.the-laws c _ g .1 .1 .0),
-  int-in w8 146 (c .singles) (LL.owed C.the-type C′.the-laws c _ g .1 .1 .1 .0),
+  int-in w8 18432 (c .slots) (LL.owed C.the-type C.Laws.the-laws c _ g .0),
+  int-in w8 2560 (c .order) (LL.owed C.the-type C.Laws.the-laws c _ g .1 .0),
+  int-in w64 11 (c .counts) (LL.owed C.the-type C.Laws.the-laws c _ g .1 .1 .0),
+  int-in w8 146 (c .singles) (LL.owed C.the-type C.Laws.the-laws c _ g .1 .1 .1 .0),
 )
 
-has-back : (c : Controller) → Has c → Is C.the-row c (C′.lowered c ∷ [])
-has-back c g = subst (Is C.the-row c) (C′.lowers .val-is c _ it) it
+has-back : (c : Controller) → Has c → Is C.the-row c (C.Laws.lowered c ∷ [])
+has-back c g = subst (Is C.the-row c) (C.Laws.lowers .val-is c _ it) it
   where
-    it : Is C.the-row c (LL.vals C.the-type C′.the-laws c)
-    it = LL.owes C.the-type C′.the-laws c
+    it : Is C.the-row c (LL.vals C.the-type C.Laws.the-laws c)
+    it = LL.owes C.the-type C.Laws.the-laws c
         (int-out w8 18432 (c .slots) (g .0), (int-out w8 2560 (c .order) (g .1), (int-out w64 11 (c .counts) (g .2), (int-out w8 146 (c .singles) (g .3), (refl, tt)))))
 
 module _ {M : Type 1} {𝓤 : URA M} where
@@ -70,23 +68,23 @@ module _ {M : Type 1} {𝓤 : URA M} {H : Heap 𝓤} {A : Atoms 𝓤} {K : Type 
       → (Has h → Seq K W (OpenAt H κ q γ h h b o Γ) G)
       → Seq K W (‵ (fobs γ (C.the-row .coded .code h)) ∷ ‵ (fbor κ (Body (mem C.the-row) b o γ)) ∷ ‵ (flft κ q) ∷ Γ) G
   opens-ctl t z h b o k =
-      opens t z C.the-row {h = h} b o (λ vs. spelt t C.the-row (Is C.the-row) (shows 𝓤 H A C.the-row) (λ c. C′.lowered c ∷ []) (C′.lowers .val-is) fullShare h vs b o $
-      move t (1 ∷ []) $ peeks t C.the-row (Is C.the-row) (shows 𝓤 H A C.the-row) h (C′.lowered h ∷ []) (λ g. drop t $ cells-out {W = W} t fullShare h b o $ k (has h g)))
+      opens t z C.the-row {h = h} b o (λ vs. spelt t C.the-row (Is C.the-row) (shows 𝓤 H A C.the-row) (λ c. C.Laws.lowered c ∷ []) (C.Laws.lowers .val-is) fullShare h vs b o $
+      move t (1 ∷ []) $ peeks t C.the-row (Is C.the-row) (shows 𝓤 H A C.the-row) h (C.Laws.lowered h ∷ []) (λ g. drop t $ cells-out {W = W} t fullShare h b o $ k (has h g)))
 
   pub closes-ctl : K → Soaks G → (h c : Controller) → Has c → {κ : Lft} {q : Share} {γ : GName} (b o : ℕ)
       → Step K W (‵ (fobs γ (C.the-row .coded .code c)) ∷ ‵ (fbor κ (Body (mem C.the-row) b o γ)) ∷ ‵ (flft κ q) ∷ Γ) G (OpenAt H κ q γ h c b o Γ) G
   closes-ctl t z h c g b o = step (λ k. cells-in {W = W} t fullShare c b o $
-      owned t C.the-row (Is C.the-row) (LL.makes C.the-type C′.the-plain 𝓤 H A) c _ (has-back c g) $ move t (1 ∷ 0 ∷ []) $ closes t z C.the-row c (C′.lowered c ∷ []) b o $ k)
+      owned t C.the-row (Is C.the-row) (LL.makes C.the-type C.Laws.the-plain 𝓤 H A) c _ (has-back c g) $ move t (1 ∷ 0 ∷ []) $ closes t z C.the-row c (C.Laws.lowered c ∷ []) b o $ k)
 
   pub looks-ctl : K → Soaks G → (h : Controller) {κ : Lft} {q : Share} (b o : ℕ)
       → ((s : Share) → Has h → Seq K W (Cells H s h b o (‵ (fobor κ q (partAt C.the-row s h b o)) ∷ Γ)) G)
       → Seq K W (‵ (fshr-bor κ (λ s. partAt C.the-row s h b o)) ∷ ‵ (flft κ q) ∷ Γ) G
   looks-ctl t z h b o k =
-      looks t z C.the-row (Is C.the-row) (shows 𝓤 H A C.the-row) (λ c. C′.lowered c ∷ []) (C′.lowers .val-is) (LL.copy C.the-type C′.the-copy 𝓤 H A W) h b o (λ s vs.
-      spelt t C.the-row (Is C.the-row) (shows 𝓤 H A C.the-row) (λ c. C′.lowered c ∷ []) (C′.lowers .val-is) s h vs b o $
-      move t (1 ∷ []) $ peeks t C.the-row (Is C.the-row) (shows 𝓤 H A C.the-row) h (C′.lowered h ∷ []) (λ g. drop t $ move t (2 ∷ []) $ drop t $ cells-out {W = W} t s h b o $ k s (has h g)))
+      looks t z C.the-row (Is C.the-row) (shows 𝓤 H A C.the-row) (λ c. C.Laws.lowered c ∷ []) (C.Laws.lowers .val-is) (LL.copy C.the-type C.Laws.the-copy 𝓤 H A W) h b o (λ s vs.
+      spelt t C.the-row (Is C.the-row) (shows 𝓤 H A C.the-row) (λ c. C.Laws.lowered c ∷ []) (C.Laws.lowers .val-is) s h vs b o $
+      move t (1 ∷ []) $ peeks t C.the-row (Is C.the-row) (shows 𝓤 H A C.the-row) h (C.Laws.lowered h ∷ []) (λ g. drop t $ move t (2 ∷ []) $ drop t $ cells-out {W = W} t s h b o $ k s (has h g)))
 
   pub shuts-ctl : K → Soaks G → (s : Share) (h : Controller) → Has h → {κ : Lft} {q : Share} (b o : ℕ)
       → Step K W (‵ (flft κ q) ∷ Γ) G (Cells H s h b o (‵ (fobor κ q (partAt C.the-row s h b o)) ∷ Γ)) G
   shuts-ctl t z s h g b o = step (λ k. cells-in {W = W} t s h b o $
-      owned t C.the-row (Is C.the-row) (LL.makes C.the-type C′.the-plain 𝓤 H A) h _ (has-back h g) $ move t (1 ∷ 0 ∷ []) $ shuts t z C.the-row s h (C′.lowered h ∷ []) b o $ k)
+      owned t C.the-row (Is C.the-row) (LL.makes C.the-type C.Laws.the-plain 𝓤 H A) h _ (has-back h g) $ move t (1 ∷ 0 ∷ []) $ shuts t z C.the-row s h (C.Laws.lowered h ∷ []) b o $ k)

@@ -11,10 +11,8 @@ use contract.Lifetimes.{Lfts}
 use contract.Monad.{Fun, fact}
 use contract.Notation.{connectives}
 use denote.Ref.{now}
-use denote.Triple.Entry.{Args, Res}
-use denote.Triple.Clauses.{Ended, AtExit, Clauses}
-use Rattle.rules.specs.State.{paperLimits}
-use Rattle.rules.specs.Machine.{setAttr, getAttr, writeList, playList}
+use denote.Triple.{Entry.Args, Entry.Res, Clauses.Ended, Clauses.AtExit, Clauses.Clauses}
+use Rattle.rules.specs.{State.paperLimits, Machine.setAttr, Machine.getAttr, Machine.writeList, Machine.playList}
 use Rattle.answers.specs.Answers.{saw}
 use Rattle.flic.specs.Surface.{Ready, Premise, Made, Requested, Taken}
 use Rattle.flic.proofs.flic_make as flic-make

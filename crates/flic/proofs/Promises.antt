@@ -3,44 +3,25 @@ use Rattle.numbers.proofs.Basics.{ℕ, _≤_, _≡_, refl, ap, sym, _∙_, subs
 use Rattle.numbers.proofs.Basics.{getD, take, replicate, length-take, length-map, List·getD-map, eqb, eq-eqb, ne-eqb}
 use Rattle.numbers.proofs.Basics.{eqb-true, eqb-false}
 use lib.ListN.{length-replicate}
-use Rattle.rules.specs.Bytes.{choose}
-use Rattle.rules.specs.State.{Limits, State, free, fresh, paperLimits, withPending}
-use Rattle.rules.specs.Outcome.{Outcome, refuseWith, refuse, need_else_⨾_, result, tell, Seen}
-use Rattle.rules.specs.Outcome.{Answer as Told}
-use Rattle.rules.specs.Requests.{enqueue, clearIrqs, clearIoIrq, setRequest, request}
+use Rattle.rules.specs.{Bytes.choose, State.Limits, State.State, State.free, State.fresh, State.paperLimits, State.withPending, Outcome.Outcome, Outcome.refuseWith, Outcome.refuse, Outcome.need_else_⨾_, Outcome.result, Outcome.tell, Outcome.Seen, Outcome.Answer as Told, Requests.enqueue, Requests.clearIrqs, Requests.clearIoIrq, Requests.setRequest, Requests.request, Invariant.All, Invariant.Sound, Take.takes, MoveList.plays}
 use Rattle.rules.specs.Machine.{Ask, setAttr, getAttr, guestTake, writeList, playList, outcome, step, answerOf}
-use Rattle.rules.proofs.Checks.{passes, fails, chosen, passed}
-use Rattle.rules.specs.Invariant.{All, Sound}
-use Rattle.rules.proofs.Lists.{all-replicate}
-use Rattle.rules.proofs.Outcomes.{Known, Plays, known-outcome, never-zero}
-use Rattle.rules.proofs.Reachable.{kept-step, fresh-sound}
-use Rattle.answers.specs.declared.Answer.{Answer}
-use Rattle.adapters.specs.declared.Device.{Device}
-use Rattle.adapters.specs.declared.Place.{Place}
-use Rattle.adapters.specs.Values.{placeOf, deviceOf, unused, Canonical}
-use Rattle.list_image.specs.Image.{imageSize, unpacked}
-use Rattle.list_image.proofs.Laws.{places-all, places-take}
+use Rattle.rules.proofs.{Checks.passes, Checks.fails, Checks.chosen, Checks.passed, Lists.all-replicate, Outcomes.Known, Outcomes.Plays, Outcomes.known-outcome, Outcomes.never-zero, Reachable.kept-step, Reachable.fresh-sound}
+use Rattle.answers.specs.{declared.Answer.Answer, Answers.Answers, Answers.answered, Answers.saw}
+use Rattle.adapters.specs.{declared.Device.Device, declared.Place.Place, Values.placeOf, Values.deviceOf, Values.unused, Values.Canonical}
+use Rattle.list_image.specs.{Image.imageSize, Image.unpacked, Places.placesOf, Places.AllCanonical}
+use Rattle.list_image.proofs.{Laws.places-all, Laws.places-take, Packed.unpacked-zero, Packed.unpacked-table}
 use Rattle.list_write.specs.Write.{Written}
-use Rattle.list_image.proofs.Packed.{unpacked-zero, unpacked-table}
 use Rattle.lent_table.specs.Table.{snapTo, restored}
 use Rattle.lent_requests.specs.Requests.{ModesSet, PlaceSet}
 use Rattle.lent_table.proofs.Tables.{snap-all, restored-all, restored-whole}
-use Rattle.lent_requests.proofs.Maps.{map-replicate}
-use Rattle.lent_requests.proofs.Laws.{canonical-unused}
-use Rattle.calls.specs.declared.Controller.{Controller}
-use Rattle.list_play.specs.declared.Played.{Played}
-use Rattle.list_play.specs.Play.{imageState}
+use Rattle.lent_requests.proofs.{Maps.map-replicate, Laws.canonical-unused}
+use Rattle.calls.specs.{declared.Controller.Controller, Limits.limitsOf, Inner.controller, Inner.pendingIn, Inner.Began, Inner.notedIn, Inner.Injected, Inner.Got}
+use Rattle.list_play.specs.{declared.Played.Played, Play.imageState}
 use Rattle.list_play.proofs.Sized.{paper-sized}
-use Rattle.calls.specs.Limits.{limitsOf}
 use Rattle.calls.proofs.Limits.{limits-sized, limits-made, limits-kept}
 use Rattle.flic.specs.Surface.{stateOf, Valid, Steps, Made, Requested, Taken}
-use Rattle.calls.specs.Inner.{controller, pendingIn, Began, notedIn, Injected, Got}
-use Rattle.answers.specs.Answers.{Answers, answered, saw}
 use Rattle.store_queues.specs.Queues.{Held}
 use Rattle.store.specs.Memory.{pendingOf}
-use Rattle.rules.specs.Take.{takes}
-use Rattle.rules.specs.MoveList.{plays}
-use Rattle.list_image.specs.Places.{placesOf, AllCanonical}
 
 -- a state that a step leads to is sound
 pub next-sound : (ask : Ask) (c c′ : Controller) (d d′ : Device) (t t′ : List Place) (b : List ℕ) (x : Seen) → limitsOf c′ ≡ limitsOf c

@@ -4,24 +4,19 @@ use Rattle.numbers.proofs.Basics.{true≢false, Option, none, some, List, [], _
 use Rattle.numbers.proofs.Basics.{append-nil, arith, zero-add, suc-add, length, getD, take, drop, replicate}
 use Rattle.numbers.proofs.Basics.{length-append, length-map, take-at, drop-at}
 use lib.ListN.{length-replicate}
-use Rattle.rules.specs.Bytes.{choose}
+use Rattle.rules.specs.{Bytes.choose, Invariant.All, Invariant.Maybe, Invariant.SoundPlace, Invariant.Whole, Invariant.IsKind, Invariant.SoundPending, Invariant.Sound}
 use Rattle.rules.specs.State as rules
 use Rattle.rules.specs.State.{Limits, State, Pending, Record, free, holds, queued, listing}
-use Rattle.rules.specs.Invariant.{All, Maybe, SoundPlace, Whole, IsKind, SoundPending, Sound}
-use Rattle.rules.proofs.Lists.{flatten-append}
-use Rattle.rules.proofs.Reachable.{listing-sendable}
-use Rattle.adapters.specs.declared.Place.{Place}
-use Rattle.adapters.specs.Values.{placeOf, unused, Canonical}
+use Rattle.rules.proofs.{Lists.flatten-append, Reachable.listing-sendable}
+use Rattle.adapters.specs.{declared.Place.Place, Values.placeOf, Values.unused, Values.Canonical}
 use Rattle.store_queues.specs.Slots.{slotCount, slot, Apart}
 use Rattle.store_queues.specs.Queues.{row, rows, each, total, used, spare, listed, queues, sum, bits, upFrom, Held}
 use Rattle.store_queues.proofs.Laws.{length-up, up-once}
 use Rattle.store_singles.specs.Singles.{ifThere, serviceOf, mchkOf}
 use Rattle.store.specs.Memory.{pendingOf}
-use Rattle.calls.specs.declared.Controller.{Controller}
-use Rattle.calls.specs.Limits.{limitsOf}
+use Rattle.calls.specs.{declared.Controller.Controller, Limits.limitsOf}
 use Rattle.calls.proofs.Limits.{limits-sized, limits-kept}
-use Rattle.flic.specs.Surface.{stateOf, Ready, Valid}
-use Rattle.flic.specs.Chain.{Host}
+use Rattle.flic.specs.{Surface.stateOf, Surface.Ready, Surface.Valid, Chain.Host}
 
 -- ---- places
 placeFor : rules.Place → Place

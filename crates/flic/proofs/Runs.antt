@@ -7,29 +7,16 @@ use lib.ListN.{take as first}
 use Rattle.rules.specs.State.{Limits, State, Pending, recordBytes, queued, paperLimits, fresh, withPending}
 use Rattle.rules.specs.Outcome.{Outcome, refuseWith, accept, resetWith, tellWith, tell, result, Seen, answering}
 use Rattle.rules.specs.Machine.{Ask, setAttr, getAttr, guestTake, writeList, playList, Call, outcome, step, answerOf}
-use Rattle.rules.specs.MoveList.{listRequests, total}
-use Rattle.rules.specs.Take.{Handed, handed, handsOut, takes}
-use Rattle.rules.proofs.Checks.{passes, fails}
-use Rattle.rules.specs.Invariant.{Sound}
-use Rattle.rules.proofs.Reachable.{kept-step, fresh-sound}
-use Rattle.rules.proofs.Shapes.{Sets, Gets, shaped}
-use Rattle.rules.proofs.Outcomes.{Known, Plays, known-outcome}
-use Rattle.answers.specs.declared.Answer.{Answer}
-use Rattle.adapters.specs.declared.Device.{Device}
-use Rattle.adapters.specs.declared.Place.{Place}
-use Rattle.adapters.specs.Values.{unused, placeOf, deviceOf}
+use Rattle.rules.specs.{MoveList.listRequests, MoveList.total, Take.Handed, Take.handed, Take.handsOut, Take.takes, Invariant.Sound}
+use Rattle.rules.proofs.{Checks.passes, Checks.fails, Reachable.kept-step, Reachable.fresh-sound, Shapes.Sets, Shapes.Gets, Shapes.shaped, Outcomes.Known, Outcomes.Plays, Outcomes.known-outcome}
+use Rattle.answers.specs.{declared.Answer.Answer, Answers.answered, Answers.saw}
+use Rattle.adapters.specs.{declared.Device.Device, declared.Place.Place, Values.unused, Values.placeOf, Values.deviceOf}
 use Rattle.store.specs.Memory.{pendingOf}
-use Rattle.calls.specs.declared.Controller.{Controller}
-use Rattle.calls.specs.Limits.{limitsOf}
+use Rattle.calls.specs.{declared.Controller.Controller, Limits.limitsOf}
 use Rattle.calls.proofs.Limits.{limits-sized, limits-made, limits-kept}
-use Rattle.flic.specs.Surface.{stateOf, Valid, Requested, Taken}
+use Rattle.flic.specs.{Surface.stateOf, Surface.Valid, Surface.Requested, Surface.Taken, Claim.Fresh, Claim.machine, Claim.Moved}
 use Rattle.flic.specs.Chain.{Host, Lends, its-own, another, asked, Leaves, Ran, end, asks, take, LentPremise, Premises}
-use Rattle.flic.proofs.Promises.{by-length, Tabled, refused-table}
-use Rattle.flic.proofs.Follows.{hostState, Good, own-length, tabled, requested, taken}
-use Rattle.flic.specs.Claim.{Fresh, machine, Moved}
-use Rattle.flic.proofs.Claim.{fresh-good, ran-good, good₁, good-second}
-use Rattle.flic.proofs.Represent.{keep, Represents, represent}
-use Rattle.answers.specs.Answers.{answered, saw}
+use Rattle.flic.proofs.{Promises.by-length, Promises.Tabled, Promises.refused-table, Follows.hostState, Follows.Good, Follows.own-length, Follows.tabled, Follows.requested, Follows.taken, Claim.fresh-good, Claim.ran-good, Claim.good₁, Claim.good-second, Represent.keep, Represent.Represents, Represent.represent}
 
 -- ---- every contract has an answer
 module _ (c : Controller) (d : Device) (t : List Place) where

@@ -16,33 +16,21 @@ use ghost.Atoms.{Atoms}
 use contract.Lifetimes.{Lfts}
 use contract.Monad.{Fun, fact, factI, fact-mono}
 use denote.Ref.{now}
-use denote.Triple.Entry.{Args, Res}
-use denote.Triple.Clauses.{Ended, AtExit, Clauses}
-use Rattle.rules.specs.Bytes.{choose}
-use Rattle.rules.specs.State.{State, paperLimits, free, fresh}
-use Rattle.rules.specs.Outcome.{Outcome, refuseWith, accept, resetWith, refuse, result, answering}
-use Rattle.rules.specs.Outcome.{Answer as Told}
+use denote.Triple.{Entry.Args, Entry.Res, Clauses.Ended, Clauses.AtExit, Clauses.Clauses}
+use Rattle.rules.specs.{Bytes.choose, State.State, State.paperLimits, State.free, State.fresh, Outcome.Outcome, Outcome.refuseWith, Outcome.accept, Outcome.resetWith, Outcome.refuse, Outcome.result, Outcome.answering, Outcome.Answer as Told, Invariant.All}
 use Rattle.rules.specs.Machine.{Ask, setAttr, getAttr, guestTake, writeList, playList, outcome, step, answerOf}
-use Rattle.rules.specs.Invariant.{All}
 use Rattle.rules.proofs.Outcomes.{Known, Plays, known-outcome, plays-fresh, Answered, every-answer}
-use Rattle.answers.specs.declared.Answer.{Answer}
-use Rattle.adapters.specs.declared.Device.{Device}
-use Rattle.adapters.specs.declared.Place.{Place}
-use Rattle.adapters.specs.Values.{placeOf, unused, Canonical}
-use Rattle.calls.specs.declared.Controller.{Controller}
-use Rattle.calls.specs.Limits.{limitsOf}
-use Rattle.flic.specs.Surface.{stateOf, Steps, Requested, Taken, Made}
-use Rattle.flic.specs.Chain.{asked}
-use Rattle.flic.specs.Safety.{SafeRequest, SafeTake, IsFresh, playing, SafePlay, SafeMake}
-use Rattle.flic.proofs.Promises.{right-table, by-length}
-use Rattle.flic.proofs.Promises.{Tabled, refused-table}
+use Rattle.answers.specs.{declared.Answer.Answer, Answers.answered, Answers.saw}
+use Rattle.adapters.specs.{declared.Device.Device, declared.Place.Place, Values.placeOf, Values.unused, Values.Canonical}
+use Rattle.calls.specs.{declared.Controller.Controller, Limits.limitsOf}
+use Rattle.flic.specs.{Surface.stateOf, Surface.Steps, Surface.Requested, Surface.Taken, Surface.Made, Chain.asked, Safety.SafeRequest, Safety.SafeTake, Safety.IsFresh, Safety.playing, Safety.SafePlay, Safety.SafeMake}
+use Rattle.flic.proofs.{Promises.right-table, Promises.by-length, Promises.Tabled, Promises.refused-table}
 use Rattle.flic.proofs.flic_make as flic-make
 use Rattle.flic.proofs.flic_set as flic-set
 use Rattle.flic.proofs.flic_get as flic-get
 use Rattle.flic.proofs.flic_take as flic-take
 use Rattle.flic.proofs.flic_write_list as flic-write
 use Rattle.flic.proofs.flic_play_list as flic-play
-use Rattle.answers.specs.Answers.{answered, saw}
 
 -- ---- from the machine's step
 module _ (ask : Ask) (c c′ : Controller) (d d′ : Device) (t t′ : List Place) (b b′ : List ℕ) (r : Answer)

@@ -1,21 +1,14 @@
 -- From a request's code, and what it changes where that is 0, to what the request promises.
 use Rattle.numbers.proofs.Basics.{ℕ, _≡_, refl, ap, sym, subst, _∙_, Bool, true, false, List, map, arith, getD, set}
 use Rattle.numbers.proofs.Basics.{length-set, List·getD-map, eqb, eqb-false}
-use Rattle.rules.specs.Bytes.{choose}
-use Rattle.rules.specs.State.{Limits, State, free, withDevice}
-use Rattle.rules.specs.Outcome.{result, tell}
-use Rattle.rules.specs.Requests.{setRequest, request}
-use Rattle.rules.specs.Machine.{answerOf}
+use Rattle.rules.specs.{Bytes.choose, State.Limits, State.State, State.free, State.withDevice, Outcome.result, Outcome.tell, Requests.setRequest, Requests.request, Machine.answerOf}
 use Rattle.rules.proofs.Lists.{all-set, all-get}
-use Rattle.adapters.specs.declared.Device.{Device}
-use Rattle.adapters.specs.declared.Place.{Place}
-use Rattle.adapters.specs.Values.{placeOf, deviceOf, deviceFrom, unused, Canonical, withMasked}
+use Rattle.adapters.specs.{declared.Device.Device, declared.Place.Place, Values.placeOf, Values.deviceOf, Values.deviceFrom, Values.unused, Values.Canonical, Values.withMasked}
 use Rattle.list_image.specs.Image.{imageSize}
 use Rattle.adapter_requests.specs.States.{payloadId, onPlace, decided, placeAfter, withPlace, modesAfter, Within, changeOf}
 use Rattle.adapter_requests.proofs.Laws.{decided-refused, decided-accepted, on-place-7}
 use Rattle.lent_requests.specs.Requests.{ModesSet, withTable, PlaceSet}
-use Rattle.lent_requests.proofs.Answered.{refused, accepted}
-use Rattle.lent_requests.proofs.Maps.{map-set}
+use Rattle.lent_requests.proofs.{Answered.refused, Answered.accepted, Maps.map-set}
 
 -- ---- the device record
 module _ (ais : Bool) (group attr : ℕ) (d : Device) (b : List ℕ) (code : ℕ) where

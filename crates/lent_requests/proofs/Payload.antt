@@ -5,17 +5,12 @@
 --     asks-table     the table's row ∷ token ∷ payload ∷ Γ  ⟶  the row of zs ∷ token ∷ payload ∷ Γ
 -- `wrap` puts what the callee's other parameters own around the payload.
 use Rattle.lent_table.proofs.Walk.{ℕ, [], _∷_, List, length, URA, fullShare, named, Val, ent, flent, GName, Lft, Share, Fml, ftrue, fsep, flft, Heap, Env, Calls, Loops, Atoms, sem, Given, Item, Seq, runs, lands, mean, ‵, ⋆, _⊛_, _$_, move, drop, use1, split, join, fsplit, fjoin, Opds, Body, FmC, RattleType, Is, shows, mem, cellAt, u8, sliceVal, ShrSlice, Room, shr-slice-copy, Held, row, owned, facts, nothing, spelt, Contract, Triple}
-use types.Kit as Kit
 use mir.Syntax.{Name, Place as Where, Body as Code, Opd as Operand, seq, call}
 use denote.Struct.Laws as LL
-use Rattle.adapters.specs.declared.Device.{Device}
-use Rattle.adapters.specs.declared.Place.{Place}
+use Rattle.adapters.specs.declared.{Device.Device, Place.Place}
 use Rattle.adapters.proofs.Device as D
-use Rattle.adapters.proofs.Device.Laws as D′
 use Rattle.adapters.proofs.Place as P
-use Rattle.lent_table.proofs.Rows.{lends-row, row-back, lends-cell, cell-back}
-use Rattle.lent_table.proofs.Gives.{at-list, last-list, last-value, Lent, LentCell}
-use Rattle.lent_table.proofs.Called.{Told, calls-told}
+use Rattle.lent_table.proofs.{Rows.lends-row, Rows.row-back, Rows.lends-cell, Rows.cell-back, Gives.at-list, Gives.last-list, Gives.last-value, Gives.Lent, Gives.LentCell, Called.Told, Called.calls-told}
 
 module _ (κ : Lft) (b o : ℕ) (γ : GName) (ps : List ℕ) where
   abbrev pub payload : Val
@@ -24,7 +19,7 @@ module _ (κ : Lft) (b o : ℕ) (γ : GName) (ps : List ℕ) where
   abbrev pub Payload : Fml
   Payload = ShrSlice (named 0) κ u8 .own (at-list b o γ ps) (payload ∷ [])
 
-module _ {M : Type 1} {𝓤 : URA M} {H : Heap 𝓤} {A : Atoms 𝓤} {K : Type 0} {W : Given 𝓤 H A} {Γ : List (Item 𝓤)} {E : Env 𝓤 H} {C : Calls 𝓤 H} {Λ : Loops 𝓤 H} {p : Kit.Post 𝓤 H} {d : Where} {rest : Code} {f : Name} {xs : List Operand} where
+module _ {M : Type 1} {𝓤 : URA M} {H : Heap 𝓤} {A : Atoms 𝓤} {K : Type 0} {W : Given 𝓤 H A} {Γ : List (Item 𝓤)} {E : Env 𝓤 H} {C : Calls 𝓤 H} {Λ : Loops 𝓤 H} {p : types.Kit.Post 𝓤 H} {d : Where} {rest : Code} {f : Name} {xs : List Operand} where
   pub asks-slice : K → FmC 𝓤 H (W .laws) C → (F : Contract 𝓤) → Triple 𝓤 (C f) F → (κ : Lft) (q : Share) (b o : ℕ) (γ : GName) (ps : List ℕ) (x : F .Ghost)
       → (wrap : Fml → Fml) → ent 𝓤 (sem 𝓤 H A (fsep (Payload κ b o γ ps) ftrue)) (sem 𝓤 H A (wrap (fsep (Payload κ b o γ ps) ftrue)))
       → (R : RattleType) {X : Type 0} (Last : X → Fml) (Φ : R .Denot → X → Type 0)
@@ -57,19 +52,19 @@ module _ {M : Type 1} {𝓤 : URA M} {H : Heap 𝓤} {A : Atoms 𝓤} {K : Type 
       -- [the tokens; what is left; the payload; the lender's part; Γ]
       split t $ move t (1 ∷ []) $ split t $ move t (1 ∷ []) $ drop t $ move t (2 ∷ []) $ fsplit t $ move t (1 ∷ []) $ drop t $ move t (0 ∷ 2 ∷ 4 ∷ 1 ∷ 3 ∷ []) $ k z v (w .0) φ is)
 
-  pub asks-record : K → FmC 𝓤 H (W .laws) C → (F : Contract 𝓤) → Triple 𝓤 (C f) F → (κ : Lft) (q : Share) (b o : ℕ) (γ : GName) (ps : List ℕ) (h : Device) (bd od : ℕ) → Is D.the-row h (D′.lowered h ∷ [])
+  pub asks-record : K → FmC 𝓤 H (W .laws) C → (F : Contract 𝓤) → Triple 𝓤 (C f) F → (κ : Lft) (q : Share) (b o : ℕ) (γ : GName) (ps : List ℕ) (h : Device) (bd od : ℕ) → Is D.the-row h (D.Laws.lowered h ∷ [])
       → (x : ℕ → GName → F .Ghost) (wrap : Fml → Fml) → ent 𝓤 (sem 𝓤 H A (fsep (Payload κ b o γ ps) ftrue)) (sem 𝓤 H A (wrap (fsep (Payload κ b o γ ps) ftrue)))
       → (R : RattleType) {Y : Type 0} (others : Y → Fml) (Φ : R .Denot → Device → Type 0)
       → ((ν : ℕ) (δ : GName) → ent 𝓤 (⋆ 𝓤 H A ((‵ (flft (ν ∷ []) fullShare) ⊛ ‵ (flft κ q) ⊛ ‵ ftrue) ∷ ‵ (fsep (LentCell D.the-row h bd od (ν ∷ []) δ) (wrap (fsep (Payload κ b o γ ps) ftrue))) ∷ [])) (F .pre (x ν δ)))
       → ((ν : ℕ) (δ : GName) (v : Val) → ent 𝓤 (F .post (x ν δ) v) (mean 𝓤 H A (Told R (‵ (flft (ν ∷ []) fullShare) ⊛ ‵ (flft κ q) ⊛ ‵ ftrue) (λ (w : Device × Y). fsep (last-value D.the-row δ (w .0)) (others (w .1))) (λ z w. Φ z (w .0)) v)))
       → ((ν : ℕ) (δ : GName) (i j k : Item 𝓤) → Opds K W (i ∷ j ∷ k ∷ Γ) E xs (F .args (x ν δ)))
-      → ((z : R .Denot) (v : Val) (y : Device) → Φ z y → Is R z (v ∷ []) → Is D.the-row y (D′.lowered y ∷ []) → Seq K W (‵ (cellAt fullShare (D.the-row .mir) (D′.lowered y ∷ []) bd od) ∷ ‵ (flft κ q) ∷ ‵ (Payload κ b o γ ps) ∷ Γ) (lands C Λ E d v rest p))
-      → Seq K W (‵ (cellAt fullShare (D.the-row .mir) (D′.lowered h ∷ []) bd od) ∷ ‵ (flft κ q) ∷ ‵ (Payload κ b o γ ps) ∷ Γ) (runs C Λ E (seq (call f xs d) rest) p)
+      → ((z : R .Denot) (v : Val) (y : Device) → Φ z y → Is R z (v ∷ []) → Is D.the-row y (D.Laws.lowered y ∷ []) → Seq K W (‵ (cellAt fullShare (D.the-row .mir) (D.Laws.lowered y ∷ []) bd od) ∷ ‵ (flft κ q) ∷ ‵ (Payload κ b o γ ps) ∷ Γ) (lands C Λ E d v rest p))
+      → Seq K W (‵ (cellAt fullShare (D.the-row .mir) (D.Laws.lowered h ∷ []) bd od) ∷ ‵ (flft κ q) ∷ ‵ (Payload κ b o γ ps) ∷ Γ) (runs C Λ E (seq (call f xs d) rest) p)
   asks-record t fm F known κ q b o γ ps h bd od gh x wrap grows R others Φ goes told os k =
-      owned t D.the-row (Is D.the-row) (LL.makes D.the-type D′.the-plain 𝓤 H A) h _ gh $ move t (1 ∷ 0 ∷ []) $ lends-cell t tt D.the-row h (D′.lowered h ∷ []) bd od (λ ν δ.
+      owned t D.the-row (Is D.the-row) (LL.makes D.the-type D.Laws.the-plain 𝓤 H A) h _ gh $ move t (1 ∷ 0 ∷ []) $ lends-cell t tt D.the-row h (D.Laws.lowered h ∷ []) bd od (λ ν δ.
       passes-both t fm F known κ q b o γ ps (x ν δ) ν (LentCell D.the-row h bd od (ν ∷ []) δ) (flent (ν ∷ []) (Body (mem D.the-row) bd od δ)) wrap grows R (last-value D.the-row δ) others Φ (goes ν δ) (told ν δ) (os ν δ) (λ z v y φ is.
-      move t (1 ∷ 2 ∷ 0 ∷ []) $ cell-back t tt D.the-row bd od ν δ y (λ us. spelt t D.the-row (Is D.the-row) (shows 𝓤 H A D.the-row) (LL.vals D.the-type D′.the-laws) (LL.tells D.the-type D′.the-laws) fullShare y us bd od $
-      move t (1 ∷ []) $ facts t D.the-row (Is D.the-row) (shows 𝓤 H A D.the-row) y (D′.lowered y ∷ []) (λ gy. k z v y φ is gy))))
+      move t (1 ∷ 2 ∷ 0 ∷ []) $ cell-back t tt D.the-row bd od ν δ y (λ us. spelt t D.the-row (Is D.the-row) (shows 𝓤 H A D.the-row) (LL.vals D.the-type D.Laws.the-laws) (LL.tells D.the-type D.Laws.the-laws) fullShare y us bd od $
+      move t (1 ∷ []) $ facts t D.the-row (Is D.the-row) (shows 𝓤 H A D.the-row) y (D.Laws.lowered y ∷ []) (λ gy. k z v y φ is gy))))
 
   pub asks-table : K → FmC 𝓤 H (W .laws) C → (F : Contract 𝓤) → Triple 𝓤 (C f) F → (κ : Lft) (q : Share) (b o : ℕ) (γ : GName) (ps : List ℕ) (ys : List Place) (bt ot : ℕ) → Room P.the-row (length ys)
       → (x : ℕ → GName → F .Ghost) (wrap : Fml → Fml) → ent 𝓤 (sem 𝓤 H A (fsep (Payload κ b o γ ps) ftrue)) (sem 𝓤 H A (wrap (fsep (Payload κ b o γ ps) ftrue)))

@@ -3,7 +3,6 @@
 --     calls-told   Tk ∷ P ∷ Γ  ⟶  Tk ∷ Last w ∷ Γ, with Φ z w, the result's machine value v, and that v is z's
 --     calls-plain  Γ  ⟶  Γ, the same for a callee that is lent nothing
 use Rattle.lent_table.proofs.Walk.{[], _∷_, List, URA, Val, SProp, ent, sep, emp, via, Fml, ftrue, Heap, Env, Calls, Loops, Atoms, fact, Given, Item, mean, Seq, runs, lands, ‵, raw, some, later, ⋆, _⊛_, _$_, move, drop, use1, use2, split, pick, await, Opds, FmC, RattleType, Is, shows, peeks, heard, nothing, Contract, Triple, calls-at, comm∗, emp∗}
-use types.Kit as Kit
 use types.Kit.{mean}
 use mir.Syntax.{Name, Place as Where, Body as Code, Opd as Operand, seq, call}
 
@@ -15,7 +14,7 @@ asks-nothing 𝓤 P = via 𝓤 (sep 𝓤 (emp 𝓤) P) (emp∗ 𝓤 P) (comm∗ 
 abbrev pub Told : {M : Type 1} {𝓤 : URA M} (R : RattleType) {X : Type 0} → Item 𝓤 → (X → Fml) → (R .Denot → X → Type 0) → Val → Item 𝓤
 Told {𝓤 = 𝓤} R {X} Tk Last Φ v = later (some (λ (z : R .Denot). (Tk ⊛ ‵ (R .own z (v ∷ []))) ⊛ some (λ (w : X). ‵ (Last w) ⊛ raw (fact 𝓤 (Φ z w)))))
 
-module _ {M : Type 1} {𝓤 : URA M} {H : Heap 𝓤} {A : Atoms 𝓤} {K : Type 0} {W : Given 𝓤 H A} {Γ : List (Item 𝓤)} {E : Env 𝓤 H} {C : Calls 𝓤 H} {Λ : Loops 𝓤 H} {p : Kit.Post 𝓤 H} {d : Where} {rest : Code} {f : Name} {xs : List Operand} where
+module _ {M : Type 1} {𝓤 : URA M} {H : Heap 𝓤} {A : Atoms 𝓤} {K : Type 0} {W : Given 𝓤 H A} {Γ : List (Item 𝓤)} {E : Env 𝓤 H} {C : Calls 𝓤 H} {Λ : Loops 𝓤 H} {p : types.Kit.Post 𝓤 H} {d : Where} {rest : Code} {f : Name} {xs : List Operand} where
   pub calls-told : K → FmC 𝓤 H (W .laws) C → (F : Contract 𝓤) → Triple 𝓤 (C f) F → (x : F .Ghost) (R : RattleType) (Tk : Item 𝓤) (P : Fml) {X : Type 0} (Last : X → Fml) (Φ : R .Denot → X → Type 0)
       → ent 𝓤 (⋆ 𝓤 H A (Tk ∷ ‵ P ∷ [])) (F .pre x) → ((v : Val) → ent 𝓤 (F .post x v) (mean 𝓤 H A (Told R Tk Last Φ v))) → ((i : Item 𝓤) → Opds K W (i ∷ Γ) E xs (F .args x))
       → ((z : R .Denot) (v : Val) (w : X) → Φ z w → Is R z (v ∷ []) → Seq K W (Tk ∷ ‵ (Last w) ∷ Γ) (lands C Λ E d v rest p))

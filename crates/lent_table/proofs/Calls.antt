@@ -3,30 +3,20 @@
 --     looks-up-shared, snapshots-shared    the caller passes its own `&[Place]` on: it holds the token of the slice's lifetime and what the slice owns (Gives.antt's `Shared`), and keeps both
 --     registers, masks, restores           row ys ∷ Γ  ⟶  row of the new table ∷ Γ
 use Rattle.lent_table.proofs.Walk.{refl, ℕ, _<_, _^_, Bool, [], _∷_, List, length, getD, set, URA, fullShare, w64, Val, vunit, vint, vbool, SProp, ent, sep, snd∗, exE, id⊢, GName, Lft, Share, ftrue, flft, Memory, Routine, Heap, Env, Calls, Loops, Atoms, sem, Fun, Given, Item, Seq, runs, lands, ‵, _⊛_, _$_, _∵_, !, qed, move, join, fjoin, frame, done, Opds, FmC, Is, Boolean, bool-makes, uint-makes, u64, sliceVal, Room, row, owned, nothing, tripleOf, Contract, Triple, ensured, lasts}
-use types.Kit as Kit
 use mir.Syntax.{Place as Where, Body as Code, Opd as Operand, seq, call}
 use denote.Struct.Laws as LL
 use Rattle.numbers.specs.declared.AdapterId.{AdapterId}
 use Rattle.numbers.proofs.AdapterId as I
-use Rattle.numbers.proofs.AdapterId.Laws as I′
-use Rattle.adapters.specs.declared.Place.{Place}
-use Rattle.adapters.specs.Values.{unused, withMasked}
+use Rattle.adapters.specs.{declared.Place.Place, Values.unused, Values.withMasked}
 use Rattle.adapters.proofs.Place as T
-use Rattle.adapters.proofs.Place.Laws as T′
 use Rattle.lent_table.specs.Table.{snapTo, restored}
-use Rattle.lent_table.proofs.Places.{R, low, Fits, FitsId, makes, makes-id}
-use Rattle.lent_table.proofs.Images.{Image, low-image, FitsImage, image-tells, image-makes}
+use Rattle.lent_table.proofs.{Places.R, Places.low, Places.Fits, Places.FitsId, Places.makes, Places.makes-id, Images.Image, Images.low-image, Images.FitsImage, Images.image-tells, Images.image-makes, look_up.Symbol.name as #look-up, snapshot.Symbol.name as #snapshot, register.Symbol.name as #register, mask.Symbol.name as #mask, restore.Symbol.name as #restore}
 use Rattle.lent_table.proofs.Gives.{at-list, no-others, Gives, Shared, Lent, gives-row, gives-shared, changes-row}
 use Rattle.lent_table.proofs.look_up as look-up
-use Rattle.lent_table.proofs.look_up.Symbol.{name as #look-up}
 use Rattle.lent_table.proofs.snapshot as snapshot
-use Rattle.lent_table.proofs.snapshot.Symbol.{name as #snapshot}
 use Rattle.lent_table.proofs.register as register
-use Rattle.lent_table.proofs.register.Symbol.{name as #register}
 use Rattle.lent_table.proofs.mask as mask
-use Rattle.lent_table.proofs.mask.Symbol.{name as #mask}
 use Rattle.lent_table.proofs.restore as restore
-use Rattle.lent_table.proofs.restore.Symbol.{name as #restore}
 use Rattle.list_image.specs.Image.{imageSize}
 
 module _ {M : Type 1} (𝓤 : URA M) (H : Heap 𝓤) (A : Atoms 𝓤) (mem′ : Memory → SProp 𝓤) (run : Routine → Fun 𝓤) where
@@ -51,17 +41,17 @@ module _ {M : Type 1} (𝓤 : URA M) (H : Heap 𝓤) (A : Atoms 𝓤) (mem′ : 
 
     module _ (κ : Lft) (q : Share) (γ : GName) where
       abbrev to-look : AdapterId → LookUp .Ghost
-      to-look id = (((κ, tt), (q, tt), tt, (at-list b o γ ys, (id, tt)), (s ∷ [], (I′.lowered id ∷ [], tt))), tt)
+      to-look id = (((κ, tt), (q, tt), tt, (at-list b o γ ys, (id, tt)), (s ∷ [], (I.Laws.lowered id ∷ [], tt))), tt)
 
       goes-look : (id : AdapterId) → FitsId id → ent 𝓤 (sep 𝓤 (A .lft κ q) (sem 𝓤 H A (Shared R ys b o κ γ))) (LookUp .pre (to-look id))
       goes-look id g =
           qed W (‵ (flft κ q) ∷ ‵ (Shared R ys b o κ γ) ∷ []) ∵ nothing ! $ move ! (1 ∷ 0 ∷ []) $ join ! $
           nothing ! $ owned ! I.the-row (Is I.the-row) (makes-id 𝓤 H A W) id _ g $ fjoin ! $ move ! (2 ∷ 0 ∷ []) $ fjoin ! $ move ! (1 ∷ 0 ∷ []) $ join ! $ frame ! $ done !
 
-      looked : (id : AdapterId) → Gives 𝓤 H A LookUp (to-look id) (‵ (flft κ q) ⊛ ‵ ftrue) R (LL.vals T.the-type T′.the-laws) (getD ys (id .0) unused)
+      looked : (id : AdapterId) → Gives 𝓤 H A LookUp (to-look id) (‵ (flft κ q) ⊛ ‵ ftrue) R (LL.vals T.the-type T.Laws.the-laws) (getD ys (id .0) unused)
       looked id =
           record {
-            tells = LL.tells T.the-type T′.the-laws;
+            tells = LL.tells T.the-type T.Laws.the-laws;
             Said = ensured 𝓤 H A look-up.ended (look-up.clauses 𝓤 H A mem′ run) (κ, tt) (at-list b o γ ys, (id, tt)) tt;
             shape = λ w. id⊢ 𝓤 _;
             told = λ r. exE 𝓤 _ (λ ws. snd∗ 𝓤 (sem 𝓤 H A (lasts look-up.ended (κ, tt) (at-list b o γ ys, (id, tt)) ws)) _);
@@ -83,7 +73,7 @@ module _ {M : Type 1} (𝓤 : URA M) (H : Heap 𝓤) (A : Atoms 𝓤) (mem′ : 
           }
 
       abbrev to-register : AdapterId → Place → Register .Ghost
-      to-register id a = (((κ, tt), (q, tt), tt, (at-list b o γ ys, (id, (a, tt))), (s ∷ [], (I′.lowered id ∷ [], (T′.lowered a ∷ [], tt)))), tt)
+      to-register id a = (((κ, tt), (q, tt), tt, (at-list b o γ ys, (id, (a, tt))), (s ∷ [], (I.Laws.lowered id ∷ [], (T.Laws.lowered a ∷ [], tt)))), tt)
 
       goes-register : (id : AdapterId) (a : Place) → FitsId id → Fits a → ent 𝓤 (sep 𝓤 (A .lft κ q) (sem 𝓤 H A (Lent R ys b o κ γ))) (Register .pre (to-register id a))
       goes-register id a g ga =
@@ -91,7 +81,7 @@ module _ {M : Type 1} (𝓤 : URA M) (H : Heap 𝓤) (A : Atoms 𝓤) (mem′ : 
           nothing ! $ owned ! R (Is R) (makes 𝓤 H A W) a _ ga $ fjoin ! $ owned ! I.the-row (Is I.the-row) (makes-id 𝓤 H A W) id _ g $ fjoin ! $ move ! (2 ∷ 0 ∷ []) $ fjoin ! $ move ! (1 ∷ 0 ∷ []) $ join ! $ frame ! $ done !
 
       abbrev to-mask : AdapterId → Bool → Mask .Ghost
-      to-mask id a = (((κ, tt), (q, tt), tt, (at-list b o γ ys, (id, (a, tt))), (s ∷ [], (I′.lowered id ∷ [], (vbool a ∷ [], tt)))), tt)
+      to-mask id a = (((κ, tt), (q, tt), tt, (at-list b o γ ys, (id, (a, tt))), (s ∷ [], (I.Laws.lowered id ∷ [], (vbool a ∷ [], tt)))), tt)
 
       goes-mask : (id : AdapterId) (a : Bool) → FitsId id → ent 𝓤 (sep 𝓤 (A .lft κ q) (sem 𝓤 H A (Lent R ys b o κ γ))) (Mask .pre (to-mask id a))
       goes-mask id a g =
@@ -106,24 +96,24 @@ module _ {M : Type 1} (𝓤 : URA M) (H : Heap 𝓤) (A : Atoms 𝓤) (mem′ : 
           qed W (‵ (flft κ q) ∷ ‵ (Lent R ys b o κ γ) ∷ []) ∵ nothing ! $ move ! (1 ∷ 0 ∷ []) $ join ! $
           nothing ! $ owned ! Image (Is Image) (image-makes 𝓤 H A W) all _ ga $ fjoin ! $ owned ! u64 (Is u64) (uint-makes 𝓤 H A W w64) n _ (refl, g) $ fjoin ! $ move ! (2 ∷ 0 ∷ []) $ fjoin ! $ move ! (1 ∷ 0 ∷ []) $ join ! $ frame ! $ done !
 
-module _ {M : Type 1} {𝓤 : URA M} {H : Heap 𝓤} {A : Atoms 𝓤} {K : Type 0} {W : Given 𝓤 H A} {Γ : List (Item 𝓤)} {E : Env 𝓤 H} {C : Calls 𝓤 H} {Λ : Loops 𝓤 H} {p : Kit.Post 𝓤 H} {d : Where} {rest : Code} {xs : List Operand} where
+module _ {M : Type 1} {𝓤 : URA M} {H : Heap 𝓤} {A : Atoms 𝓤} {K : Type 0} {W : Given 𝓤 H A} {Γ : List (Item 𝓤)} {E : Env 𝓤 H} {C : Calls 𝓤 H} {Λ : Loops 𝓤 H} {p : types.Kit.Post 𝓤 H} {d : Where} {rest : Code} {xs : List Operand} where
   pub looks-up : K → (mem′ : Memory → SProp 𝓤) (run : Routine → Fun 𝓤) → FmC 𝓤 H (W .laws) C → Triple 𝓤 (C #look-up) (LookUp 𝓤 H A mem′ run)
       → (ys : List Place) (id : AdapterId) (b o : ℕ) → Room R (length ys) → FitsId id
-      → ((i j : Item 𝓤) → Opds K W (i ∷ j ∷ Γ) E xs (sliceVal (b, o) (length ys) ∷ I′.lowered id ∷ []))
+      → ((i j : Item 𝓤) → Opds K W (i ∷ j ∷ Γ) E xs (sliceVal (b, o) (length ys) ∷ I.Laws.lowered id ∷ []))
       → (Fits (getD ys (id .0) unused) → Seq K W (‵ (row R fullShare ys b o) ∷ Γ) (lands C Λ E d (low (getD ys (id .0) unused)) rest p))
       → Seq K W (‵ (row R fullShare ys b o) ∷ Γ) (runs C Λ E (seq (call #look-up xs d) rest) p)
   looks-up t mem′ run fm known ys id b o room g os k =
       gives-row R ys b o t fm (LookUp 𝓤 H A mem′ run) known room (λ ν δ. to-look 𝓤 H A mem′ run W b o ys (ν ∷ []) fullShare δ id) (λ ν δ. goes-look 𝓤 H A mem′ run W b o ys (ν ∷ []) fullShare δ id g)
-      R (LL.vals T.the-type T′.the-laws) (getD ys (id .0) unused) (λ ν δ. looked 𝓤 H A mem′ run W b o ys (ν ∷ []) fullShare δ id) (λ ν δ. os) k
+      R (LL.vals T.the-type T.Laws.the-laws) (getD ys (id .0) unused) (λ ν δ. looked 𝓤 H A mem′ run W b o ys (ν ∷ []) fullShare δ id) (λ ν δ. os) k
 
   pub looks-up-shared : K → (mem′ : Memory → SProp 𝓤) (run : Routine → Fun 𝓤) → FmC 𝓤 H (W .laws) C → Triple 𝓤 (C #look-up) (LookUp 𝓤 H A mem′ run)
       → (ys : List Place) (id : AdapterId) (b o : ℕ) (κ : Lft) (q : Share) (γ : GName) → FitsId id
-      → ((i j : Item 𝓤) → Opds K W (i ∷ j ∷ Γ) E xs (sliceVal (b, o) (length ys) ∷ I′.lowered id ∷ []))
+      → ((i j : Item 𝓤) → Opds K W (i ∷ j ∷ Γ) E xs (sliceVal (b, o) (length ys) ∷ I.Laws.lowered id ∷ []))
       → (Fits (getD ys (id .0) unused) → Seq K W (‵ (flft κ q) ∷ ‵ (Shared R ys b o κ γ) ∷ Γ) (lands C Λ E d (low (getD ys (id .0) unused)) rest p))
       → Seq K W (‵ (flft κ q) ∷ ‵ (Shared R ys b o κ γ) ∷ Γ) (runs C Λ E (seq (call #look-up xs d) rest) p)
   looks-up-shared t mem′ run fm known ys id b o κ q γ g os k =
       gives-shared R ys b o t fm (LookUp 𝓤 H A mem′ run) known κ q γ (to-look 𝓤 H A mem′ run W b o ys κ q γ id) (goes-look 𝓤 H A mem′ run W b o ys κ q γ id g)
-      R (LL.vals T.the-type T′.the-laws) (getD ys (id .0) unused) (looked 𝓤 H A mem′ run W b o ys κ q γ id) os k
+      R (LL.vals T.the-type T.Laws.the-laws) (getD ys (id .0) unused) (looked 𝓤 H A mem′ run W b o ys κ q γ id) os k
 
   pub snapshots-shared : K → (mem′ : Memory → SProp 𝓤) (run : Routine → Fun 𝓤) → FmC 𝓤 H (W .laws) C → Triple 𝓤 (C #snapshot) (Snapshot 𝓤 H A mem′ run)
       → (ys : List Place) (b o : ℕ) (κ : Lft) (q : Share) (γ : GName)
@@ -135,7 +125,7 @@ module _ {M : Type 1} {𝓤 : URA M} {H : Heap 𝓤} {A : Atoms 𝓤} {K : Type 
 
   pub registers : K → (mem′ : Memory → SProp 𝓤) (run : Routine → Fun 𝓤) → FmC 𝓤 H (W .laws) C → Triple 𝓤 (C #register) (Register 𝓤 H A mem′ run)
       → (ys : List Place) (id : AdapterId) (a : Place) (b o : ℕ) → Room R (length ys) → FitsId id → Fits a
-      → ((i j : Item 𝓤) → Opds K W (i ∷ j ∷ Γ) E xs (sliceVal (b, o) (length ys) ∷ I′.lowered id ∷ low a ∷ []))
+      → ((i j : Item 𝓤) → Opds K W (i ∷ j ∷ Γ) E xs (sliceVal (b, o) (length ys) ∷ I.Laws.lowered id ∷ low a ∷ []))
       → Seq K W (‵ (row R fullShare (set ys (id .0) a) b o) ∷ Γ) (lands C Λ E d vunit rest p)
       → Seq K W (‵ (row R fullShare ys b o) ∷ Γ) (runs C Λ E (seq (call #register xs d) rest) p)
   registers t mem′ run fm known ys id a b o room g ga os k =
@@ -144,7 +134,7 @@ module _ {M : Type 1} {𝓤 : URA M} {H : Heap 𝓤} {A : Atoms 𝓤} {K : Type 
 
   pub masks : K → (mem′ : Memory → SProp 𝓤) (run : Routine → Fun 𝓤) → FmC 𝓤 H (W .laws) C → Triple 𝓤 (C #mask) (Mask 𝓤 H A mem′ run)
       → (ys : List Place) (id : AdapterId) (a : Bool) (b o : ℕ) → Room R (length ys) → FitsId id
-      → ((i j : Item 𝓤) → Opds K W (i ∷ j ∷ Γ) E xs (sliceVal (b, o) (length ys) ∷ I′.lowered id ∷ vbool a ∷ []))
+      → ((i j : Item 𝓤) → Opds K W (i ∷ j ∷ Γ) E xs (sliceVal (b, o) (length ys) ∷ I.Laws.lowered id ∷ vbool a ∷ []))
       → Seq K W (‵ (row R fullShare (set ys (id .0) (withMasked a (getD ys (id .0) unused))) b o) ∷ Γ) (lands C Λ E d vunit rest p)
       → Seq K W (‵ (row R fullShare ys b o) ∷ Γ) (runs C Λ E (seq (call #mask xs d) rest) p)
   masks t mem′ run fm known ys id a b o room g os k =

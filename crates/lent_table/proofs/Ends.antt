@@ -5,8 +5,7 @@ use prog.Wp.{Closed}
 use prog.Model.{Model}
 use prog.Routine.{Name, Env}
 use contract.Running.{Running, GhostRules}
-use denote.Triple.Clauses.{Clauses, Ended, closing}
-use denote.Triple.Walked.{AllGo}
+use denote.Triple.{Clauses.Clauses, Clauses.Ended, Clauses.closing, Walked.AllGo}
 
 module _ {M : Type 1} (𝓤 : URA M) (H : Heap 𝓤) (𝓜 : Model 𝓤 H) (𝓖 : GhostRules 𝓤 H) (𝓡 : Running 𝓤 H 𝓜) (T : Ended) (hs : Stays (T .signature .params) (T .kept)) (c : Clauses 𝓤 T) (γ : Env) (k : Name) (e : Fn) where
   pub concludes : Closed 𝓤 H (tables 𝓤 H 𝓜 𝓡 γ .C) (tables 𝓤 H 𝓜 𝓡 γ .Λ) k e

@@ -5,7 +5,6 @@
 --     changes-row      it is lent a slice's memory as a `&mut [T]`, returns nothing and leaves the list zs:  row ys ∷ Γ  ⟶  row zs ∷ Γ
 --     changes-cell     it is lent a value's memory as a `&mut T`, returns nothing and leaves the value y:  cell x ∷ own x ∷ Γ  ⟶  cell y ∷ Γ
 use Rattle.lent_table.proofs.Walk.{_≡_, refl, sym, ap, subst, ℕ, [], _∷_, List, length, URA, fullShare, named, Val, vunit, vptr, SProp, ent, emp, sep, feq, GName, Lft, Share, Fml, ftrue, fsep, flft, fres, Heap, Env, Calls, Loops, Atoms, sem, fact, Given, Item, Seq, runs, lands, mean, ‵, raw, some, later, _⊛_, _$_, move, drop, use1, split, join, pick, rewrite, fsplit, feqL, await, Opds, FmC, RattleType, Is, shows, cellAt, RefT, MutRef, finally, sliceVal, MutSlice, ShrSlice, Room, shr-slice-copy, row, only, facts, heard, nothing, spelt, Contract, Triple, calls-at}
-use types.Kit as Kit
 use mir.Syntax.{Name, Place as Where, Body as Code, Opd as Operand, seq, call}
 use denote.Laws.{Tells}
 use Rattle.lent_table.proofs.Rows.{shares-row, row-shared-back, lends-row, row-back, lends-cell, cell-back}
@@ -47,7 +46,7 @@ Two = Unit {0} × (Unit {0} × Unit {0})
 abbrev pub no-others : Two → Fml
 no-others z = fsep ftrue (fsep ftrue ftrue)
 
-module _ {M : Type 1} {𝓤 : URA M} {H : Heap 𝓤} {A : Atoms 𝓤} {K : Type 0} {W : Given 𝓤 H A} {Γ : List (Item 𝓤)} {E : Env 𝓤 H} {C : Calls 𝓤 H} {Λ : Loops 𝓤 H} {p : Kit.Post 𝓤 H} {d : Where} {rest : Code} {xs : List Operand} {f : Name} where
+module _ {M : Type 1} {𝓤 : URA M} {H : Heap 𝓤} {A : Atoms 𝓤} {K : Type 0} {W : Given 𝓤 H A} {Γ : List (Item 𝓤)} {E : Env 𝓤 H} {C : Calls 𝓤 H} {Λ : Loops 𝓤 H} {p : types.Kit.Post 𝓤 H} {d : Where} {rest : Code} {xs : List Operand} {f : Name} where
   gives-of : K → FmC 𝓤 H (W .laws) C → (c : Contract 𝓤) → Triple 𝓤 (C f) c → (x : c .Ghost) (I J : Item 𝓤) → ent 𝓤 (mean 𝓤 H A I) (c .pre x)
       → (T : RattleType) (vals : T .Denot → List Val) (y : T .Denot) → Gives 𝓤 H A c x J T vals y → Opds K W (raw (c .pre x) ∷ Γ) E xs (c .args x)
       → (Is T y (only (vals y) ∷ []) → Seq K W (J ∷ Γ) (lands C Λ E d (only (vals y)) rest p))
@@ -84,7 +83,7 @@ module _ (R : RattleType) (ys : List (R .Denot)) (b o : ℕ) where
   abbrev pub Lent : Lft → GName → Fml
   Lent κ γ = MutSlice (named 0) κ R .own (at-list b o γ ys) (sliceVal (b, o) (length ys) ∷ [])
 
-  module _ {M : Type 1} {𝓤 : URA M} {H : Heap 𝓤} {A : Atoms 𝓤} {K : Type 0} {W : Given 𝓤 H A} {Γ : List (Item 𝓤)} {E : Env 𝓤 H} {C : Calls 𝓤 H} {Λ : Loops 𝓤 H} {p : Kit.Post 𝓤 H} {d : Where} {rest : Code} {xs : List Operand} {f : Name} where
+  module _ {M : Type 1} {𝓤 : URA M} {H : Heap 𝓤} {A : Atoms 𝓤} {K : Type 0} {W : Given 𝓤 H A} {Γ : List (Item 𝓤)} {E : Env 𝓤 H} {C : Calls 𝓤 H} {Λ : Loops 𝓤 H} {p : types.Kit.Post 𝓤 H} {d : Where} {rest : Code} {xs : List Operand} {f : Name} where
     pub gives-shared : K → FmC 𝓤 H (W .laws) C → (c : Contract 𝓤) → Triple 𝓤 (C f) c → (κ : Lft) (q : Share) (γ : GName) (x : c .Ghost) → ent 𝓤 (sep 𝓤 (A .lft κ q) (sem 𝓤 H A (Shared κ γ))) (c .pre x)
         → (T : RattleType) (vals : T .Denot → List Val) (y : T .Denot) → Gives 𝓤 H A c x (‵ (flft κ q) ⊛ ‵ ftrue) T vals y → ((i j : Item 𝓤) → Opds K W (i ∷ j ∷ Γ) E xs (c .args x))
         → (Is T y (only (vals y) ∷ []) → Seq K W (‵ (flft κ q) ∷ ‵ (Shared κ γ) ∷ Γ) (lands C Λ E d (only (vals y)) rest p))
@@ -115,7 +114,7 @@ module _ (R : RattleType) (a : R .Denot) (b o : ℕ) where
   abbrev pub LentCell : Lft → GName → Fml
   LentCell κ γ = MutRef (named 0) κ R .own (record { ptr = (b, o); name = γ; now = a }) (vptr b o ∷ [])
 
-  module _ {M : Type 1} {𝓤 : URA M} {H : Heap 𝓤} {A : Atoms 𝓤} {K : Type 0} {W : Given 𝓤 H A} {Γ : List (Item 𝓤)} {E : Env 𝓤 H} {C : Calls 𝓤 H} {Λ : Loops 𝓤 H} {p : Kit.Post 𝓤 H} {d : Where} {rest : Code} {xs : List Operand} {f : Name} where
+  module _ {M : Type 1} {𝓤 : URA M} {H : Heap 𝓤} {A : Atoms 𝓤} {K : Type 0} {W : Given 𝓤 H A} {Γ : List (Item 𝓤)} {E : Env 𝓤 H} {C : Calls 𝓤 H} {Λ : Loops 𝓤 H} {p : types.Kit.Post 𝓤 H} {d : Where} {rest : Code} {xs : List Operand} {f : Name} where
     pub changes-cell : K → FmC 𝓤 H (W .laws) C → (c : Contract 𝓤) → Triple 𝓤 (C f) c → (vals : R .Denot → List Val) → Tells R (Is R) vals → (vs : List Val) (x : ℕ → GName → c .Ghost)
         → ((ν : ℕ) (δ : GName) → ent 𝓤 (sep 𝓤 (A .lft (ν ∷ []) fullShare) (sem 𝓤 H A (LentCell (ν ∷ []) δ))) (c .pre (x ν δ)))
         → (y : R .Denot) {Z : Type 0} (others : Z → Fml) → ((ν : ℕ) (δ : GName) (w : Val) → ent 𝓤 (c .post (x ν δ) w) (mean 𝓤 H A (Leaves ν (last-value R δ) others y w)))

@@ -3,7 +3,6 @@
 --     takes-place     `place_at(l, i)`      ⟶  the result is the place of byte i
 --     puts-place      `put_place(&mut local, i, p)`, where the caller has a local that holds the image l:  cell l ∷ Γ  ⟶  cell of l with the byte of p at i ∷ Γ
 use Rattle.lent_table.proofs.Walk.{refl, subst, ℕ, _<_, _^_, [], _∷_, List, getD, set, URA, fullShare, w8, w64, Val, vunit, vint, vptr, SProp, ent, sep, emp, snd∗, exE, id⊢, GName, flft, fat, Memory, Routine, Heap, Env, Calls, Loops, Atoms, sem, Fun, Given, Item, Seq, runs, lands, ‵, _$_, _∵_, !, qed, move, join, fjoin, frame, done, Opds, no-more, FmC, RattleType, Is, uint-vals, uint-tells, uint-makes, uint-lawful, u8, u64, only, owned, nothing, tripleOf, Contract, Triple, ensured, lasts}
-use types.Kit as Kit
 use mir.Syntax.{Place as Where, Body as Code, Opd as Operand, seq, call, tyArray, tyInt, Ty}
 use mir.Val.{hasTy, WT}
 use lib.Dec.{T as Holds}
@@ -15,16 +14,12 @@ use denote.Array.{array-vals, array-tells, array-makes, array-lawful}
 use denote.Struct.Laws as LL
 use Rattle.adapters.specs.declared.Place.{Place}
 use Rattle.adapters.proofs.Place as P
-use Rattle.adapters.proofs.Place.Laws as P′
 use Rattle.list_image.specs.Image.{imageSize, packed, unpacked}
 use Rattle.list_image.proofs.empty as empty
-use Rattle.list_image.proofs.empty.Symbol.{name as #empty}
+use Rattle.list_image.proofs.{empty.Symbol.name as #empty, put_place.Symbol.name as #put-place, place_at.Symbol.name as #place-at}
 use Rattle.list_image.proofs.put_place as put-place
-use Rattle.list_image.proofs.put_place.Symbol.{name as #put-place}
 use Rattle.list_image.proofs.place_at as place-at
-use Rattle.list_image.proofs.place_at.Symbol.{name as #place-at}
-use Rattle.lent_table.proofs.Places.{R, low, Fits, makes}
-use Rattle.lent_table.proofs.Gives.{at-list, no-others, gives, LentCell, changes-cell}
+use Rattle.lent_table.proofs.{Places.R, Places.low, Places.Fits, Places.makes, Gives.at-list, Gives.no-others, Gives.gives, Gives.LentCell, Gives.changes-cell}
 
 -- the type of an image, its machine value, and that it is one
 abbrev pub Image : RattleType
@@ -80,7 +75,7 @@ module _ {M : Type 1} (𝓤 : URA M) (H : Heap 𝓤) (A : Atoms 𝓤) (mem′ : 
     goes-place gl gi =
         qed W [] ∵ nothing ! $ owned ! u64 (Is u64) (uint-makes 𝓤 H A W w64) i _ (refl, gi) $ fjoin ! $ owned ! Image (Is Image) (image-makes 𝓤 H A W) l _ gl $ fjoin ! $ nothing ! $ join ! $ frame ! $ done !
 
-module _ {M : Type 1} {𝓤 : URA M} {H : Heap 𝓤} {A : Atoms 𝓤} {K : Type 0} {W : Given 𝓤 H A} {Γ : List (Item 𝓤)} {E : Env 𝓤 H} {C : Calls 𝓤 H} {Λ : Loops 𝓤 H} {p : Kit.Post 𝓤 H} {d : Where} {rest : Code} where
+module _ {M : Type 1} {𝓤 : URA M} {H : Heap 𝓤} {A : Atoms 𝓤} {K : Type 0} {W : Given 𝓤 H A} {Γ : List (Item 𝓤)} {E : Env 𝓤 H} {C : Calls 𝓤 H} {Λ : Loops 𝓤 H} {p : types.Kit.Post 𝓤 H} {d : Where} {rest : Code} where
   pub takes-empty : K → (mem′ : Memory → SProp 𝓤) (run : Routine → Fun 𝓤) → FmC 𝓤 H (W .laws) C → Triple 𝓤 (C #empty) (Empty 𝓤 H A mem′ run)
       → (FitsImage (replicate imageSize 0) → Seq K W Γ (lands C Λ E d (low-image (replicate imageSize 0)) rest p)) → Seq K W Γ (runs C Λ E (seq (call #empty [] d) rest) p)
   takes-empty t mem′ run fm known k =
@@ -96,9 +91,9 @@ module _ {M : Type 1} {𝓤 : URA M} {H : Heap 𝓤} {A : Atoms 𝓤} {K : Type 
       → {xs : List Operand} (l : List ℕ) (i : ℕ) → FitsImage l → i < 2 ^ 64 → ((j : Item 𝓤) → Opds K W (j ∷ Γ) E xs (low-image l ∷ vint w64 i ∷ []))
       → (Fits (unpacked (getD l i 0)) → Seq K W Γ (lands C Λ E d (low (unpacked (getD l i 0))) rest p)) → Seq K W Γ (runs C Λ E (seq (call #place-at xs d) rest) p)
   takes-place t mem′ run fm known {xs} l i gl gi os k =
-      gives t fm (PlaceAt 𝓤 H A mem′ run) known (to-place 𝓤 H A mem′ run W l i (unpacked 0)) (goes-place 𝓤 H A mem′ run W l i (unpacked 0) gl gi) R (LL.vals P.the-type P′.the-laws) (unpacked (getD l i 0))
+      gives t fm (PlaceAt 𝓤 H A mem′ run) known (to-place 𝓤 H A mem′ run W l i (unpacked 0)) (goes-place 𝓤 H A mem′ run W l i (unpacked 0) gl gi) R (LL.vals P.the-type P.Laws.the-laws) (unpacked (getD l i 0))
       (record {
-        tells = LL.tells P.the-type P′.the-laws;
+        tells = LL.tells P.the-type P.Laws.the-laws;
         Said = ensured 𝓤 H A place-at.ended (place-at.clauses 𝓤 H A mem′ run) tt (l, (i, tt)) tt;
         shape = λ w. id⊢ 𝓤 _;
         told = λ r. exE 𝓤 _ (λ ws. snd∗ 𝓤 (sem 𝓤 H A (lasts place-at.ended tt (l, (i, tt)) ws)) _);

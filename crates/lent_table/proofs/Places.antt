@@ -8,10 +8,8 @@ use denote.Laws.{Makes}
 use denote.Struct.Laws as LL
 use Rattle.numbers.specs.declared.AdapterId.{AdapterId}
 use Rattle.numbers.proofs.AdapterId as I
-use Rattle.numbers.proofs.AdapterId.Laws as I′
 use Rattle.adapters.specs.declared.Place.{Place}
 use Rattle.adapters.proofs.Place as P
-use Rattle.adapters.proofs.Place.Laws as P′
 
 -- the cell of a local, which holds v, or nothing yet, in front of Γ
 abbrev pub filled : {M : Type 1} {𝓤 : URA M} → Ty → ℕ → Val → List (Item 𝓤) → List (Item 𝓤)
@@ -29,33 +27,33 @@ abbrev pub slice-of : Mutability → Ty
 slice-of m = sliceTy (tyRef (named 0) m (pointee (R .written)))
 
 abbrev pub low : Place → Val
-low = P′.lowered
+low = P.Laws.lowered
 
 abbrev pub Fits : Place → Type 0
 Fits p = Is R p (low p ∷ [])
 
 -- the same of an id
 abbrev pub FitsId : AdapterId → Type 0
-FitsId k = Is I.the-row k (I′.lowered k ∷ [])
+FitsId k = Is I.the-row k (I.Laws.lowered k ∷ [])
 
 pub id-fits : (k : AdapterId) → FitsId k → k .0 < 2 ^ 64
-id-fits k g = LL.owed I.the-type I′.the-laws k _ g .0 .1
+id-fits k g = LL.owed I.the-type I.Laws.the-laws k _ g .0 .1
 
 pub fit-id : (k : AdapterId) → k .0 < 2 ^ 64 → FitsId k
-fit-id k h = LL.owes I.the-type I′.the-laws k ((refl, h), tt)
+fit-id k h = LL.owes I.the-type I.Laws.the-laws k ((refl, h), tt)
 
 module _ {M : Type 1} (𝓤 : URA M) (H : Heap 𝓤) (A : Atoms 𝓤) (W : Given 𝓤 H A) where
-  pub typed : (p : Place) → Fits p → Holds (hasTy P′.mir (low p)) × WT (low p)
-  typed p g = LL.lawful P.the-type P′.the-laws 𝓤 H A W .typed p _ g .0
+  pub typed : (p : Place) → Fits p → Holds (hasTy P.Laws.mir (low p)) × WT (low p)
+  typed p g = LL.lawful P.the-type P.Laws.the-laws 𝓤 H A W .typed p _ g .0
 
-  pub typed-id : (k : AdapterId) → FitsId k → Holds (hasTy I′.mir (I′.lowered k)) × WT (I′.lowered k)
-  typed-id k g = LL.lawful I.the-type I′.the-laws 𝓤 H A W .typed k _ g .0
+  pub typed-id : (k : AdapterId) → FitsId k → Holds (hasTy I.Laws.mir (I.Laws.lowered k)) × WT (I.Laws.lowered k)
+  typed-id k g = LL.lawful I.the-type I.Laws.the-laws 𝓤 H A W .typed k _ g .0
 
   pub makes : Makes 𝓤 H A R (Is R)
-  makes = LL.makes P.the-type P′.the-plain 𝓤 H A
+  makes = LL.makes P.the-type P.Laws.the-plain 𝓤 H A
 
   pub makes-id : Makes 𝓤 H A I.the-row (Is I.the-row)
-  makes-id = LL.makes I.the-type I′.the-plain 𝓤 H A
+  makes-id = LL.makes I.the-type I.Laws.the-plain 𝓤 H A
 
 -- the offset of a place, which has 6 bytes
 pub scaled : {i n : ℕ} → n * 6 < 2 ^ 63 → i < n → i * 6 < 2 ^ 64

@@ -1,15 +1,12 @@
 -- What `register` and `mask` share: the test of the bound of `t: &mut [Place]` at `id: AdapterId`, then a store into the place, or nothing. The third
 -- parameter, of any type τ, holds v.
 use Rattle.lent_table.proofs.Walk.{_≡_, refl, sym, ℕ, _<_, _*_, [], _∷_, List, length, getD, set, length-set, ltb, ltb→lt, nltb→le, URA, fullShare, w64, tyInt, tyBool, tyPtr, tyUnit, mut, Val, vunit, vint, vbool, vptr, SProp, ent, GName, Lft, Share, flft, fobs, fbor, fobor, fauth, fat, next, Heap, Env, Calls, Loops, Wp, afterSeq, atReturn, Atoms, Given, Item, Sq, runs, prop, post, anyQ, atRet, ‵, ⋆, _$_, !, by, move, drop, rewrite, look, init, forget, stop, fld, from, load, lit, unit-lit, of-opd, bin, assigns, first, skips, branches, exec, returns, free1, free0, whole, sub, look-in, Is, shows, cellAt, shares, sliceVal, Room, heres, codedHoleys, Held, place, place-is, others, elem-out, elem-put, opens-slice, closes-slice, owned}
-use types.Kit as Kit
 use mir.Syntax.{Ty, place as local, field, copy, int, rvOpd, op2, mul, lt, offset, unsigned, opdUnit, Body as Code, seq, assign, cond, skip, return}
 use denote.Struct.Laws as LL
 use Rattle.numbers.specs.declared.AdapterId.{AdapterId}
 use Rattle.numbers.proofs.AdapterId.Laws as I′
-use Rattle.adapters.specs.declared.Place.{Place}
-use Rattle.adapters.specs.Values.{unused}
+use Rattle.adapters.specs.{declared.Place.Place, Values.unused}
 use Rattle.adapters.proofs.Place as P
-use Rattle.adapters.proofs.Place.Laws as P′
 use Rattle.lent_table.proofs.Places.{filled, empty, R, slice-of, low, Fits, FitsId, id-fits, makes, scaled, set-past}
 
 -- the code: the locals 4 to 8 are i, the length, the test, the offset and the pointer
@@ -42,7 +39,7 @@ module _ {M : Type 1} (𝓤 : URA M) (H : Heap 𝓤) (A : Atoms 𝓤) (W : Given
   abbrev E : Env 𝓤 H
   E = (tyUnit, l₀) ∷ (slice-of mut, l₁) ∷ (I′.mir, l₂) ∷ (τ, l₃) ∷ (tyInt w64, l₄) ∷ (tyInt w64, l₅) ∷ (tyBool, l₆) ∷ (tyInt w64, l₇) ∷ (tyPtr, l₈) ∷ []
 
-  abbrev Then : Kit.Post 𝓤 H
+  abbrev Then : types.Kit.Post 𝓤 H
   Then = anyQ (afterSeq 𝓤 H (Wp 𝓤 H C Λ E ends (atReturn 𝓤 H E Post)) (atReturn 𝓤 H E Post))
 
   abbrev Params : List (Item 𝓤)
@@ -82,7 +79,7 @@ module _ {M : Type 1} (𝓤 : URA M) (H : Heap 𝓤) (A : Atoms 𝓤) (W : Given
         assigns ! (bin ! (load ! (from ! (stop !)) (look ! 11 refl)) (lit ! tt) (record { fits = scaled (room .1) (ltb→lt id (length ys) test) })) (from ! (stop !)) (init ! 5 refl (tt, record { fits = scaled (room .1) (ltb→lt id (length ys) test) })) $
         assigns ! (bin ! (load ! (from ! (fld ! refl (stop !))) (look-in ! 17 (sub ! 0 refl (whole !)))) (load ! (from ! (stop !)) (look ! 5 refl)) tt) (from ! (stop !)) (init ! 3 refl (tt, tt)) $
         rewrite ! 3 (λ (p : ℕ). ‵ (fat fullShare tyPtr l₈ 0 (vptr b p))) (sym (place-is 6 o id)) refl $
-        opens-slice ! tt R ys b o $ elem-out ! R (Is R) (shows 𝓤 H A R) (LL.vals P.the-type P′.the-laws) (LL.tells P.the-type P′.the-laws) fullShare ys id unused b o (ltb→lt id (length ys) test)
+        opens-slice ! tt R ys b o $ elem-out ! R (Is R) (shows 𝓤 H A R) (LL.vals P.the-type P.Laws.the-laws) (LL.tells P.the-type P.Laws.the-laws) fullShare ys id unused b o (ltb→lt id (length ys) test)
         (λ g. stores (stored (ltb→lt id (length ys) test) (made g))))
         (λ test. skips ! $ exec ! C Λ E ends (atRet E Post) $ leaves ys (shown ys (set-past ys id w (nltb→le id (length ys) test)) refl))
 

@@ -1,12 +1,10 @@
 -- Laws on a table's image and on a table restored from one.
 use Rattle.numbers.proofs.Basics.{ℕ, zero, suc, _+_, _<_, _≤_, _≡_, refl, sym, _∙_, ap, Bool, true, false, List, map}
 use Rattle.numbers.proofs.Basics.{arith, eqb-true, eqb-false, eqb, length, getD, set, take, replicate, length-set}
-use Rattle.numbers.proofs.Basics.{length-map, List·getD-map, getD-set-same, getD-set-other, getD-take, length-take-le}
-use Rattle.numbers.proofs.Basics.{take-all}
+use Rattle.numbers.proofs.{Basics.length-map, Basics.List·getD-map, Basics.getD-set-same, Basics.getD-set-other, Basics.getD-take, Basics.length-take-le, Basics.take-all}
 use lib.ListN.{length-replicate}
 use lib.Seq.{ext-getD}
-use Rattle.adapters.specs.declared.Place.{Place}
-use Rattle.adapters.specs.Values.{unused}
+use Rattle.adapters.specs.{declared.Place.Place, Values.unused}
 use Rattle.list_image.specs.Image.{imageSize, packed, unpacked}
 use Rattle.lent_table.specs.Table.{snapTo, restored}
 

@@ -2,10 +2,7 @@
 use Rattle.numbers.proofs.Basics.{_≡_, refl, Bool, true, false, _&&_, List, [], _∷_, ℕ, zero, suc, _+_, _-_, _*_, _≤_}
 use Rattle.numbers.proofs.Basics.{_<_, not-suc-le-zero, le-of-suc-le-suc, arith, length, drop, drop-drop, leb, eqb}
 use Rattle.numbers.proofs.Basics.{eqb-true, leb-true}
-use Rattle.rules.specs.Bytes.{field}
-use Rattle.rules.specs.Requests.{isZero}
-use Rattle.rules.specs.State.{Limits, State, fresh}
-use Rattle.rules.specs.Outcome.{Outcome, EINVAL, EOPNOTSUPP, E2BIG, refuse, need_else_⨾_}
+use Rattle.rules.specs.{Bytes.field, Requests.isZero, State.Limits, State.State, State.fresh, Outcome.Outcome, Outcome.EINVAL, Outcome.EOPNOTSUPP, Outcome.E2BIG, Outcome.refuse, Outcome.need_else_⨾_}
 use Rattle.rules.specs.MoveList.{oneIf, headerBytes, tableEntryBytes, totalIn, countIn, tableOffsetIn, payloadOffsetIn, payloadOffset, aisFlagIn, TableEntry, tableEntryIn, tableEntriesIn, movable, formed, requestsIn, applies, mostRequests, plays}
 use Rattle.rules.proofs.Checks.{left, right}
 use Rattle.list_form.specs.Form.{slotAt, slotsOf, slotFormed, Formed, Form}

@@ -1,15 +1,10 @@
 -- The capability of a fresh controller is the list's flag; of a list without one it decides nothing.
 use Rattle.numbers.proofs.Basics.{_≡_, refl, ap, _∙_, Bool, true, false, List, ℕ, _≤_, _<_, leb-true, leb-false}
 use Rattle.numbers.proofs.Basics.{lt-leb, eqb-true, length, leb, eqb}
-use Rattle.rules.specs.Bytes.{choose}
-use Rattle.rules.specs.State.{State, Pending, paperLimits, fresh}
+use Rattle.rules.specs.{Bytes.choose, State.State, State.Pending, State.paperLimits, State.fresh, Outcome.result, Outcome.refuse, MoveList.headerBytes, MoveList.aisFlagIn, MoveList.plays, Machine.answerOf}
 use Rattle.rules.specs.Outcome as outcome
-use Rattle.rules.specs.Outcome.{result, refuse}
-use Rattle.rules.specs.MoveList.{headerBytes, aisFlagIn, plays}
-use Rattle.rules.specs.Machine.{answerOf}
 use Rattle.rules.proofs.Checks.{fails}
-use Rattle.answers.specs.Answers.{Answers}
-use Rattle.answers.specs.declared.Answer.{Answer}
+use Rattle.answers.specs.{Answers.Answers, declared.Answer.Answer}
 use Rattle.list_fresh.specs.Fresh.{playedFresh, PlayedFresh}
 
 -- what is told of an answer on a fresh controller of a capability

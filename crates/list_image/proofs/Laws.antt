@@ -1,17 +1,12 @@
 -- Reading and writing one byte of an image is reading and writing one of its places.
 use Rattle.numbers.proofs.Basics.{_≡_, refl, sym, _∙_, List, [], _∷_, map, ℕ, zero, suc, _≤_, _<_, arith, getD, set}
-use Rattle.numbers.proofs.Basics.{take, replicate, length-take, List·getD-map, List·getD-eq-default, set-out}
-use Rattle.numbers.proofs.Basics.{take-set-lt, getD-take}
-use Rattle.rules.specs.Bytes.{choose}
+use Rattle.numbers.proofs.{Basics.take, Basics.replicate, Basics.length-take, Basics.List·getD-map, Basics.List·getD-eq-default, Basics.set-out, Basics.take-set-lt, Basics.getD-take, Laws.map-set, Laws.map-take}
+use Rattle.rules.specs.{Bytes.choose, Invariant.All}
 use Rattle.rules.specs.State as rules
-use Rattle.rules.specs.Invariant.{All}
 use Rattle.rules.proofs.Lists.{all-set, all-get, all-replicate}
-use Rattle.numbers.proofs.Laws.{map-set, map-take}
-use Rattle.adapters.specs.declared.Place.{Place}
-use Rattle.adapters.specs.Values.{placeOf, Canonical}
-use Rattle.list_image.specs.Image.{packed, unpacked}
+use Rattle.adapters.specs.{declared.Place.Place, Values.placeOf, Values.Canonical}
+use Rattle.list_image.specs.{Image.packed, Image.unpacked, Places.placesOf, Places.AllCanonical}
 use Rattle.list_image.proofs.Packed.{unpacked-zero, unpacked-packed}
-use Rattle.list_image.specs.Places.{placesOf, AllCanonical}
 
 map-replicate : {A B : Type 0} (f : A → B) (n : ℕ) (a : A) → map f (replicate n a) ≡ replicate n (f a)
 map-replicate f zero a = refl

@@ -1,12 +1,9 @@
 -- Packing a place and unpacking the byte.
 use Rattle.numbers.proofs.Basics.{_≡_, refl, sym, _∙_, Bool, true, false, List, [], _∷_, map, ℕ, _+_, _*_, _/_, _%_}
 use Rattle.numbers.proofs.Basics.{_<_, _≤_, decLt, arith, eqb, lt-ltb, le-ltb, eq-eqb, ne-eqb}
-use Rattle.rules.specs.Bytes.{choose}
-use Rattle.rules.specs.MoveList.{oneIf}
-use Rattle.rules.specs.Invariant.{All}
+use Rattle.rules.specs.{Bytes.choose, MoveList.oneIf, Invariant.All}
 use Rattle.rules.proofs.Decode.{flag-le}
-use Rattle.adapters.specs.declared.Place.{Place}
-use Rattle.adapters.specs.Values.{unused, Canonical}
+use Rattle.adapters.specs.{declared.Place.Place, Values.unused, Values.Canonical}
 use Rattle.list_image.specs.Image.{packed, unpacked}
 
 -- the byte of a used place

@@ -2,29 +2,19 @@
 use Rattle.numbers.proofs.Basics.{ℕ, zero, suc, _+_, _-_, _≤_, _<_, _≡_, refl, ap, sym, _∙_, subst, Bool, false, List}
 use Rattle.numbers.proofs.Basics.{[], _∷_, not-suc-le-zero, le-of-suc-le-suc, add-one, arith, getD, set, take, drop}
 use Rattle.numbers.proofs.Basics.{replicate, eqb, eq-eqb, ne-eqb}
-use Rattle.rules.specs.Bytes.{choose, part}
+use Rattle.rules.specs.{Bytes.choose, Bytes.part, State.Limits, State.Pending, State.State, State.nothing, State.fresh, Requests.setRequest, Requests.request, MoveList.ListRequest, MoveList.TableEntry, MoveList.onward, MoveList.applies, MoveList.requestsIn, MoveList.plays, Machine.answerOf}
 use Rattle.rules.specs.State as rules
-use Rattle.rules.specs.State.{Limits, Pending, State, nothing, fresh}
 use Rattle.rules.specs.Outcome.{Outcome, refuseWith, accept, resetWith, refuse, reset, result, tell}
 use Rattle.rules.specs.Outcome as told
-use Rattle.rules.specs.Requests.{setRequest, request}
-use Rattle.rules.specs.MoveList.{ListRequest, TableEntry, onward, applies, requestsIn, plays}
-use Rattle.rules.specs.Machine.{answerOf}
-use Rattle.rules.proofs.Checks.{chosen, passed, Comes}
-use Rattle.rules.proofs.Outcomes.{Known, known-request, never-zero}
-use Rattle.answers.specs.declared.Answer.{Answer}
-use Rattle.answers.specs.Answers.{Answers, answered}
-use Rattle.adapters.specs.declared.Device.{Device}
-use Rattle.adapters.specs.declared.Place.{Place}
-use Rattle.adapters.specs.Values.{placeOf, deviceOf}
-use Rattle.adapter_requests.specs.declared.Reply.{Reply}
-use Rattle.adapter_requests.specs.States.{Replies}
-use Rattle.list_image.specs.Places.{placesOf}
+use Rattle.rules.proofs.{Checks.chosen, Checks.passed, Checks.Comes, Outcomes.Known, Outcomes.known-request, Outcomes.never-zero}
+use Rattle.answers.specs.{declared.Answer.Answer, Answers.Answers, Answers.answered}
+use Rattle.adapters.specs.{declared.Device.Device, declared.Place.Place, Values.placeOf, Values.deviceOf}
+use Rattle.adapter_requests.specs.{declared.Reply.Reply, States.Replies}
+use Rattle.list_image.specs.{Places.placesOf, Image.imageSize}
 use Rattle.list_image.proofs.Laws.{places-none}
 use Rattle.list_form.specs.Form.{slotAt}
 use Rattle.list_form.proofs.Laws.{slotsFrom, next-slot, last-slot}
 use Rattle.list_play.specs.Play.{limitsFrom, imageState, requestIn, ranTo}
-use Rattle.list_image.specs.Image.{imageSize}
 
 -- a reply about one place of an image, as an answer about the state that the image stands for
 pub as-state : (places room : ℕ) (ais : Bool) (device : Device) (place : Place) (id : ℕ) (image image′ b : List ℕ) (o : Limits → State → Outcome State) (p₀ p₁ : Pending) (r : Reply)

@@ -2,8 +2,7 @@
 -- computes with the paper's limits, but the examples and the figures of the longest list (Move of the rules).
 use mathlib.Core.Path.{_≡_, refl}
 use Rattle.rules.specs.State.{Limits, paperLimits}
-use Rattle.rules.proofs.Replay.{Movable}
-use Rattle.rules.proofs.Move.{movable-paper}
+use Rattle.rules.proofs.{Replay.Movable, Move.movable-paper}
 use Rattle.store_queues.specs.Slots.{slotCount}
 use Rattle.list_image.specs.Image.{imageSize}
 

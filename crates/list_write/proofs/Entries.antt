@@ -2,17 +2,12 @@
 use Rattle.numbers.proofs.Basics.{_≡_, refl, sym, ap, _∙_, Bool, true, false, List, [], _∷_, _++_, append-assoc}
 use Rattle.numbers.proofs.Basics.{append-nil, ℕ, suc, _+_, _*_, _/_, _%_, _^_, _≤_, _<_, add-zero, add-assoc, mul-add}
 use Rattle.numbers.proofs.Basics.{add-one, arith, length, getD, take, drop, length-append, length-map}
-use Rattle.numbers.proofs.Basics.{take-append-drop, drop-of-length-le, List·getD-map, take-at, take-all, drop-at}
-use Rattle.numbers.proofs.Basics.{drop-cons, drop-drop, length-take-le, paste}
-use Rattle.rules.specs.Bytes.{choose, bytes}
+use Rattle.numbers.proofs.{Basics.take-append-drop, Basics.drop-of-length-le, Basics.List·getD-map, Basics.take-at, Basics.take-all, Basics.drop-at, Basics.drop-cons, Basics.drop-drop, Basics.length-take-le, Basics.paste}
+use Rattle.rules.specs.{Bytes.choose, Bytes.bytes, MoveList.ListRequest, MoveList.oneIf, MoveList.byRisingId, MoveList.registerRequest, MoveList.modifyRequest, MoveList.payloads, MoveList.writtenTable}
 use Rattle.rules.specs.State as rules
-use Rattle.rules.specs.MoveList.{ListRequest, oneIf, byRisingId, registerRequest, modifyRequest, payloads, writtenTable}
-use Rattle.rules.proofs.Codec.{length-bytes}
-use Rattle.rules.proofs.Decode.{length-table, flag-le}
-use Rattle.adapters.specs.declared.Place.{Place}
-use Rattle.adapters.specs.Values.{placeOf}
-use Rattle.list_image.specs.Image.{unpacked}
-use Rattle.list_image.specs.Places.{placesOf}
+use Rattle.rules.proofs.{Codec.length-bytes, Decode.length-table, Decode.flag-le}
+use Rattle.adapters.specs.{declared.Place.Place, Values.placeOf}
+use Rattle.list_image.specs.{Image.unpacked, Places.placesOf}
 use Rattle.list_write.specs.Parts.{put, five, entryOf, isWritten, groupOf, sizeOf, payloadOf}
 
 -- ---- bytes put into a buffer

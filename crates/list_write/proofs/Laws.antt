@@ -3,22 +3,14 @@ use Rattle.numbers.proofs.Basics.{_≡_, refl, sym, ap, _∙_, Bool, true, fals
 use Rattle.numbers.proofs.Basics.{flatten, append-assoc, append-nil, ℕ, _+_, _-_, _*_, _/_, _%_, _^_, _≤_, _<_}
 use Rattle.numbers.proofs.Basics.{zero-add, arith, length, take, drop, length-append, length-drop, drop-of-length-le}
 use Rattle.numbers.proofs.Basics.{take-all, drop-drop, ltb, lt-ltb, le-leb, lt-leb}
-use Rattle.rules.specs.Bytes.{choose, bytes}
-use Rattle.rules.specs.State.{Limits, State, Pending, Record, listing}
-use Rattle.rules.specs.Outcome.{result}
-use Rattle.rules.specs.Requests.{nonZero}
+use Rattle.rules.specs.{Bytes.choose, Bytes.bytes, State.Limits, State.State, State.Pending, State.Record, State.listing, Outcome.result, Requests.nonZero, Machine.answerOf}
 use Rattle.rules.specs.MoveList.{ListRequest, oneIf, byRisingId, registerRequest, modifyRequest, enqueueRequest, aismAllRequest, apfRequest, listRequests, payloads, writtenTable, total, moveList, writes}
-use Rattle.rules.proofs.Checks.{passes, fails}
-use Rattle.rules.specs.Machine.{answerOf}
-use Rattle.rules.proofs.Decode.{length-table}
-use Rattle.answers.specs.declared.Answer.{Answer}
-use Rattle.answers.specs.Answers.{Answers, answered}
-use Rattle.adapters.specs.declared.Device.{Device}
-use Rattle.adapters.specs.Values.{deviceOf}
+use Rattle.rules.proofs.{Checks.passes, Checks.fails, Decode.length-table}
+use Rattle.answers.specs.{declared.Answer.Answer, Answers.Answers, Answers.answered}
+use Rattle.adapters.specs.{declared.Device.Device, Values.deviceOf}
 use Rattle.list_image.specs.Places.{placesOf}
-use Rattle.list_write.specs.Parts.{put, five, each}
+use Rattle.list_write.specs.{Parts.put, Parts.five, Parts.each, declared.Parts.Parts}
 use Rattle.list_write.proofs.Entries.{put-put, length-five, maybe, maybe-length, maybe-payloads, maybe-size, maybe-table, payloads-append, table-append, each-size}
-use Rattle.list_write.specs.declared.Parts.{Parts}
 use Rattle.list_write.specs.Write.{maskEntry, adapterEntries, otherEntries, entriesFrom, otherCount, countOf, bytesOf, Counted, WholeListing}
 
 -- ---- parts one after another

@@ -1,9 +1,7 @@
 -- What a played list prints.
 use Rattle.numbers.proofs.Basics.{_≡_, sym, _∙_, List, _++_, ℕ, _≤_, _<_, zero-add, length, take, drop, take-length}
 use Rattle.numbers.proofs.Basics.{length-take-le, eqb, lt-ltb, le-ltb}
-use Rattle.rules.specs.Bytes.{choose}
-use Rattle.rules.specs.State.{Pending, listing}
-use Rattle.rules.specs.Listing.{shown, refusal, told, mostBytes, printed}
+use Rattle.rules.specs.{Bytes.choose, State.Pending, State.listing, Listing.shown, Listing.refusal, Listing.told, Listing.mostBytes, Listing.printed}
 use Rattle.rules.proofs.Checks.{chosen, passed}
 use Rattle.list_fresh.specs.Fresh.{PlayedFresh}
 use Rattle.answers.specs.declared.Answer.{Answer}

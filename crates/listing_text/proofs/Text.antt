@@ -2,16 +2,10 @@
 use Rattle.numbers.proofs.Basics.{_≡_, refl, sym, ap, _∙_, Bool, true, false, List, [], _∷_, _++_, flatten}
 use Rattle.numbers.proofs.Basics.{append-assoc, append-nil, ℕ, zero, suc, _+_, _-_, _*_, _/_, _^_, _≤_, _<_, zero-add}
 use Rattle.numbers.proofs.Basics.{add-zero, add-assoc, pow-suc, div-lt-iff-lt-mul, add-one, arith, length, take, drop}
-use Rattle.numbers.proofs.Basics.{length-append, take-all, take-at, drop-at, take-paste, drop-paste, drop-drop}
-use Rattle.numbers.proofs.Basics.{length-paste, ltb, lt-ltb, le-ltb}
-use Rattle.rules.specs.Bytes.{choose, part, field}
-use Rattle.rules.specs.State.{Record, Kind, kind, subclass, interruptionWord}
-use Rattle.rules.specs.Requests.{recordsIn}
+use Rattle.numbers.proofs.{Basics.length-append, Basics.take-all, Basics.take-at, Basics.drop-at, Basics.take-paste, Basics.drop-paste, Basics.drop-drop, Basics.length-paste, Basics.ltb, Basics.lt-ltb, Basics.le-ltb, Laws.field-part}
+use Rattle.rules.specs.{Bytes.choose, Bytes.part, Bytes.field, State.Record, State.Kind, State.kind, State.subclass, State.interruptionWord, Requests.recordsIn, Invariant.All, Invariant.Whole}
 use Rattle.rules.specs.Listing.{ascii, digits, digitCount, decimal, hex8, line, name, ofIo, recordLine, linesFrom}
-use Rattle.rules.specs.Invariant.{All, Whole}
-use Rattle.numbers.proofs.Laws.{field-part}
-use Rattle.record_add.specs.declared.Kind.{Kind as Case}
-use Rattle.record_add.specs.Cases.{asCase}
+use Rattle.record_add.specs.{declared.Kind.Kind as Case, Cases.asCase}
 use Rattle.record_add.proofs.Laws.{kind-known, kindFor}
 use Rattle.listing_text.specs.Wrote.{Wrote}
 

@@ -1,10 +1,8 @@
 -- Laws of lists that are mapped, of copies within a list, of big-endian numbers, and of the eight subclasses.
-use mathlib.Core.Path.{_≡_, refl, sym, ap, _∙_}
-use mathlib.Core.List.{List, [], _∷_, _++_, append-assoc, append-nil, map}
+use mathlib.Core.{Path._≡_, Path.refl, Path.sym, Path.ap, Path._∙_, List.List, List.[], List._∷_, List._++_, List.append-assoc, List.append-nil, List.map}
 use Prim.Native.Nat.{ℕ, zero, suc, _+_, _-_, _*_, _/_, _%_, _^_, _≤_, _<_}
 use native.Mathlib.Nat.{zero-add, suc-add, not-suc-le-zero, le-of-suc-le-suc, add-zero, add-suc, mul-one, pow-zero, mul-assoc, pow-suc, pow-le-pow-right, div-div-eq-div-mul}
-use native.Mathlib.Numerals.{add-one}
-use native.Mathlib.Omega.{arith}
+use native.Mathlib.{Numerals.add-one, Omega.arith}
 use lib.ListN.{length, take, drop, getD, set, length-drop, length-append, length-set, drop-of-length-le}
 use lib.Seq.{take-nil, take-at, drop-at, take-append-le, take-take, take-all, take-suc, take-add, drop-cons, drop-drop, drop-paste, getD-drop, length-take-le, set-at, paste, paste-zero, paste-suc}
 use Rattle.rules.specs.Bytes.{number, part, field}

@@ -2,30 +2,22 @@
 use Rattle.numbers.proofs.Basics.{_≡_, refl, sym, ap, _∙_, Bool, true, false, _&&_, _⊎_, ⊎-elim, some, List, [], _∷_}
 use Rattle.numbers.proofs.Basics.{_++_, flatten, ℕ, zero, suc, _+_, _-_, _*_, _/_, _%_, _^_, _≤_, _<_, add-zero}
 use Rattle.numbers.proofs.Basics.{add-one, arith, length, take, drop, getD, set, replicate, length-append, drop-drop}
-use Rattle.numbers.proofs.Basics.{take-set-lt, take-set-le, getD-set-same, getD-set-other, getD-take, leb, eq-eqb}
-use Rattle.numbers.proofs.Basics.{ne-eqb, le-leb, lt-leb, leb-true, leb-false}
+use Rattle.numbers.proofs.{Basics.take-set-lt, Basics.take-set-le, Basics.getD-set-same, Basics.getD-set-other, Basics.getD-take, Basics.leb, Basics.eq-eqb, Basics.ne-eqb, Basics.le-leb, Basics.lt-leb, Basics.leb-true, Basics.leb-false, Laws.field-part}
 use denote.Enum.Declared.{tagOf}
-use Rattle.rules.specs.Bytes.{choose, bytes, part, field}
+use Rattle.rules.specs.{Bytes.choose, Bytes.bytes, Bytes.part, Bytes.field, Outcome.refuse, Outcome.need_else_⨾_}
 use Rattle.rules.specs.State as rules
 use Rattle.rules.specs.State.{Limits, State, Record, Pending, withPending, kind, subclass, addIo, addAs, add, addAll, firstOr, mergedOr, queued}
-use Rattle.rules.specs.Outcome.{refuse, need_else_⨾_}
 use Rattle.rules.specs.Requests.{recordsIn, kindAccepted, allAccepted, wants, allWant, enqueueBytes, enqueue, enqueues, adapterInterrupt, request}
 use Rattle.rules.proofs.Checks.{passes, fails, both}
-use Rattle.numbers.proofs.Laws.{field-part}
 use Rattle.store_queues.specs.Queues.{total, queues, Held}
 use Rattle.store_queues.proofs.Laws.{length-queues, flatten-queues, length-flatten-queues}
 use Rattle.store_singles.specs.Singles.{serviceOf, mchkOf}
 use Rattle.numbers.specs.declared.Subclass.{Subclass}
-use Rattle.answers.specs.declared.Answer.{Answer}
-use Rattle.answers.specs.Answers.{Answers, answered}
+use Rattle.answers.specs.{declared.Answer.Answer, Answers.Answers, Answers.answered}
 use Rattle.answers.proofs.Laws.{refused, accepted}
-use Rattle.record_add.specs.declared.Kind.{Kind}
-use Rattle.record_add.specs.declared.Kind.the-variants.{Io, Done, Service, MachineCheck, Other}
-use Rattle.record_add.specs.declared.Checked.{Checked}
-use Rattle.record_add.specs.declared.Checked.the-variants.{Good, BadAt}
+use Rattle.record_add.specs.{declared.Kind.Kind, declared.Kind.the-variants.Io, declared.Kind.the-variants.Done, declared.Kind.the-variants.Service, declared.Kind.the-variants.MachineCheck, declared.Kind.the-variants.Other, declared.Checked.Checked, declared.Checked.the-variants.Good, declared.Checked.the-variants.BadAt, Cases.asCase, Cases.kindOf, Cases.checkFrom, Cases.answerTo}
 use Rattle.record_add.proofs.Kind.{the-type}
 use Rattle.store.specs.Memory.{pendingOf}
-use Rattle.record_add.specs.Cases.{asCase, kindOf, checkFrom, answerTo}
 
 -- ---- a record within bytes
 pub kind-at-is : (at t : ℕ) (b : List ℕ) → t ≡ field at 8 b → kind (part at 72 b) ≡ rules.kindOf t

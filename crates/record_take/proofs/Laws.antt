@@ -2,36 +2,23 @@
 use Rattle.numbers.proofs.Basics.{_≡_, refl, sym, ap, _∙_, Bool, true, false, not, _&&_, true≢false, _⊎_, inl, inr}
 use Rattle.numbers.proofs.Basics.{Option, none, some, List, [], _∷_, _++_, flatten, append-assoc, append-nil, ℕ, zero}
 use Rattle.numbers.proofs.Basics.{suc, _+_, _*_, _/_, _%_, _≤_, _<_, not-suc-le-zero, arith, length, take, drop, getD}
-use Rattle.numbers.proofs.Basics.{length-append, length-take, length-drop, take-all, take-at, drop-at, drop-drop}
-use Rattle.numbers.proofs.Basics.{take-set-le, take-set-lt, getD-take, getD-set-same, getD-set-other, paste}
-use Rattle.numbers.proofs.Basics.{length-paste, eqb, bitAnd, le-leb, lt-leb, ne-eqb}
-use Rattle.rules.specs.Bytes.{choose, byte, part, field}
+use Rattle.numbers.proofs.{Basics.length-append, Basics.length-take, Basics.length-drop, Basics.take-all, Basics.take-at, Basics.drop-at, Basics.drop-drop, Basics.take-set-le, Basics.take-set-lt, Basics.getD-take, Basics.getD-set-same, Basics.getD-set-other, Basics.paste, Basics.length-paste, Basics.eqb, Basics.bitAnd, Basics.le-leb, Basics.lt-leb, Basics.ne-eqb}
+use Rattle.rules.specs.{Bytes.choose, Bytes.byte, Bytes.part, Bytes.field, Outcome.refuse, Outcome.accept, MoveList.oneIf, Invariant.All, Invariant.Whole}
 use Rattle.rules.specs.State.{Limits, State, Record, Pending, nothing, withPending, single, listing}
-use Rattle.rules.specs.Outcome.{refuse, accept}
 use Rattle.rules.specs.Requests.{isZero, withoutFirst, request, clearIoIrq, clearsIo, removes, clears, getsAll}
-use Rattle.rules.specs.MoveList.{oneIf}
 use Rattle.rules.specs.Take.{firstAllowed, orElse, handMchk, handService, handDone, handIo, handed, handsOut, takes}
-use Rattle.rules.proofs.Checks.{passes, fails}
-use Rattle.rules.specs.Invariant.{All, Whole}
-use Rattle.rules.proofs.Lists.{all-append, flatten-append}
-use Rattle.answers.specs.Answers.{Answers, answered}
+use Rattle.rules.proofs.{Checks.passes, Checks.fails, Lists.all-append, Lists.flatten-append}
+use Rattle.answers.specs.{Answers.Answers, Answers.answered, declared.Answer.Answer}
 use Rattle.answers.proofs.Laws.{same-state, accepted}
-use Rattle.answers.specs.declared.Answer.{Answer}
-use Rattle.store_queues.specs.Slots.{slotCount, removeAt}
-use Rattle.store_queues.proofs.Slots.{length-slot}
-use Rattle.store_queues.specs.Queues.{total, waiting, queues, withoutAt, Held}
-use Rattle.store_queues.proofs.Laws.{length-queues, length-queue, flatten-queues, length-flatten-queues, all-queued}
-use Rattle.store_queues.proofs.Counts.{waiting-bit}
+use Rattle.store_queues.specs.{Slots.slotCount, Slots.removeAt, Queues.total, Queues.waiting, Queues.queues, Queues.withoutAt, Queues.Held}
+use Rattle.store_queues.proofs.{Slots.length-slot, Laws.length-queues, Laws.length-queue, Laws.flatten-queues, Laws.length-flatten-queues, Laws.all-queued, Counts.waiting-bit}
 use Rattle.store_singles.specs.Singles.{ifThere, serviceOf, mchkOf}
 use Rattle.store_singles.proofs.Laws.{absent-if, there-if}
-use Rattle.store_search.specs.declared.Found.{Found}
-use Rattle.store_search.specs.declared.Found.the-variants.{At, None}
-use Rattle.store_search.specs.Search.{isForWord, leftAt, handedAt}
+use Rattle.store_search.specs.{declared.Found.Found, declared.Found.the-variants.At, declared.Found.the-variants.None, Search.isForWord, Search.leftAt, Search.handedAt}
 use Rattle.store_search.proofs.Laws.{has-both, same-mask}
 use Rattle.store.specs.Memory.{pendingOf}
-use Rattle.record_take.specs.declared.Next.{Next}
+use Rattle.record_take.specs.{declared.Next.Next, Next.withQueues, Next.handsQueued, Next.handedNext}
 use Rattle.record_take.specs.declared.Next.the-variants as next
-use Rattle.record_take.specs.Next.{withQueues, handsQueued, handedNext}
 
 -- ---- the listing of nine queues and two records
 module _ (o c b g : List ℕ) (h : Held o c) where

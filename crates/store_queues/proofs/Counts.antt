@@ -1,13 +1,9 @@
 -- Laws of the counts: their sum, the mask of the queues that have records, and one count that changes.
 use Rattle.numbers.proofs.Basics.{_≡_, refl, sym, ap, _∙_, true, List, [], _∷_, ℕ, zero, suc, _+_, _-_, _*_, _/_, _%_}
-use Rattle.numbers.proofs.Basics.{_^_, _≤_, _<_, not-suc-le-zero, le-of-suc-le-suc, div-div-eq-div-mul, pow-suc}
+use Rattle.numbers.proofs.{Basics._^_, Basics._≤_, Basics._<_, Basics.not-suc-le-zero, Basics.le-of-suc-le-suc, Basics.div-div-eq-div-mul, Basics.pow-suc, Basics.take-set-lt, Basics.take-set-le, Basics.length-take-le, Basics.getD-take, Basics.getD-drop, Basics.getD-set-same, Basics.getD-set-other, Basics.drop-drop, Basics.eq-eqb, Laws.each-subclass}
 use Rattle.numbers.proofs.Basics.{mul-comm, add-one, arith, length, take, drop, getD, set, replicate, length-set}
-use Rattle.numbers.proofs.Basics.{take-set-lt, take-set-le, length-take-le, getD-take, getD-drop, getD-set-same}
-use Rattle.numbers.proofs.Basics.{getD-set-other, drop-drop, eq-eqb}
 use Rattle.rules.specs.State.{hasBit, bit}
-use Rattle.numbers.proofs.Laws.{each-subclass}
-use Rattle.store_queues.specs.Slots.{slotCount}
-use Rattle.store_queues.specs.Queues.{each, total, waiting, sum, some, bits, Counted}
+use Rattle.store_queues.specs.{Slots.slotCount, Queues.each, Queues.total, Queues.waiting, Queues.sum, Queues.some, Queues.bits, Queues.Counted}
 
 -- ---- sums
 pub sum-at : (ns : List ℕ) (i : ℕ) → getD ns i 0 ≤ sum ns

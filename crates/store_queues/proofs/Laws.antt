@@ -4,17 +4,13 @@ use Rattle.numbers.proofs.Basics.{map, map-append, append-assoc, append-nil, �
 use Rattle.numbers.proofs.Basics.{_≤_, _<_, not-suc-le-zero, le-of-suc-le-suc, add-one, arith, length, take, drop}
 use Rattle.numbers.proofs.Basics.{getD, set, replicate, length-append, length-drop, length-map, length-set, getD-take}
 use Rattle.numbers.proofs.Basics.{getD-drop, take-all, take-suc, paste, length-paste, take-paste, eqb, eqb-true}
-use Rattle.numbers.proofs.Basics.{ne-eqb}
-use Rattle.rules.specs.Bytes.{choose}
-use Rattle.rules.specs.State.{Record}
-use Rattle.rules.specs.Invariant.{All}
+use Rattle.numbers.proofs.{Basics.ne-eqb, Laws.map-set, Laws.getD-map, Laws.part-same, Laws.drop-past}
+use Rattle.rules.specs.{Bytes.choose, State.Record, Invariant.All}
 use Rattle.rules.proofs.Lists.{all-append, flatten-append}
-use Rattle.numbers.proofs.Laws.{map-set, getD-map, part-same, drop-past}
 use Rattle.store_queues.specs.Slots.{slotCount, removeAt, slot, occurs, Apart, Stored}
-use Rattle.store_queues.proofs.Slots.{map-removeAt, occurs-append, occurs-out, occurs-self, occurs-set, maps-lack}
+use Rattle.store_queues.proofs.{Slots.map-removeAt, Slots.occurs-append, Slots.occurs-out, Slots.occurs-self, Slots.occurs-set, Slots.maps-lack, Counts.sum-next, Counts.length-each, Counts.count-small, Counts.Changed, Counts.counted-again, Counts.some-one, Counts.all-zero}
 use Rattle.store_queues.specs.Queues.{row, rows, each, total, waiting, used, spare, listed, queues, withoutAt, sum, some, bits, upFrom, Held, Appended, Removed, Emptied}
 use Rattle.store_queues.proofs.Rows.{length-row, row-at, row-more, row-stored, row-down, row-beside, row-past, length-rows, rows-at, rows-changed}
-use Rattle.store_queues.proofs.Counts.{sum-next, length-each, count-small, Changed, counted-again, some-one, all-zero}
 
 -- ---- the queues
 flatten-next : {A : Type 0} (l : List (List A)) (k : ℕ) → k < length l → flatten (take (k + 1) l) ≡ flatten (take k l) ++ getD l k []

@@ -2,11 +2,8 @@
 use Rattle.numbers.proofs.Basics.{_≡_, refl, sym, ap, ap₂, _∙_, List, [], _∷_, _++_, append-assoc, ℕ, zero, suc, _+_}
 use Rattle.numbers.proofs.Basics.{_-_, _*_, _≤_, _<_, not-suc-le-zero, le-of-suc-le-suc, add-one, decLt, arith}
 use Rattle.numbers.proofs.Basics.{length, take, drop, getD, set, length-drop, length-take-le, take-suc, take-suc-set}
-use Rattle.numbers.proofs.Basics.{take-set-le, drop-set-lt, drop-set-add, drop-append-le, drop-drop, take-take}
-use Rattle.numbers.proofs.Basics.{take-paste, getD-take, getD-drop, paste}
-use Rattle.numbers.proofs.Laws.{drop-take, drop-past, part-before}
-use Rattle.store_queues.specs.Slots.{slotCount, removeAt}
-use Rattle.store_queues.specs.Queues.{row, rows}
+use Rattle.numbers.proofs.{Basics.take-set-le, Basics.drop-set-lt, Basics.drop-set-add, Basics.drop-append-le, Basics.drop-drop, Basics.take-take, Basics.take-paste, Basics.getD-take, Basics.getD-drop, Basics.paste, Laws.drop-take, Laws.drop-past, Laws.part-before}
+use Rattle.store_queues.specs.{Slots.slotCount, Slots.removeAt, Queues.row, Queues.rows}
 
 -- ---- one row
 module _ (o : List ℕ) (q : ℕ) (h : q * slotCount + slotCount ≤ length o) where

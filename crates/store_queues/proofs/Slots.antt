@@ -3,9 +3,8 @@ use Rattle.numbers.proofs.Basics.{_≡_, refl, sym, ap, _∙_, Bool, true, fals
 use Rattle.numbers.proofs.Basics.{flatten, ℕ, zero, suc, _+_, _-_, _*_, _≤_, _<_, zero-add, suc-add, not-suc-le-zero}
 use Rattle.numbers.proofs.Basics.{le-of-suc-le-suc, suc-mul, mul-le-mul-right, add-one, decLt, arith, length, take}
 use Rattle.numbers.proofs.Basics.{drop, getD, set, length-drop, split-at, getD-drop, length-take-le, paste, eqb}
-use Rattle.numbers.proofs.Basics.{eqb-false, eq-eqb}
+use Rattle.numbers.proofs.{Basics.eqb-false, Basics.eq-eqb, Laws.map-take, Laws.map-drop, Laws.paste-more, Laws.drop-past, Laws.getD-past, Laws.part-same, Laws.part-before}
 use Rattle.rules.specs.Bytes.{choose}
-use Rattle.numbers.proofs.Laws.{map-take, map-drop, paste-more, drop-past, getD-past, part-same, part-before}
 use Rattle.store_queues.specs.Slots.{removeAt, slot, occurs}
 
 -- ---- a turn of move_down

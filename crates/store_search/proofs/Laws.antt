@@ -2,18 +2,11 @@
 use Rattle.numbers.proofs.Basics.{_≡_, refl, sym, ap, _∙_, Bool, true, false, _&&_, none, some, List, [], _∷_, ℕ}
 use Rattle.numbers.proofs.Basics.{zero, suc, _+_, _-_, _*_, _/_, _%_, _^_, _≤_, _<_, min, add-one, arith, length}
 use Rattle.numbers.proofs.Basics.{take, drop, getD, length-take, drop-of-length-le, drop-cons, getD-take, eqb, bitAnd}
-use Rattle.numbers.proofs.Basics.{and-step, eqb-true, eqb-false, eq-eqb, ne-eqb}
-use Rattle.rules.specs.Bytes.{choose, field}
-use Rattle.rules.specs.State.{Record, bit, hasBit}
-use Rattle.rules.specs.Requests.{consTo, without, orIn, withoutFirst}
-use Rattle.rules.specs.Take.{firstAllowed, keep}
-use Rattle.numbers.proofs.Laws.{field-part, each-subclass}
-use Rattle.store_queues.specs.Slots.{removeAt, slot}
-use Rattle.store_queues.specs.Queues.{withoutAt}
+use Rattle.numbers.proofs.{Basics.and-step, Basics.eqb-true, Basics.eqb-false, Basics.eq-eqb, Basics.ne-eqb, Laws.field-part, Laws.each-subclass}
+use Rattle.rules.specs.{Bytes.choose, Bytes.field, State.Record, State.bit, State.hasBit, Requests.consTo, Requests.without, Requests.orIn, Requests.withoutFirst, Take.firstAllowed, Take.keep}
+use Rattle.store_queues.specs.{Slots.removeAt, Slots.slot, Queues.withoutAt}
 use Rattle.store_queues.proofs.Counts.{halves}
-use Rattle.store_search.specs.declared.Found.{Found}
-use Rattle.store_search.specs.declared.Found.the-variants.{At, None}
-use Rattle.store_search.specs.Search.{isForWord, wanted, searchQueue, searchQueues, leftAt, handedAt}
+use Rattle.store_search.specs.{declared.Found.Found, declared.Found.the-variants.At, declared.Found.the-variants.None, Search.isForWord, Search.wanted, Search.searchQueue, Search.searchQueues, Search.leftAt, Search.handedAt}
 
 -- ---- a record is for a subchannel by one word of its slot, which is two halves
 -- two words are equal where their halves are

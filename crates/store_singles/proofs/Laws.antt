@@ -2,12 +2,8 @@
 use Rattle.numbers.proofs.Basics.{_≡_, refl, sym, ap, _∙_, Bool, true, false, not, none, some, List, [], _∷_, _++_}
 use Rattle.numbers.proofs.Basics.{zipWith, append-assoc, ℕ, zero, suc, _+_, _-_, _≤_, _<_, min, decLt, arith, length}
 use Rattle.numbers.proofs.Basics.{take, drop, getD, set, length-take, length-drop, drop-of-length-le, take-add}
-use Rattle.numbers.proofs.Basics.{take-all, take-at, drop-at, take-take, take-set-le, drop-drop, getD-drop}
-use Rattle.numbers.proofs.Basics.{getD-set-same, getD-set-other, set-out, length-take-le, length-paste, paste, eqb}
-use Rattle.numbers.proofs.Basics.{bitOr, eqb-true, eqb-false, not-true, not-false}
-use Rattle.rules.specs.Bytes.{byte, part}
-use Rattle.rules.specs.State.{Record, merged, mergedOr}
-use Rattle.numbers.proofs.Laws.{drop-take, paste-more, part-same, part-before, getD-past}
+use Rattle.numbers.proofs.{Basics.take-all, Basics.take-at, Basics.drop-at, Basics.take-take, Basics.take-set-le, Basics.drop-drop, Basics.getD-drop, Basics.getD-set-same, Basics.getD-set-other, Basics.set-out, Basics.length-take-le, Basics.length-paste, Basics.paste, Basics.eqb, Basics.bitOr, Basics.eqb-true, Basics.eqb-false, Basics.not-true, Basics.not-false, Laws.drop-take, Laws.paste-more, Laws.part-same, Laws.part-before, Laws.getD-past}
+use Rattle.rules.specs.{Bytes.byte, Bytes.part, State.Record, State.merged, State.mergedOr}
 use Rattle.store_singles.specs.Singles.{ifThere, serviceOf, mchkOf}
 
 pub absent : (n : ℕ) (r : Record) → n ≡ 0 → ifThere n r ≡ none

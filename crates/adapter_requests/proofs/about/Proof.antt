@@ -2,8 +2,7 @@
 use Rattle.numbers.proofs.Basics.{sym, _∙_, eq-eqb, ne-eqb, needs}
 use Rattle.rules.proofs.Checks.{chosen, passed}
 use Rattle.adapter_requests.specs.States.{aboutOf}
-use Rattle.adapter_requests.proofs.Laws.{about-place}
-use Rattle.adapter_requests.proofs.about.Statement.{statement}
+use Rattle.adapter_requests.proofs.{Laws.about-place, about.Statement.statement}
 use Rattle.adapter_requests.proofs.about.Tie as tie
 
 returns : tie.Need-returns

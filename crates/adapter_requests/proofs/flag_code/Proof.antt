@@ -1,7 +1,6 @@
 -- `adapter_requests::flag_code` meets its contract.
 use borrow.Author.Tests.{eq-eqb, ne-eqb}
-use Rattle.rules.specs.Bytes.{choose}
-use Rattle.rules.specs.Requests.{request, setsApf}
+use Rattle.rules.specs.{Bytes.choose, Requests.request, Requests.setsApf}
 use Rattle.rules.proofs.Checks.{passes, fails}
 use Rattle.adapter_requests.specs.States.{decided, modesAfter}
 use Rattle.adapter_requests.proofs.flag_code.Statement.{statement}

@@ -2,12 +2,10 @@
 use Rattle.numbers.proofs.Basics.{refl, ap, _∙_, length, eq-eqb, ne-eqb, le-leb, lt-leb, not-true, not-false, [], _∷_}
 use Rattle.numbers.proofs.Basics.{needs}
 use Rattle.rules.proofs.Checks.{passes, fails}
-use Rattle.rules.specs.Requests.{request}
+use Rattle.rules.specs.{Requests.request, Outcome.accept}
 use Rattle.rules.specs.State as rules
-use Rattle.rules.specs.Outcome.{accept}
 use Rattle.answers.proofs.Laws.{refused, accepted, not-refused}
-use Rattle.adapter_requests.proofs.Laws.{two-written}
-use Rattle.adapter_requests.proofs.get_masks.Statement.{statement}
+use Rattle.adapter_requests.proofs.{Laws.two-written, get_masks.Statement.statement}
 use Rattle.adapter_requests.proofs.get_masks.Tie as tie
 
 returns : tie.Need-returns

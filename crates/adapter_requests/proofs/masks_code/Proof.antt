@@ -1,10 +1,8 @@
 -- `adapter_requests::masks_code` meets its contract.
 use Rattle.numbers.proofs.Basics.{_∙_, arith, not-true, not-false}
-use Rattle.rules.specs.Bytes.{choose}
-use Rattle.rules.specs.Requests.{request}
+use Rattle.rules.specs.{Bytes.choose, Requests.request}
 use Rattle.adapter_requests.specs.States.{decided, modesAfter}
-use Rattle.adapter_requests.proofs.Laws.{not-accepted, bad-attr, no-ais, short-ais, opened-ais}
-use Rattle.adapter_requests.proofs.masks_code.Statement.{statement}
+use Rattle.adapter_requests.proofs.{Laws.not-accepted, Laws.bad-attr, Laws.no-ais, Laws.short-ais, Laws.opened-ais, masks_code.Statement.statement}
 use Rattle.adapter_requests.proofs.masks_code.Tie as tie
 
 returns : tie.Need-returns

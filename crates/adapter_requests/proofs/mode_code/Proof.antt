@@ -1,14 +1,10 @@
 -- `adapter_requests::mode_code` meets its contract.
 use Rattle.numbers.proofs.Basics.{_≤_, _≡_, ap, _∙_, [], arith, needs, le-leb, lt-leb, not-true, not-false}
-use Rattle.rules.specs.Bytes.{choose, byte, field}
-use Rattle.rules.specs.State.{Limits, State, withDevice}
+use Rattle.rules.specs.{Bytes.choose, Bytes.byte, Bytes.field, State.Limits, State.State, State.withDevice, Outcome.accept, Requests.aism, Requests.request, Requests.setsMode}
 use Rattle.rules.specs.State as rules
-use Rattle.rules.specs.Outcome.{accept}
-use Rattle.rules.specs.Requests.{aism, request, setsMode}
 use Rattle.rules.proofs.Checks.{passes, fails}
 use Rattle.adapter_requests.specs.States.{decided, modesAfter}
-use Rattle.adapter_requests.proofs.Laws.{not-accepted, bad-attr, no-ais, short-ais, opened-ais, mode-is}
-use Rattle.adapter_requests.proofs.mode_code.Statement.{statement}
+use Rattle.adapter_requests.proofs.{Laws.not-accepted, Laws.bad-attr, Laws.no-ais, Laws.short-ais, Laws.opened-ais, Laws.mode-is, mode_code.Statement.statement}
 use Rattle.adapter_requests.proofs.mode_code.Tie as tie
 
 -- the attribute, the capability and the lent length have passed

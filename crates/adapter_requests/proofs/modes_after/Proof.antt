@@ -1,8 +1,7 @@
 -- `adapter_requests::modes_after` meets its contract.
 use Rattle.numbers.proofs.Basics.{ap, sym, _∙_, arith, needs}
 use Rattle.adapters.specs.Values.{deviceOf}
-use Rattle.adapter_requests.proofs.Laws.{after-mode, after-masks, after-flag}
-use Rattle.adapter_requests.proofs.modes_after.Statement.{statement}
+use Rattle.adapter_requests.proofs.{Laws.after-mode, Laws.after-masks, Laws.after-flag, modes_after.Statement.statement}
 use Rattle.adapter_requests.proofs.modes_after.Tie as tie
 
 mode-in-requires : tie.Need-mode-in-requires

@@ -1,10 +1,8 @@
 -- `adapter_requests::modes_code` meets its contract: each group's own code, and 22 for a number that is no group.
 use Rattle.numbers.proofs.Basics.{arith, needs}
-use Rattle.rules.specs.Bytes.{choose}
-use Rattle.rules.specs.Requests.{request}
+use Rattle.rules.specs.{Bytes.choose, Requests.request}
 use Rattle.adapter_requests.specs.States.{decided}
-use Rattle.adapter_requests.proofs.Laws.{not-accepted, not-on-place, no-set}
-use Rattle.adapter_requests.proofs.modes_code.Statement.{statement}
+use Rattle.adapter_requests.proofs.{Laws.not-accepted, Laws.not-on-place, Laws.no-set, modes_code.Statement.statement}
 use Rattle.adapter_requests.proofs.modes_code.Tie as tie
 
 returns : tie.Need-returns

@@ -1,16 +1,12 @@
 -- `adapter_requests::modify_code` meets its contract.
 use Rattle.numbers.proofs.Basics.{_≡_, ap, _∙_, true, not, _&&_, _||_, [], arith, getD, leb, eqb, needs}
 use Rattle.numbers.proofs.Basics.{eq-eqb, ne-eqb, le-leb, lt-leb, lt-ltb, le-ltb, not-true, not-false}
-use Rattle.rules.specs.Bytes.{choose, byte, field}
-use Rattle.rules.specs.State.{Limits, State, free, withAdapter}
-use Rattle.rules.specs.Outcome.{accept, need_else_⨾_}
-use Rattle.rules.specs.Requests.{holding, adapterModify, request, modifies, withMask, nonZero}
+use Rattle.rules.specs.{Bytes.choose, Bytes.byte, Bytes.field, State.Limits, State.State, State.free, State.withAdapter, Outcome.accept, Outcome.need_else_⨾_, Requests.holding, Requests.adapterModify, Requests.request, Requests.modifies, Requests.withMask, Requests.nonZero}
 use Rattle.rules.proofs.Checks.{passes, fails, found, missing, both}
 use Rattle.adapters.specs.Values.{placeOf, adapterOf}
 use Rattle.adapters.proofs.Laws.{place-used, place-free}
 use Rattle.adapter_requests.specs.States.{payloadId, decided, placeAfter, withPlace}
-use Rattle.adapter_requests.proofs.Laws.{not-accepted, bad-attr, short, opened, id-there, place-there, modified}
-use Rattle.adapter_requests.proofs.modify_code.Statement.{statement}
+use Rattle.adapter_requests.proofs.{Laws.not-accepted, Laws.bad-attr, Laws.short, Laws.opened, Laws.id-there, Laws.place-there, Laws.modified, modify_code.Statement.statement}
 use Rattle.adapter_requests.proofs.modify_code.Tie as tie
 
 returns : tie.Need-returns

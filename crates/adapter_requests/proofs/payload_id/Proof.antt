@@ -2,8 +2,7 @@
 use Rattle.numbers.proofs.Basics.{sym, _∙_, lt-leb, needs}
 use Rattle.rules.proofs.Checks.{passed}
 use Rattle.adapter_requests.specs.States.{payloadId}
-use Rattle.adapter_requests.proofs.Laws.{id-there}
-use Rattle.adapter_requests.proofs.payload_id.Statement.{statement}
+use Rattle.adapter_requests.proofs.{Laws.id-there, payload_id.Statement.statement}
 use Rattle.adapter_requests.proofs.payload_id.Tie as tie
 
 returns : tie.Need-returns

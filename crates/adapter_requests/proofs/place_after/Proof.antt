@@ -1,11 +1,9 @@
 -- `adapter_requests::place_after` meets its contract: what REGISTER enters, what MODIFY of type 1 leaves, or the place as it was.
 use Rattle.numbers.proofs.Basics.{sym, _∙_, arith, needs, eq-eqb, ne-eqb}
-use Rattle.rules.specs.Bytes.{choose}
-use Rattle.rules.specs.Requests.{adapterIn}
+use Rattle.rules.specs.{Bytes.choose, Requests.adapterIn}
 use Rattle.rules.proofs.Checks.{chosen, passed}
 use Rattle.adapter_requests.specs.States.{placeAfter, changeOf}
-use Rattle.adapter_requests.proofs.Laws.{on-place-7, within-same}
-use Rattle.adapter_requests.proofs.place_after.Statement.{statement}
+use Rattle.adapter_requests.proofs.{Laws.on-place-7, Laws.within-same, place_after.Statement.statement}
 use Rattle.adapter_requests.proofs.place_after.Tie as tie
 
 reads : tie.Need-shared-slice-read-t6

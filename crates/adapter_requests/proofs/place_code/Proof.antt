@@ -1,7 +1,6 @@
 -- `adapter_requests::place_code` meets its contract: REGISTER's code or MODIFY's.
 use borrow.Author.Needs.{needs}
-use Rattle.adapter_requests.proofs.Laws.{on-place-7}
-use Rattle.adapter_requests.proofs.place_code.Statement.{statement}
+use Rattle.adapter_requests.proofs.{Laws.on-place-7, place_code.Statement.statement}
 use Rattle.adapter_requests.proofs.place_code.Tie as tie
 
 returns : tie.Need-returns

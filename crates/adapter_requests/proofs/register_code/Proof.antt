@@ -1,16 +1,12 @@
 -- `adapter_requests::register_code` meets its contract.
 use Rattle.numbers.proofs.Basics.{ℕ, _≡_, refl, ap, sym, _∙_, [], arith, true, getD, leb, needs}
 use Rattle.numbers.proofs.Basics.{le-leb, lt-leb, lt-ltb, le-ltb}
-use Rattle.rules.specs.Bytes.{choose, byte, field}
-use Rattle.rules.specs.State.{Limits, State, free, withAdapter}
-use Rattle.rules.specs.Outcome.{accept, need_else_⨾_}
-use Rattle.rules.specs.Requests.{adapterRegister, request, registers, adapterIn, isFree}
+use Rattle.rules.specs.{Bytes.choose, Bytes.byte, Bytes.field, State.Limits, State.State, State.free, State.withAdapter, Outcome.accept, Outcome.need_else_⨾_, Requests.adapterRegister, Requests.request, Requests.registers, Requests.adapterIn, Requests.isFree}
 use Rattle.rules.proofs.Checks.{passes, fails}
 use Rattle.adapters.specs.Values.{placeOf}
 use Rattle.adapters.proofs.Laws.{place-used, place-free}
 use Rattle.adapter_requests.specs.States.{payloadId, decided, placeAfter}
-use Rattle.adapter_requests.proofs.Laws.{not-accepted, bad-attr, short, opened, id-there, place-there}
-use Rattle.adapter_requests.proofs.register_code.Statement.{statement}
+use Rattle.adapter_requests.proofs.{Laws.not-accepted, Laws.bad-attr, Laws.short, Laws.opened, Laws.id-there, Laws.place-there, register_code.Statement.statement}
 use Rattle.adapter_requests.proofs.register_code.Tie as tie
 
 -- the attribute, the lent length and the id have passed

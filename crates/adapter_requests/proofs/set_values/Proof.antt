@@ -1,7 +1,6 @@
 -- `adapter_requests::set_values` meets its contract: the code decides, and an accepted request changes the place or the device record.
 use Rattle.numbers.proofs.Basics.{ℕ, _≡_, refl, ap, sym, _∙_, subst, [], getD, needs}
-use Rattle.rules.specs.State.{State, free}
-use Rattle.rules.specs.Outcome.{accept}
+use Rattle.rules.specs.{State.State, State.free, Outcome.accept}
 use Rattle.adapters.specs.Values.{placeOf}
 use Rattle.adapter_requests.specs.States.{modesAfter}
 use Rattle.adapter_requests.proofs.Laws.{decided-refused, decided-accepted, about-place, keeps-place, entered, devised, refused, accepted}

@@ -1,6 +1,5 @@
 -- `adapters::registered` meets its contract: the place is used and not masked.
-use mathlib.Core.Path.{refl}
-use mathlib.Core.Bool.{true≢false, false≢true}
+use mathlib.Core.{Path.refl, Bool.true≢false, Bool.false≢true}
 use Rattle.rules.specs.Bytes.{choose}
 use Rattle.adapters.specs.Values.{placeOf}
 use Rattle.adapters.proofs.registered.Statement.{statement}

@@ -1,9 +1,7 @@
 -- `adapters::with_bit` meets its contract: a bit that is not set has room.
 use Rattle.numbers.proofs.Basics.{needs, arith, sym, _∙_}
-use Rattle.rules.specs.Bytes.{choose}
-use Rattle.rules.specs.State.{withBit}
-use Rattle.adapters.proofs.Laws.{bit-room}
-use Rattle.adapters.proofs.with_bit.Statement.{statement}
+use Rattle.rules.specs.{Bytes.choose, State.withBit}
+use Rattle.adapters.proofs.{Laws.bit-room, with_bit.Statement.statement}
 use Rattle.adapters.proofs.with_bit.Tie as tie
 
 returns : tie.Need-returns

@@ -1,9 +1,7 @@
 -- `adapters::without_bit` meets its contract: a bit that is set is at most the mask.
 use Rattle.numbers.proofs.Basics.{needs, arith, sym, _∙_}
-use Rattle.rules.specs.Bytes.{choose}
-use Rattle.rules.specs.State.{withoutBit}
-use Rattle.adapters.proofs.Laws.{bit-room}
-use Rattle.adapters.proofs.without_bit.Statement.{statement}
+use Rattle.rules.specs.{Bytes.choose, State.withoutBit}
+use Rattle.adapters.proofs.{Laws.bit-room, without_bit.Statement.statement}
 use Rattle.adapters.proofs.without_bit.Tie as tie
 
 sub-result : tie.Need-sub-result

@@ -2,8 +2,7 @@
 use Rattle.numbers.proofs.Basics.{refl, needs}
 use Rattle.rules.specs.Requests.{request}
 use Rattle.answers.proofs.Laws.{refused}
-use Rattle.calls.proofs.Requests.{no-get, as-get}
-use Rattle.calls.proofs.answer_get.Statement.{statement}
+use Rattle.calls.proofs.{Requests.no-get, Requests.as-get, answer_get.Statement.statement}
 use Rattle.calls.proofs.answer_get.Tie as tie
 
 returns : tie.Need-returns

@@ -1,21 +1,14 @@
 -- `calls::answer_inject` meets its contract: the four cases of an injection, and an id past the last place.
 use Rattle.numbers.proofs.Basics.{ℕ, _<_, _≡_, refl, ap, sym, _∙_, List, [], arith, leb, needs, leb-true, leb-false}
-use Rattle.rules.specs.Requests.{adapterInterrupt}
-use Rattle.rules.specs.State.{State, queued, addIo, withPending, withDevice}
-use Rattle.rules.specs.Outcome.{accept}
+use Rattle.rules.specs.{Requests.adapterInterrupt, State.State, State.queued, State.addIo, State.withPending, State.withDevice, Outcome.accept}
 use Rattle.record_add.proofs.Laws.{queued-total}
 use Rattle.store_queues.specs.Queues.{total}
-use Rattle.adapters.specs.declared.Injection.{Injection}
-use Rattle.adapters.specs.Values.{injectionOf, injectedDevice, deviceOf}
+use Rattle.adapters.specs.{declared.Injection.Injection, Values.injectionOf, Values.injectedDevice, Values.deviceOf}
 use Rattle.numbers.specs.declared.Subclass.{Subclass}
 use Rattle.answers.proofs.Laws.{refused-as, accepted}
-use Rattle.calls.specs.declared.Controller.{Controller}
-use Rattle.calls.specs.Limits.{limitsOf}
-use Rattle.calls.specs.Cases.{answerFor}
-use Rattle.calls.specs.Inner.{controller, pendingIn}
-use Rattle.calls.proofs.Limits.{limits-sized}
+use Rattle.calls.specs.{declared.Controller.Controller, Limits.limitsOf, Cases.answerFor, Inner.controller, Inner.pendingIn}
+use Rattle.calls.proofs.{Limits.limits-sized, answer_inject.Statement.statement}
 use Rattle.calls.proofs.Requests.{as-it-was, none-there, dropped-there, full-there, appended-there, out-of-range, nobody-there, is-dropped, is-full, is-appended, injected-is, nothing-changes, is-noted}
-use Rattle.calls.proofs.answer_inject.Statement.{statement}
 use Rattle.calls.proofs.answer_inject.Tie as tie
 
 abbrev before : tie.Start → List ℕ → Controller

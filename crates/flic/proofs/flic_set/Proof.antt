@@ -1,84 +1,47 @@
 -- `flic_set`: the table's length is looked at first. Then the table, the device record and the controller are opened, the group decides which function is called, and all is
 -- closed at the exit. In between the walk holds their memory.
 use Rattle.flic.proofs.Walk.{_≡_, refl, sym, ap, subst, ℕ, _<_, _^_, Bool, true, false, [], _∷_, List, length, getD, URA, fullShare, named, erased, w8, w64, tyInt, tyBool, tyUnit, tyRef, imm, mut, Val, vunit, vint, vbool, vptr, SProp, ent, id⊢, GName, Lft, Share, Fml, ftrue, fsep, flft, fat, Memory, Routine, Heap, Env, Calls, Loops, WpFn, Atoms, Fun, givenOf, tablesOf, Given, Item, Sq, runs, atRet, ‵, ⋆, _⊛_, _$_, _∵_, !, qed, by, move, keep, drop, split, join, rewrite, fsplit, fjoin, suffices, frame, done, look, store, init, stop, hop, fld, from, load, lit, addr, of-opd, bin, and-then, no-more, assigns, land, enter, alloc1, alloc0, params1, pass1, pass0, agg, whole, sub, look-in, FmC, owns, Is, pointee, bool-makes, uint-vals, uint-tells, uint-makes, u8, u64, RefT, ptr-vals, mut-tells, sliceVal, sliceTy, ShrSlice, Room, slice-vals, mut-slice-tells, shr-slice-tells, plain, only, owned, nothing, onEntry, tripleOf, Contract, Triple, cited, says, Stays, stay-ref, stay-slice, walkOf, goes-ref, goes-slice, Walks, ends-at, walked, yes, _+_, _∙_, w32, tyArray, u32, bool, needs, stay-dropped, goes-dropped, Wp, afterSeq, atReturn, anyQ, first, skips, branches, exec, returns-within}
-use Rattle.lent_table.proofs.Ends.{concludes}
-use types.Kit as Kit
+use Rattle.lent_table.proofs.{Ends.concludes, Count.afters, Count.taken, Places.FitsId, Places.fit-id, Places.typed-id, Places.makes-id, Record.ReadDevice, Record.NoteInjection, Record.reads-device, Record.notes-injection, Calls.LookUp, Calls.looks-up}
 use types.Kit.{post}
 use prog.Wp.{returns as returnsᴼ}
 use Rattle.numbers.proofs.Basics.{arith, eqb, not, eqb-true, eqb-false}
 use package.mir.Syntax.{return, Body as Code}
 use denote.Struct.Laws as LL
 use denote.Signature.{shrSliceOf}
-use Rattle.calls.specs.Limits.{limitsOf}
+use Rattle.calls.specs.{Limits.limitsOf, declared.Controller.Controller, Inner.controller, Inner.notedIn, Inner.Injected}
 use Rattle.calls.proofs.Limits.{right-length, wrong-length}
 use Rattle.list_image.specs.Image.{imageSize}
 use Rattle.rules.specs.Machine.{setAttr}
-use Rattle.rules.proofs.Checks.{chosen, passed}
-use Rattle.rules.proofs.Lists.{all-get}
+use Rattle.rules.proofs.{Checks.chosen, Checks.passed, Lists.all-get}
 use Rattle.numbers.specs.declared.AdapterId.{AdapterId}
 use Rattle.numbers.proofs.AdapterId as I
-use Rattle.numbers.proofs.AdapterId.Laws as I′
-use Rattle.answers.specs.declared.Answer.{Answer}
-use Rattle.answers.specs.Answers.{saw}
+use Rattle.answers.specs.{declared.Answer.Answer, Answers.saw}
 use Rattle.answers.proofs.Answer as An
-use Rattle.answers.proofs.Answer.Laws as An′
-use Rattle.answers.proofs.refuse.Symbol as refuse-def
-use Rattle.answers.proofs.refuse.Met as refuse-thm
-use Rattle.adapters.specs.declared.Device.{Device}
-use Rattle.adapters.specs.declared.Place.{Place}
-use Rattle.adapters.specs.Values.{unused, Canonical, injectedDevice}
+use Rattle.answers.proofs.refuse as refuse
+use Rattle.adapters.specs.{declared.Device.Device, declared.Place.Place, Values.unused, Values.Canonical, Values.injectedDevice}
 use Rattle.adapters.proofs.Device as D
-use Rattle.adapters.proofs.Device.Laws as D′
 use Rattle.adapters.proofs.Place as P
-use Rattle.adapters.proofs.Place.Laws as P′
 use Rattle.adapter_requests.specs.States.{onPlace}
-use Rattle.adapter_requests.proofs.on_place.Symbol as on-place-def
-use Rattle.adapter_requests.proofs.on_place.Met as on-place-thm
-use Rattle.lent_table.proofs.Count.{afters, taken}
-use Rattle.lent_table.proofs.Places.{FitsId, fit-id, typed-id, makes-id}
+use Rattle.adapter_requests.proofs.on_place as on-place
 use Rattle.lent_table.proofs.Locals.{Content, blank, holds, since, locals, frees-front, swaps, holds-true, holds-false, not-not}
-use Rattle.lent_requests.proofs.Answered.{FitsAnswer, refused, Refuse, ByFields, refuses, copies}
-use Rattle.lent_requests.proofs.Laws.{canonical-unused}
-use Rattle.lent_table.proofs.Record.{ReadDevice, NoteInjection, reads-device, notes-injection}
-use Rattle.answers.proofs.by_fields.Symbol as by-fields-def
-use Rattle.answers.proofs.by_fields.Met as by-fields-thm
+use Rattle.lent_requests.proofs.{Answered.FitsAnswer, Answered.refused, Answered.Refuse, Answered.ByFields, Answered.refuses, Answered.copies, Laws.canonical-unused}
+use Rattle.answers.proofs.by_fields as by-fields
 use Rattle.record_add.proofs.enqueue_irqs as enqueue
-use Rattle.record_add.proofs.enqueue_irqs.Symbol as enqueue-def
-use Rattle.record_add.proofs.enqueue_irqs.Met as enqueue-thm
 use Rattle.record_take.proofs.clear_irqs as clear
-use Rattle.record_take.proofs.clear_irqs.Symbol as clear-def
-use Rattle.record_take.proofs.clear_irqs.Met as clear-thm
 use Rattle.record_take.proofs.clear_io as clear-io
-use Rattle.record_take.proofs.clear_io.Symbol as clear-io-def
-use Rattle.record_take.proofs.clear_io.Met as clear-io-thm
-use Rattle.lent_table.proofs.Calls.{LookUp, looks-up}
-use Rattle.lent_table.proofs.look_up.Symbol as look-up-def
-use Rattle.lent_table.proofs.look_up.Met as look-up-thm
-use Rattle.lent_table.proofs.read_device.Symbol as read-device-def
-use Rattle.lent_table.proofs.read_device.Met as read-device-thm
-use Rattle.lent_table.proofs.note_injection.Symbol as note-injection-def
-use Rattle.lent_table.proofs.note_injection.Met as note-injection-thm
-use Rattle.lent_requests.proofs.set_place.Symbol as set-place-def
-use Rattle.lent_requests.proofs.set_place.Met as set-place-thm
-use Rattle.lent_requests.proofs.set_modes.Symbol as set-modes-def
-use Rattle.lent_requests.proofs.set_modes.Met as set-modes-thm
-use Rattle.calls.specs.declared.Controller.{Controller}
-use Rattle.calls.specs.Inner.{controller, notedIn, Injected}
+use Rattle.lent_table.proofs.look_up as look-up
+use Rattle.lent_table.proofs.read_device as read-device
+use Rattle.lent_table.proofs.note_injection as note-injection
+use Rattle.lent_requests.proofs.set_place as set-place
+use Rattle.lent_requests.proofs.set_modes as set-modes
 use Rattle.calls.proofs.Controller as C
 use Rattle.calls.proofs.answer_inject as answer-inject
-use Rattle.calls.proofs.answer_inject.Symbol as answer-inject-def
-use Rattle.calls.proofs.answer_inject.Met as answer-inject-thm
 use Rattle.flic.specs.Surface.{Valid, Requested}
 use Rattle.flic.proofs.Promises.{SetRecords, Enqueued, enqueued, Cleared, cleared, ClearedIo, cleared-io, of-group, wrong-promises, record-promises, inject-promises, place-promises, modes-promises}
-use Rattle.flic.proofs.Opened.{Has}
+use Rattle.flic.proofs.{Opened.Has, Calls.OnPlace, Calls.SetPlace, Calls.SetModes, Calls.asks-place, Calls.sets-place, Calls.sets-modes}
 use Rattle.flic.proofs.All.{Refs, refs, at-ctl, at-dev, at-tab, table, Owned, Tokens, Passed, Open, Closed, takes-all, opens-all, closes-all, gives-all}
 use Rattle.flic.proofs.Four.{Ways, all, mutably, shared, apart, at-array, Loan, Toks, Lent, left-by, lent-lfts, lent-shares, lent-args, lent-vals, calls-four}
-use Rattle.flic.proofs.Calls.{OnPlace, SetPlace, SetModes, asks-place, sets-place, sets-modes}
-use Rattle.flic.proofs.flic_set.Key.{name as #key}
 use Rattle.flic.proofs.flic_set as f
-use Rattle.flic.proofs.flic_set.Statement as stated
-use Rattle.flic.proofs.flic_set.Code as code
-use Rattle.flic.proofs.flic_set.Code.Mir as mir
 
 -- how the arrays are lent: to ENQUEUE all, to CLEAR_IRQS all but the slots, to CLEAR_IO_IRQ and to an injection all but the two single records
 abbrev clear-ways : Ways
@@ -108,18 +71,18 @@ module _ {M : Type 1} (𝓤 : URA M) (H : Heap 𝓤) (A : Atoms 𝓤) (mem′ : 
 
   -- what is known of the callees
   pub record Known (C′ : Calls 𝓤 H) : Type 1 where
-    pub refuse : Triple 𝓤 (C′ refuse-def.name) (Refuse 𝓤 H A mem′ run)
-    pub enqueue : Triple 𝓤 (C′ enqueue-def.name) Enqueue
-    pub by-fields : Triple 𝓤 (C′ by-fields-def.name) (ByFields 𝓤 H A mem′ run)
-    pub clear : Triple 𝓤 (C′ clear-def.name) Clear
-    pub clear-io : Triple 𝓤 (C′ clear-io-def.name) ClearIo
-    pub look-up : Triple 𝓤 (C′ look-up-def.name) (LookUp 𝓤 H A mem′ run)
-    pub read-device : Triple 𝓤 (C′ read-device-def.name) (ReadDevice 𝓤 H A mem′ run)
-    pub inject : Triple 𝓤 (C′ answer-inject-def.name) AnswerInject
-    pub note : Triple 𝓤 (C′ note-injection-def.name) (NoteInjection 𝓤 H A mem′ run)
-    pub on-place : Triple 𝓤 (C′ on-place-def.name) (OnPlace 𝓤 H A mem′ run)
-    pub set-place : Triple 𝓤 (C′ set-place-def.name) (SetPlace 𝓤 H A mem′ run)
-    pub set-modes : Triple 𝓤 (C′ set-modes-def.name) (SetModes 𝓤 H A mem′ run)
+    pub refuse : Triple 𝓤 (C′ refuse.Symbol.name) (Refuse 𝓤 H A mem′ run)
+    pub enqueue : Triple 𝓤 (C′ enqueue.Symbol.name) Enqueue
+    pub by-fields : Triple 𝓤 (C′ by-fields.Symbol.name) (ByFields 𝓤 H A mem′ run)
+    pub clear : Triple 𝓤 (C′ clear.Symbol.name) Clear
+    pub clear-io : Triple 𝓤 (C′ clear-io.Symbol.name) ClearIo
+    pub look-up : Triple 𝓤 (C′ look-up.Symbol.name) (LookUp 𝓤 H A mem′ run)
+    pub read-device : Triple 𝓤 (C′ read-device.Symbol.name) (ReadDevice 𝓤 H A mem′ run)
+    pub inject : Triple 𝓤 (C′ answer-inject.Symbol.name) AnswerInject
+    pub note : Triple 𝓤 (C′ note-injection.Symbol.name) (NoteInjection 𝓤 H A mem′ run)
+    pub on-place : Triple 𝓤 (C′ on-place.Symbol.name) (OnPlace 𝓤 H A mem′ run)
+    pub set-place : Triple 𝓤 (C′ set-place.Symbol.name) (SetPlace 𝓤 H A mem′ run)
+    pub set-modes : Triple 𝓤 (C′ set-modes.Symbol.name) (SetModes 𝓤 H A mem′ run)
 
 module _ {M : Type 1} (𝓤 : URA M) (H : Heap 𝓤) (A : Atoms 𝓤) (W : Given 𝓤 H A) (mem′ : Memory → SProp 𝓤) (run : Routine → Fun 𝓤)
     (a : Refs) (κp : Lft) (qp : Share) (bp op : ℕ) (γp : GName) (group attr : ℕ) (ps : List ℕ)
@@ -142,16 +105,16 @@ module _ {M : Type 1} (𝓤 : URA M) (H : Heap 𝓤) (A : Atoms 𝓤) (W : Given
   abbrev OwnP : Fml
   OwnP = ShrSlice (named 3) κp u8 .own (at-array bp op γp ps) (sp ∷ [])
 
-  exits : (c′ : Controller) (m : Device) (zs : List Place) (z : Answer) → length zs ≡ length (a .t) → Requested (setAttr group attr) (a .c) c′ (a .d) m (a .t) zs ps (saw z ps) → Is An.the-row z (An′.lowered z ∷ [])
-      → ent 𝓤 (⋆ 𝓤 H A (Closed a zs m c′ (‵ (flft κp qp) ∷ []))) (Post (An′.lowered z))
+  exits : (c′ : Controller) (m : Device) (zs : List Place) (z : Answer) → length zs ≡ length (a .t) → Requested (setAttr group attr) (a .c) c′ (a .d) m (a .t) zs ps (saw z ps) → Is An.the-row z (An.Laws.lowered z ∷ [])
+      → ent 𝓤 (⋆ 𝓤 H A (Closed a zs m c′ (‵ (flft κp qp) ∷ []))) (Post (An.Laws.lowered z))
   exits c′ m zs z e requested g =
-      qed W (Closed a zs m c′ (‵ (flft κp qp) ∷ [])) ∵ suffices ! _ (ends-at 𝓤 H A f.ended stayed (f.clauses 𝓤 H A mem′ run) W bound (An′.lowered z) z (c′, (m, (zs, (tt, (tt, (tt, tt)))))) (tt, (tt, (e, (tt, (tt, (tt, tt))))))) $ says ! requested $
+      qed W (Closed a zs m c′ (‵ (flft κp qp) ∷ [])) ∵ suffices ! _ (ends-at 𝓤 H A f.ended stayed (f.clauses 𝓤 H A mem′ run) W bound (An.Laws.lowered z) z (c′, (m, (zs, (tt, (tt, (tt, tt)))))) (tt, (tt, (e, (tt, (tt, (tt, tt))))))) $ says ! requested $
       nothing ! $ nothing ! $ fjoin ! $ nothing ! $ fjoin ! $ nothing ! $ fjoin ! $ nothing ! $ move ! (11 ∷ 0 ∷ []) $ join ! $ move ! (2 ∷ 3 ∷ 4 ∷ 5 ∷ 6 ∷ 7 ∷ 8 ∷ 9 ∷ 10 ∷ []) $
-      gives-all ! a zs m c′ e room $ frame ! $ frame ! $ owned ! An.the-row (Is An.the-row) (LL.makes An.the-type An′.the-plain 𝓤 H A) z _ g $ done !
+      gives-all ! a zs m c′ e room $ frame ! $ frame ! $ owned ! An.the-row (Is An.the-row) (LL.makes An.the-type An.Laws.the-plain 𝓤 H A) z _ g $ done !
 
   module _ (C′ : Calls 𝓤 H) (Λ : Loops 𝓤 H) (fm : FmC 𝓤 H (W .laws) C′) (known : Known 𝓤 H A mem′ run C′) (l₀ l₁ l₂ l₃ l₄ l₅ l₆ l₇ l₈ l₉ l₁₀ l₁₁ l₁₂ l₁₃ l₁₄ l₁₅ l₁₆ l₁₇ l₁₈ l₁₉ l₂₀ l₂₁ l₂₂ l₂₃ l₂₄ l₂₅ l₂₆ l₂₇ l₂₈ l₂₉ l₃₀ l₃₁ l₃₂ l₃₃ l₃₄ l₃₅ l₃₆ l₃₇ : ℕ) where
     abbrev E : Env 𝓤 H
-    E = (An′.mir, l₀) ∷ (tyRef (named 0) mut (pointee (C.the-row .written)), l₁) ∷ (tyRef (named 1) mut (pointee (D.the-row .written)), l₂) ∷ (sliceTy (tyRef (named 2) mut (pointee (P.the-row .written))), l₃) ∷ (tyInt w32, l₄) ∷ (tyInt w64, l₅) ∷ (sliceTy (tyRef (named 3) imm (tyInt w8)), l₆) ∷ (sliceTy (tyRef erased imm (tyInt w8)), l₇) ∷ (An′.mir, l₈) ∷ (I′.mir, l₉) ∷ (P′.mir, l₁₀) ∷ (D′.mir, l₁₁) ∷ (An′.mir, l₁₂) ∷ (tyInt w64, l₁₃) ∷ (tyBool, l₁₄)
+    E = (An.Laws.mir, l₀) ∷ (tyRef (named 0) mut (pointee (C.the-row .written)), l₁) ∷ (tyRef (named 1) mut (pointee (D.the-row .written)), l₂) ∷ (sliceTy (tyRef (named 2) mut (pointee (P.the-row .written))), l₃) ∷ (tyInt w32, l₄) ∷ (tyInt w64, l₅) ∷ (sliceTy (tyRef (named 3) imm (tyInt w8)), l₆) ∷ (sliceTy (tyRef erased imm (tyInt w8)), l₇) ∷ (An.Laws.mir, l₈) ∷ (I.Laws.mir, l₉) ∷ (P.Laws.mir, l₁₀) ∷ (D.Laws.mir, l₁₁) ∷ (An.Laws.mir, l₁₂) ∷ (tyInt w64, l₁₃) ∷ (tyBool, l₁₄)
         ∷ (tyRef erased mut (tyArray (tyInt w8) 18432), l₁₅) ∷ (tyRef erased mut (tyArray (tyInt w8) 2560), l₁₆) ∷ (tyRef erased mut (tyArray (tyInt w64) 11), l₁₇) ∷ (tyRef erased mut (tyArray (tyInt w8) 146), l₁₈) ∷ (tyRef erased mut (tyArray (tyInt w8) 2560), l₁₉) ∷ (tyRef erased mut (tyArray (tyInt w64) 11), l₂₀) ∷ (tyRef erased mut (tyArray (tyInt w8) 146), l₂₁) ∷ (tyRef erased imm (tyArray (tyInt w8) 18432), l₂₂) ∷ (tyRef erased mut (tyArray (tyInt w8) 2560), l₂₃) ∷ (tyRef erased mut (tyArray (tyInt w64) 11), l₂₄)
         ∷ (tyRef erased imm (pointee (P.the-row .written)), l₂₅) ∷ (sliceTy (tyRef erased imm (pointee (P.the-row .written))), l₂₆) ∷ (tyRef erased imm (pointee (D.the-row .written)), l₂₇) ∷ (tyRef erased mut (tyArray (tyInt w8) 18432), l₂₈) ∷ (tyRef erased mut (tyArray (tyInt w8) 2560), l₂₉) ∷ (tyRef erased mut (tyArray (tyInt w64) 11), l₃₀) ∷ (tyBool, l₃₁) ∷ (tyUnit, l₃₂) ∷ (tyRef erased mut (pointee (D.the-row .written)), l₃₃) ∷ (tyBool, l₃₄) ∷ (tyRef erased mut (pointee (P.the-row .written)), l₃₅) ∷ (sliceTy (tyRef erased mut (pointee (P.the-row .written))), l₃₆) ∷ (tyRef erased mut (pointee (D.the-row .written)), l₃₇) ∷ []
 
@@ -189,24 +152,24 @@ module _ {M : Type 1} (𝓤 : URA M) (H : Heap 𝓤) (A : Atoms 𝓤) (W : Given
     At t m c′ vs = Open H a t m c′ (‵ (flft κp qp) ∷ ‵ OwnP ∷ locals E vs [])
 
     -- the answer is the result: all is closed, and the function returns, in the midst of q
-    ends : (q : Kit.Post 𝓤 H) → post 𝓤 H q returnsᴼ ≡ atReturn 𝓤 H E Post returnsᴼ → (c′ : Controller) (m : Device) (zs : List Place) (z : Answer) → length zs ≡ length ys → Has c′ → Is D.the-row m (D′.lowered m ∷ []) → FitsAnswer z
-        → Requested (setAttr group attr) c c′ d m ys zs ps (saw z ps) → (rest : List Content) → Sq W (At zs m c′ (holds (An′.lowered z) ∷ rest)) (runs C′ Λ E return q)
+    ends : (q : types.Kit.Post 𝓤 H) → post 𝓤 H q returnsᴼ ≡ atReturn 𝓤 H E Post returnsᴼ → (c′ : Controller) (m : Device) (zs : List Place) (z : Answer) → length zs ≡ length ys → Has c′ → Is D.the-row m (D.Laws.lowered m ∷ []) → FitsAnswer z
+        → Requested (setAttr group attr) c c′ d m ys zs ps (saw z ps) → (rest : List Content) → Sq W (At zs m c′ (holds (An.Laws.lowered z) ∷ rest)) (runs C′ Λ E return q)
     ends q h c′ m zs z len gc′ gm gz requested rest =
         closes-all ! tt a zs m c′ len gm gc′ $ move ! (10 ∷ []) $ drop ! $ returns-within ! Post h (look ! 10 refl) $
-        swaps ! (Closed a zs m c′ (‵ (flft κp qp) ∷ [])) (locals E (holds (An′.lowered z) ∷ rest) []) $ frees-front ! E (holds (An′.lowered z) ∷ rest) $ by ! (exits c′ m zs z len requested gz)
+        swaps ! (Closed a zs m c′ (‵ (flft κp qp) ∷ [])) (locals E (holds (An.Laws.lowered z) ∷ rest) []) $ frees-front ! E (holds (An.Laws.lowered z) ∷ rest) $ by ! (exits c′ m zs z len requested gz)
 
     -- what follows a test
-    abbrev Then : Code → Kit.Post 𝓤 H
+    abbrev Then : Code → types.Kit.Post 𝓤 H
     Then rest = anyQ (afterSeq 𝓤 H (Wp 𝓤 H C′ Λ E rest (atReturn 𝓤 H E Post)) (atReturn 𝓤 H E Post))
 
     -- ---- a wrong table
-    refuses-it : eqb (length ys) imageSize ≡ false → Sq W (Passed a (‵ (flft κp qp) ∷ ‵ OwnP ∷ locals E (tested wrong) [])) (runs C′ Λ E (taken mir.s-3) (Then mir.t-4))
+    refuses-it : eqb (length ys) imageSize ≡ false → Sq W (Passed a (‵ (flft κp qp) ∷ ‵ OwnP ∷ locals E (tested wrong) [])) (runs C′ Λ E (taken f.Code.Mir.s-3) (Then f.Code.Mir.t-4))
     refuses-it e =
         refuses ! mem′ run fm (known .refuse) 14 (omega arith) (λ i. (and-then ! (lit ! tt) (no-more !))) (λ g.
-        land ! (from ! (stop !)) (init ! 8 refl (LL.lawful An.the-type An′.the-laws 𝓤 H A W .typed (refused 14) _ g .0)) $
-        opens-all ! tt a (λ gc gd. ends (Then mir.t-4) refl c d ys (refused 14) refl gc gd g (wrong-promises c d ys ps (wrong-length c _ (eqb-false (length ys) imageSize e)) (setAttr group attr) tt) (plainly wrong 0 0 0 blank 0 blank)))
+        land ! (from ! (stop !)) (init ! 8 refl (LL.lawful An.the-type An.Laws.the-laws 𝓤 H A W .typed (refused 14) _ g .0)) $
+        opens-all ! tt a (λ gc gd. ends (Then f.Code.Mir.t-4) refl c d ys (refused 14) refl gc gd g (wrong-promises c d ys ps (wrong-length c _ (eqb-false (length ys) imageSize e)) (setAttr group attr) tt) (plainly wrong 0 0 0 blank 0 blank)))
 
-    module _ (right : length ys ≡ limitsOf c .places) (gc : Has c) (gd : Is D.the-row d (D′.lowered d ∷ [])) where
+    module _ (right : length ys ≡ limitsOf c .places) (gc : Has c) (gd : Is D.the-row d (D.Laws.lowered d ∷ [])) where
       -- ---- requests about pending records alone
       -- after the arrays of ENQUEUE and CLEAR_IO_IRQ comes the payload, which is not held any more then
       abbrev T : Item 𝓤
@@ -216,10 +179,10 @@ module _ {M : Type 1} (𝓤 : URA M) (H : Heap 𝓤) (A : Atoms 𝓤) (W : Given
       promised-records k e z c′ same φ = record-promises group attr c c′ d ys ps z right (valid right) same (of-group c c′ attr ps z k group (eqb-true group k e) φ)
 
       ends-records : (k : ℕ) → eqb group k ≡ true → (rest : Code) (z : Answer) (c′ : Controller) → Has c′ → FitsAnswer z → c′ .ais ≡ c .ais → SetRecords k attr c c′ ps z → (vs : List Content)
-          → Sq W (Open H a ys d c′ (‵ (flft κp qp) ∷ locals E (holds (An′.lowered z) ∷ vs) [])) (runs C′ Λ E return (Then rest))
+          → Sq W (Open H a ys d c′ (‵ (flft κp qp) ∷ locals E (holds (An.Laws.lowered z) ∷ vs) [])) (runs C′ Λ E return (Then rest))
       ends-records k e rest z c′ gc′ gz same φ vs =
-          closes-all ! tt a ys d c′ refl gd gc′ $ returns-within ! Post refl (look ! 10 refl) $ swaps ! (Closed a ys d c′ (‵ (flft κp qp) ∷ [])) (locals E (holds (An′.lowered z) ∷ vs) []) $
-          frees-front ! E (holds (An′.lowered z) ∷ vs) $ by ! (exits c′ d ys z refl (promised-records k e z c′ same φ) gz)
+          closes-all ! tt a ys d c′ refl gd gc′ $ returns-within ! Post refl (look ! 10 refl) $ swaps ! (Closed a ys d c′ (‵ (flft κp qp) ∷ [])) (locals E (holds (An.Laws.lowered z) ∷ vs) []) $
+          frees-front ! E (holds (An.Laws.lowered z) ∷ vs) $ by ! (exits c′ d ys z refl (promised-records k e z c′ same φ) gz)
 
       -- ENQUEUE: after the arrays it takes the room, the attribute and the payload
       module _ (e : eqb group 2 ≡ true) where
@@ -235,7 +198,7 @@ module _ {M : Type 1} (𝓤 : URA M) (H : Heap 𝓤) (A : Atoms 𝓤) (W : Given
         goes₁ : (n : Loan) → ent 𝓤 (⋆ 𝓤 H A (Toks (all mutably) n T ∷ ‵ (Lent (all mutably) n c (a .bc) (a .oc) O₁) ∷ [])) (Enqueue 𝓤 H A mem′ run .pre (to-enqueue n))
         goes₁ n = qed W (Toks (all mutably) n T ∷ ‵ (Lent (all mutably) n c (a .bc) (a .oc) O₁) ∷ []) ∵ says ! (omega arith, valid right .ready) $ done !
 
-        takes-enqueue : Sq W (At ys d c (tested (eqb group 2))) (runs C′ Λ E (taken mir.s-5) (Then mir.t-6))
+        takes-enqueue : Sq W (At ys d c (tested (eqb group 2))) (runs C′ Λ E (taken f.Code.Mir.s-5) (Then f.Code.Mir.t-6))
         takes-enqueue =
             assigns ! (of-opd ! (load ! (from ! (stop !)) (look ! 31 refl))) (from ! (stop !)) (init ! 33 refl (tt, (tt, (record { fits = room-p .0 }, tt)))) $
             assigns ! (addr ! (from ! (hop ! (look ! 21 refl) (fld ! refl (stop !))))) (from ! (stop !)) (init ! 49 refl (tt, tt)) $
@@ -246,10 +209,10 @@ module _ {M : Type 1} (𝓤 : URA M) (H : Heap 𝓤) (A : Atoms 𝓤) (W : Given
             nothing ! $ move ! (19 ∷ 0 ∷ []) $ join ! $ move ! (10 ∷ 11 ∷ 12 ∷ 13 ∷ 0 ∷ 1 ∷ []) $
             calls-four (all mutably) ! fm (Enqueue 𝓤 H A mem′ run) (known .enqueue) to-enqueue c gc (a .bc) (a .oc) An.the-row T O₁ {Y = Y₁} (λ y. fsep ftrue (fsep ftrue (fsep ftrue ftrue))) (λ z w. Enqueued c (w .0) (w .1 .0) (w .1 .1 .0) (w .1 .1 .1 .0) attr ps z) goes₁ (λ n v. id⊢ 𝓤 _)
             (λ n i. (and-then ! (load ! (from ! (stop !)) (look ! 48 refl)) (and-then ! (load ! (from ! (stop !)) (look ! 50 refl)) (and-then ! (load ! (from ! (stop !)) (look ! 52 refl)) (and-then ! (load ! (from ! (stop !)) (look ! 54 refl)) (and-then ! (lit ! tt) (and-then ! (load ! (from ! (stop !)) (look ! 28 refl)) (and-then ! (load ! (from ! (stop !)) (look ! 32 refl)) (no-more !))))))))) (λ z v w φ g′ is.
-            land ! (from ! (stop !)) (init ! 35 refl (LL.lawful An.the-type An′.the-laws 𝓤 H A W .typed z _ is .0)) $ rewrite ! 35 (λ (u : Val). ‵ (fat fullShare An′.mir l₈ 0 u)) (ap only (An′.lowers .val-is z (v ∷ []) is)) refl $
+            land ! (from ! (stop !)) (init ! 35 refl (LL.lawful An.the-type An.Laws.the-laws 𝓤 H A W .typed z _ is .0)) $ rewrite ! 35 (λ (u : Val). ‵ (fat fullShare An.Laws.mir l₈ 0 u)) (ap only (An.Laws.lowers .val-is z (v ∷ []) is)) refl $
             move ! (5 ∷ []) $ drop ! $ move ! (4 ∷ []) $ split ! $ move ! (1 ∷ []) $ drop ! $ move ! (5 ∷ 6 ∷ 7 ∷ 8 ∷ 9 ∷ 10 ∷ 11 ∷ 12 ∷ 1 ∷ 2 ∷ 3 ∷ 4 ∷ 13 ∷ 14 ∷ 15 ∷ 16 ∷ 17 ∷ 0 ∷ []) $
-            copies ! mem′ run fm (known .by-fields) z (subst (Is An.the-row z) (An′.lowers .val-is z (v ∷ []) is) is) (λ i. (and-then ! (load ! (from ! (stop !)) (look ! 35 refl)) (no-more !))) (land ! (from ! (stop !)) (init ! 18 refl (LL.lawful An.the-type An′.the-laws 𝓤 H A W .typed z _ (subst (Is An.the-row z) (An′.lowers .val-is z (v ∷ []) is) is) .0)) $
-            ends-records 2 e mir.t-6 z (left-by (all mutably) Y₁ c w) g′ (subst (Is An.the-row z) (An′.lowers .val-is z (v ∷ []) is) is) refl (enqueued c _ _ _ _ attr ps z φ) (held (holds sp) (holds (An′.lowered z)) blank blank blank blank (eqb group 2) 4 0 0 0 blank blank blank blank 0 blank)))
+            copies ! mem′ run fm (known .by-fields) z (subst (Is An.the-row z) (An.Laws.lowers .val-is z (v ∷ []) is) is) (λ i. (and-then ! (load ! (from ! (stop !)) (look ! 35 refl)) (no-more !))) (land ! (from ! (stop !)) (init ! 18 refl (LL.lawful An.the-type An.Laws.the-laws 𝓤 H A W .typed z _ (subst (Is An.the-row z) (An.Laws.lowers .val-is z (v ∷ []) is) is) .0)) $
+            ends-records 2 e f.Code.Mir.t-6 z (left-by (all mutably) Y₁ c w) g′ (subst (Is An.the-row z) (An.Laws.lowers .val-is z (v ∷ []) is) is) refl (enqueued c _ _ _ _ attr ps z φ) (held (holds sp) (holds (An.Laws.lowered z)) blank blank blank blank (eqb group 2) 4 0 0 0 blank blank blank blank 0 blank)))
 
       -- CLEAR_IRQS: after the arrays it takes the attribute
       module _ (e : eqb group 3 ≡ true) where
@@ -265,7 +228,7 @@ module _ {M : Type 1} (𝓤 : URA M) (H : Heap 𝓤) (A : Atoms 𝓤) (W : Given
         goes₂ : (n : Loan) → ent 𝓤 (⋆ 𝓤 H A (Toks clear-ways n (‵ ftrue) ∷ ‵ (Lent clear-ways n c (a .bc) (a .oc) O₂) ∷ [])) (Clear 𝓤 H A mem′ run .pre (to-clear n))
         goes₂ n = qed W (Toks clear-ways n (‵ ftrue) ∷ ‵ (Lent clear-ways n c (a .bc) (a .oc) O₂) ∷ []) ∵ says ! (valid right .ready) $ done !
 
-        takes-clear : Sq W (At ys d c (tested (eqb group 3))) (runs C′ Λ E (taken mir.s-7) (Then mir.t-8))
+        takes-clear : Sq W (At ys d c (tested (eqb group 3))) (runs C′ Λ E (taken f.Code.Mir.s-7) (Then f.Code.Mir.t-8))
         takes-clear =
             assigns ! (addr ! (from ! (hop ! (look ! 21 refl) (fld ! refl (stop !))))) (from ! (stop !)) (init ! 57 refl (tt, tt)) $
             assigns ! (addr ! (from ! (hop ! (look ! 21 refl) (fld ! refl (stop !))))) (from ! (stop !)) (init ! 59 refl (tt, tt)) $
@@ -273,9 +236,9 @@ module _ {M : Type 1} (𝓤 : URA M) (H : Heap 𝓤) (A : Atoms 𝓤) (W : Given
             nothing ! $ owned ! u64 (Is u64) (uint-makes 𝓤 H A W w64) attr _ (refl, attr-fits) $ fjoin ! $ nothing ! $ move ! (10 ∷ 11 ∷ 12 ∷ 13 ∷ 0 ∷ 1 ∷ []) $
             calls-four clear-ways ! fm (Clear 𝓤 H A mem′ run) (known .clear) to-clear c gc (a .bc) (a .oc) An.the-row (‵ ftrue) O₂ {Y = Y₂} (λ y. fsep ftrue ftrue) (λ z w. Cleared c (c .slots) (w .0) (w .1 .0) (w .1 .1 .0) attr ps z) goes₂ (λ n v. id⊢ 𝓤 _)
             (λ n i. (and-then ! (load ! (from ! (stop !)) (look ! 58 refl)) (and-then ! (load ! (from ! (stop !)) (look ! 60 refl)) (and-then ! (load ! (from ! (stop !)) (look ! 62 refl)) (and-then ! (load ! (from ! (stop !)) (look ! 30 refl)) (no-more !)))))) (λ z v w φ g′ is.
-            land ! (from ! (stop !)) (init ! 21 refl (LL.lawful An.the-type An′.the-laws 𝓤 H A W .typed z _ is .0)) $ rewrite ! 21 (λ (u : Val). ‵ (fat fullShare An′.mir l₀ 0 u)) (ap only (An′.lowers .val-is z (v ∷ []) is)) refl $
+            land ! (from ! (stop !)) (init ! 21 refl (LL.lawful An.the-type An.Laws.the-laws 𝓤 H A W .typed z _ is .0)) $ rewrite ! 21 (λ (u : Val). ‵ (fat fullShare An.Laws.mir l₀ 0 u)) (ap only (An.Laws.lowers .val-is z (v ∷ []) is)) refl $
             move ! (5 ∷ []) $ drop ! $ move ! (4 ∷ []) $ drop ! $ move ! (4 ∷ 5 ∷ 6 ∷ 7 ∷ 8 ∷ 9 ∷ 10 ∷ 11 ∷ 0 ∷ 1 ∷ 2 ∷ 3 ∷ []) $
-            ends (Then mir.t-8) refl (left-by clear-ways Y₂ c w) d ys z refl g′ gd (subst (Is An.the-row z) (An′.lowers .val-is z (v ∷ []) is) is) (promised-records 3 e z (left-by clear-ways Y₂ c w) refl (cleared c (c .slots) _ _ _ attr ps z φ)) (plainly (eqb group 3) 0 3 0 blank 0 blank))
+            ends (Then f.Code.Mir.t-8) refl (left-by clear-ways Y₂ c w) d ys z refl g′ gd (subst (Is An.the-row z) (An.Laws.lowers .val-is z (v ∷ []) is) is) (promised-records 3 e z (left-by clear-ways Y₂ c w) refl (cleared c (c .slots) _ _ _ attr ps z φ)) (plainly (eqb group 3) 0 3 0 blank 0 blank))
 
       -- CLEAR_IO_IRQ: after the arrays it takes the attribute and the payload
       module _ (e : eqb group 8 ≡ true) where
@@ -291,7 +254,7 @@ module _ {M : Type 1} (𝓤 : URA M) (H : Heap 𝓤) (A : Atoms 𝓤) (W : Given
         goes₃ : (n : Loan) → ent 𝓤 (⋆ 𝓤 H A (Toks io-ways n T ∷ ‵ (Lent io-ways n c (a .bc) (a .oc) O₃) ∷ [])) (ClearIo 𝓤 H A mem′ run .pre (to-clear-io n))
         goes₃ n = qed W (Toks io-ways n T ∷ ‵ (Lent io-ways n c (a .bc) (a .oc) O₃) ∷ []) ∵ says ! (valid right .ready) $ done !
 
-        takes-clear-io : Sq W (At ys d c (tested (eqb group 8))) (runs C′ Λ E (taken mir.s-9) (Then mir.t-10))
+        takes-clear-io : Sq W (At ys d c (tested (eqb group 8))) (runs C′ Λ E (taken f.Code.Mir.s-9) (Then f.Code.Mir.t-10))
         takes-clear-io =
             assigns ! (addr ! (from ! (hop ! (look ! 21 refl) (fld ! refl (stop !))))) (from ! (stop !)) (init ! 63 refl (tt, tt)) $
             assigns ! (addr ! (from ! (hop ! (look ! 21 refl) (fld ! refl (stop !))))) (from ! (stop !)) (init ! 65 refl (tt, tt)) $
@@ -300,9 +263,9 @@ module _ {M : Type 1} (𝓤 : URA M) (H : Heap 𝓤) (A : Atoms 𝓤) (W : Given
             nothing ! $ move ! (19 ∷ 0 ∷ []) $ join ! $ move ! (10 ∷ 11 ∷ 12 ∷ 13 ∷ 0 ∷ 1 ∷ []) $
             calls-four io-ways ! fm (ClearIo 𝓤 H A mem′ run) (known .clear-io) to-clear-io c gc (a .bc) (a .oc) An.the-row T O₃ {Y = Y₃} (λ y. fsep ftrue (fsep ftrue ftrue)) (λ z w. ClearedIo c (c .slots) (w .1 .0) (w .1 .1 .0) (c .singles) attr ps z) goes₃ (λ n v. id⊢ 𝓤 _)
             (λ n i. (and-then ! (load ! (from ! (stop !)) (look ! 62 refl)) (and-then ! (load ! (from ! (stop !)) (look ! 64 refl)) (and-then ! (load ! (from ! (stop !)) (look ! 66 refl)) (and-then ! (load ! (from ! (stop !)) (look ! 28 refl)) (and-then ! (load ! (from ! (stop !)) (look ! 30 refl)) (no-more !))))))) (λ z v w φ g′ is.
-            land ! (from ! (stop !)) (init ! 19 refl (LL.lawful An.the-type An′.the-laws 𝓤 H A W .typed z _ is .0)) $ rewrite ! 19 (λ (u : Val). ‵ (fat fullShare An′.mir l₀ 0 u)) (ap only (An′.lowers .val-is z (v ∷ []) is)) refl $
+            land ! (from ! (stop !)) (init ! 19 refl (LL.lawful An.the-type An.Laws.the-laws 𝓤 H A W .typed z _ is .0)) $ rewrite ! 19 (λ (u : Val). ‵ (fat fullShare An.Laws.mir l₀ 0 u)) (ap only (An.Laws.lowers .val-is z (v ∷ []) is)) refl $
             move ! (5 ∷ []) $ drop ! $ move ! (4 ∷ []) $ split ! $ move ! (1 ∷ []) $ drop ! $ move ! (5 ∷ 6 ∷ 7 ∷ 8 ∷ 9 ∷ 10 ∷ 11 ∷ 12 ∷ 1 ∷ 2 ∷ 3 ∷ 4 ∷ 13 ∷ 14 ∷ 15 ∷ 16 ∷ 17 ∷ 0 ∷ []) $
-            ends-records 8 e mir.t-10 z (left-by io-ways Y₃ c w) g′ (subst (Is An.the-row z) (An′.lowers .val-is z (v ∷ []) is) is) refl (cleared-io c (c .slots) _ _ (c .singles) attr ps z φ) (plainly (eqb group 8) 0 0 3 blank 0 blank))
+            ends-records 8 e f.Code.Mir.t-10 z (left-by io-ways Y₃ c w) g′ (subst (Is An.the-row z) (An.Laws.lowers .val-is z (v ∷ []) is) is) refl (cleared-io c (c .slots) _ _ (c .singles) attr ps z φ) (plainly (eqb group 8) 0 0 3 blank 0 blank))
 
       -- ---- an injection: after the arrays `answer_inject` takes four values
       module _ (is-inject : eqb group 10 ≡ true) where
@@ -320,31 +283,31 @@ module _ {M : Type 1} (𝓤 : URA M) (H : Heap 𝓤) (A : Atoms 𝓤) (W : Given
 
         -- what the locals hold: the place's, the device record's, and the answer's, so many references, and the last three
         abbrev injected : Content → (c₈ c₉ c₁₀ : Content) → ℕ → (c₃₀ c₃₁ c₃₂ : Content) → List Content
-        injected v₀ c₈ c₉ c₁₀ n c₃₀ c₃₁ c₃₂ = v₀ ∷ held blank blank (holds (I′.lowered id)) c₈ c₉ c₁₀ (eqb group 10) 0 0 0 n c₃₀ c₃₁ c₃₂ blank 0 blank
+        injected v₀ c₈ c₉ c₁₀ n c₃₀ c₃₁ c₃₂ = v₀ ∷ held blank blank (holds (I.Laws.lowered id)) c₈ c₉ c₁₀ (eqb group 10) 0 0 0 n c₃₀ c₃₁ c₃₂ blank 0 blank
 
         abbrev O₄ : Fml
-        O₄ = fsep (bool .own (c .ais) (vbool (c .ais) ∷ [])) (fsep (D.the-row .own d (D′.lowered d ∷ [])) (fsep (P.the-row .own place (P′.lowered place ∷ [])) (fsep (I.the-row .own id (I′.lowered id ∷ [])) ftrue)))
+        O₄ = fsep (bool .own (c .ais) (vbool (c .ais) ∷ [])) (fsep (D.the-row .own d (D.Laws.lowered d ∷ [])) (fsep (P.the-row .own place (P.Laws.lowered place ∷ [])) (fsep (I.the-row .own id (I.Laws.lowered id ∷ [])) ftrue)))
 
         abbrev Y₄ : Type 0
         Y₄ = Unit {0} × (Unit {0} × (Unit {0} × (Unit {0} × Unit {0})))
 
         abbrev to-inject : Loan → AnswerInject 𝓤 H A mem′ run .Ghost
-        to-inject n = ((lent-lfts inject-ways n tt, lent-shares inject-ways tt, tt, lent-args inject-ways n c (a .bc) (a .oc) (c .ais, (d, (place, (id, tt)))), lent-vals inject-ways (a .bc) (a .oc) (vbool (c .ais) ∷ [], (D′.lowered d ∷ [], (P′.lowered place ∷ [], (I′.lowered id ∷ [], tt))))), tt)
+        to-inject n = ((lent-lfts inject-ways n tt, lent-shares inject-ways tt, tt, lent-args inject-ways n c (a .bc) (a .oc) (c .ais, (d, (place, (id, tt)))), lent-vals inject-ways (a .bc) (a .oc) (vbool (c .ais) ∷ [], (D.Laws.lowered d ∷ [], (P.Laws.lowered place ∷ [], (I.Laws.lowered id ∷ [], tt))))), tt)
 
         goes₄ : (n : Loan) → ent 𝓤 (⋆ 𝓤 H A (Toks inject-ways n (‵ ftrue) ∷ ‵ (Lent inject-ways n c (a .bc) (a .oc) O₄) ∷ [])) (AnswerInject 𝓤 H A mem′ run .pre (to-inject n))
         goes₄ n = qed W (Toks inject-ways n (‵ ftrue) ∷ ‵ (Lent inject-ways n c (a .bc) (a .oc) O₄) ∷ []) ∵ says ! (valid right .ready, canonical) $ done !
 
-        module _ (gp : Is P.the-row place (P′.lowered place ∷ [])) (r : Answer) (gr : FitsAnswer r) (c′ : Controller) (gc′ : Has c′) (same : c′ .ais ≡ c .ais) (φ : Injected attr c c′ d place r) where
+        module _ (gp : Is P.the-row place (P.Laws.lowered place ∷ [])) (r : Answer) (gr : FitsAnswer r) (c′ : Controller) (gc′ : Has c′) (same : c′ .ais ≡ c .ais) (φ : Injected attr c c′ d place r) where
           promised : (m : Device) → notedIn (c .ais) d place r ≡ m → Requested (setAttr group attr) c c′ d m ys ys ps (saw r ps)
           promised m e = subst (λ (x : Device). Requested (setAttr group attr) c c′ d x ys ys ps (saw r ps)) e
               (subst (λ (g : ℕ). Requested (setAttr g attr) c c′ d (notedIn (c .ais) d place r) ys ys ps (saw r ps)) (sym (eqb-true group 10 is-inject)) (inject-promises attr c c′ d ys ps r right (valid right) same φ))
 
           abbrev answered : Content → Bool → (c₃₁ c₃₂ : Content) → List Content
-          answered v₀ flag c₃₁ c₃₂ = injected v₀ (holds (P′.lowered place)) (holds (D′.lowered d)) (holds (An′.lowered r)) 6 (holds (vbool flag)) c₃₁ c₃₂
+          answered v₀ flag c₃₁ c₃₂ = injected v₀ (holds (P.Laws.lowered place)) (holds (D.Laws.lowered d)) (holds (An.Laws.lowered r)) 6 (holds (vbool flag)) c₃₁ c₃₂
 
           -- what follows the second test
-          abbrev Then-noted : Kit.Post 𝓤 H
-          Then-noted = anyQ (afterSeq 𝓤 H (Wp 𝓤 H C′ Λ E (afters 13 (taken mir.s-11)) (post 𝓤 H (Then mir.t-12))) (post 𝓤 H (Then mir.t-12)))
+          abbrev Then-noted : types.Kit.Post 𝓤 H
+          Then-noted = anyQ (afterSeq 𝓤 H (Wp 𝓤 H C′ Λ E (afters 13 (taken f.Code.Mir.s-11)) (post 𝓤 H (Then f.Code.Mir.t-12))) (post 𝓤 H (Then f.Code.Mir.t-12)))
 
           abbrev noted : Device
           noted = injectedDevice (c′ .ais) d place
@@ -353,145 +316,145 @@ module _ {M : Type 1} (𝓤 : URA M) (H : Heap 𝓤) (A : Atoms 𝓤) (W : Given
           noted-is e = chosen (eqb (r .count) 1) (injectedDevice (c .ais) d place) d e ∙ ap (λ (x : Bool). injectedDevice x d place) (sym same)
 
           -- one record was appended: `note_injection` is called
-          notes-it : eqb (r .count) 1 ≡ true → Sq W (At ys d c′ (answered blank (not (eqb (r .count) 1)) blank blank)) (runs C′ Λ E (afters 13 (taken mir.s-11)) (Then mir.t-12))
+          notes-it : eqb (r .count) 1 ≡ true → Sq W (At ys d c′ (answered blank (not (eqb (r .count) 1)) blank blank)) (runs C′ Λ E (afters 13 (taken f.Code.Mir.s-11)) (Then f.Code.Mir.t-12))
           notes-it e =
               assigns ! (addr ! (from ! (hop ! (look ! 23 refl) (stop !)))) (from ! (stop !)) (init ! 85 refl (tt, tt)) $
               assigns ! (of-opd ! (load ! (from ! (hop ! (look ! 21 refl) (fld ! refl (stop !)))) (look ! 12 refl))) (from ! (stop !)) (store ! 81 refl (tt, tt)) $
               move ! (1 ∷ []) $ notes-injection ! mem′ run fm (known .note) d (c′ .ais) place (a .bd) (a .od) gd gp (canonical .iscSmall) (λ _ _. (and-then ! (load ! (from ! (stop !)) (look ! 86 refl)) (and-then ! (load ! (from ! (stop !)) (look ! 82 refl)) (and-then ! (load ! (from ! (stop !)) (look ! 40 refl)) (no-more !))))) (λ gn.
-              land ! (from ! (stop !)) (init ! 83 refl (tt, tt)) $ move ! (1 ∷ []) $ assigns ! (of-opd ! (load ! (from ! (stop !)) (look ! 43 refl))) (from ! (stop !)) (init ! 19 refl (LL.lawful An.the-type An′.the-laws 𝓤 H A W .typed r _ gr .0)) $
-              ends (Then mir.t-12) refl c′ noted ys r refl gc′ gn gr (promised noted (noted-is e)) (held blank blank (holds (I′.lowered id)) (holds (P′.lowered place)) (holds (D′.lowered d)) (holds (An′.lowered r)) (eqb group 10) 0 0 0 6 (holds (vbool (c′ .ais))) (holds vunit) (holds (vptr (a .bd) (a .od))) blank 0 blank))
+              land ! (from ! (stop !)) (init ! 83 refl (tt, tt)) $ move ! (1 ∷ []) $ assigns ! (of-opd ! (load ! (from ! (stop !)) (look ! 43 refl))) (from ! (stop !)) (init ! 19 refl (LL.lawful An.the-type An.Laws.the-laws 𝓤 H A W .typed r _ gr .0)) $
+              ends (Then f.Code.Mir.t-12) refl c′ noted ys r refl gc′ gn gr (promised noted (noted-is e)) (held blank blank (holds (I.Laws.lowered id)) (holds (P.Laws.lowered place)) (holds (D.Laws.lowered d)) (holds (An.Laws.lowered r)) (eqb group 10) 0 0 0 6 (holds (vbool (c′ .ais))) (holds vunit) (holds (vptr (a .bd) (a .od))) blank 0 blank))
 
-          tests-it : Sq W (At ys d c′ (answered blank (c .ais) blank blank)) (runs C′ Λ E (afters 11 (taken mir.s-11)) (Then mir.t-12))
+          tests-it : Sq W (At ys d c′ (answered blank (c .ais) blank blank)) (runs C′ Λ E (afters 11 (taken f.Code.Mir.s-11)) (Then f.Code.Mir.t-12))
           tests-it =
               assigns ! (bin ! (load ! (from ! (fld ! refl (stop !))) (look-in ! 43 (sub ! 1 refl (whole !)))) (lit ! tt) tt) (from ! (stop !)) (store ! 81 refl (tt, tt)) $
               first ! $ branches ! (load ! (from ! (stop !)) (look ! 81 refl))
-              (λ t. assigns ! (of-opd ! (load ! (from ! (stop !)) (look ! 43 refl))) (from ! (stop !)) (init ! 19 refl (LL.lawful An.the-type An′.the-laws 𝓤 H A W .typed r _ gr .0)) $
-              ends Then-noted refl c′ d ys r refl gc′ gd gr (promised d (passed (eqb (r .count) 1) (injectedDevice (c .ais) d place) d (holds-false (eqb (r .count) 1) t))) (held blank blank (holds (I′.lowered id)) (holds (P′.lowered place)) (holds (D′.lowered d)) (holds (An′.lowered r)) (eqb group 10) 0 0 0 6 (holds (vbool (not (eqb (r .count) 1)))) blank blank blank 0 blank))
-              (λ t. skips ! $ exec ! C′ Λ E (afters 13 (taken mir.s-11)) (Then mir.t-12) $ notes-it (not-not (eqb (r .count) 1) t))
+              (λ t. assigns ! (of-opd ! (load ! (from ! (stop !)) (look ! 43 refl))) (from ! (stop !)) (init ! 19 refl (LL.lawful An.the-type An.Laws.the-laws 𝓤 H A W .typed r _ gr .0)) $
+              ends Then-noted refl c′ d ys r refl gc′ gd gr (promised d (passed (eqb (r .count) 1) (injectedDevice (c .ais) d place) d (holds-false (eqb (r .count) 1) t))) (held blank blank (holds (I.Laws.lowered id)) (holds (P.Laws.lowered place)) (holds (D.Laws.lowered d)) (holds (An.Laws.lowered r)) (eqb group 10) 0 0 0 6 (holds (vbool (not (eqb (r .count) 1)))) blank blank blank 0 blank))
+              (λ t. skips ! $ exec ! C′ Λ E (afters 13 (taken f.Code.Mir.s-11)) (Then f.Code.Mir.t-12) $ notes-it (not-not (eqb (r .count) 1) t))
 
         -- `answer_inject` is called
-        injects-it : Is P.the-row place (P′.lowered place ∷ []) → Sq W (At ys d c (injected blank (holds (P′.lowered place)) (holds (D′.lowered d)) blank 6 (holds (vbool (c .ais))) blank blank)) (runs C′ Λ E (afters 10 (taken mir.s-11)) (Then mir.t-12))
+        injects-it : Is P.the-row place (P.Laws.lowered place ∷ []) → Sq W (At ys d c (injected blank (holds (P.Laws.lowered place)) (holds (D.Laws.lowered d)) blank 6 (holds (vbool (c .ais))) blank blank)) (runs C′ Λ E (afters 10 (taken f.Code.Mir.s-11)) (Then f.Code.Mir.t-12))
         injects-it gp =
-            nothing ! $ owned ! I.the-row (Is I.the-row) (makes-id 𝓤 H A W) id _ fits-id $ fjoin ! $ owned ! P.the-row (Is P.the-row) (LL.makes P.the-type P′.the-plain 𝓤 H A) place _ gp $ fjoin ! $ owned ! D.the-row (Is D.the-row) (LL.makes D.the-type D′.the-plain 𝓤 H A) d _ gd $ fjoin ! $
+            nothing ! $ owned ! I.the-row (Is I.the-row) (makes-id 𝓤 H A W) id _ fits-id $ fjoin ! $ owned ! P.the-row (Is P.the-row) (LL.makes P.the-type P.Laws.the-plain 𝓤 H A) place _ gp $ fjoin ! $ owned ! D.the-row (Is D.the-row) (LL.makes D.the-type D.Laws.the-plain 𝓤 H A) d _ gd $ fjoin ! $
             owned ! bool (Is bool) (bool-makes 𝓤 H A W) (c .ais) _ refl $ fjoin ! $ nothing ! $ move ! (10 ∷ 11 ∷ 12 ∷ 13 ∷ 0 ∷ 1 ∷ []) $
             calls-four inject-ways ! fm (AnswerInject 𝓤 H A mem′ run) (known .inject) to-inject c gc (a .bc) (a .oc) An.the-row (‵ ftrue) O₄ {Y = Y₄} (λ y. fsep ftrue (fsep ftrue (fsep ftrue (fsep ftrue ftrue))))
             (λ z w. (singles : List ℕ) → Injected attr (controller (c .slots) (c .order) (c .counts) singles (c .ais)) (controller (w .0) (w .1 .0) (w .1 .1 .0) singles (c .ais)) d place z) goes₄ (λ n v. id⊢ 𝓤 _)
             (λ n i. (and-then ! (load ! (from ! (stop !)) (look ! 76 refl)) (and-then ! (load ! (from ! (stop !)) (look ! 78 refl)) (and-then ! (load ! (from ! (stop !)) (look ! 80 refl)) (and-then ! (load ! (from ! (stop !)) (look ! 82 refl)) (and-then ! (load ! (from ! (stop !)) (look ! 42 refl)) (and-then ! (load ! (from ! (stop !)) (look ! 40 refl)) (and-then ! (load ! (from ! (stop !)) (look ! 38 refl)) (no-more !))))))))) (λ z v w φ g′ is.
-            land ! (from ! (stop !)) (init ! 45 refl (LL.lawful An.the-type An′.the-laws 𝓤 H A W .typed z _ is .0)) $ rewrite ! 45 (λ (u : Val). ‵ (fat fullShare An′.mir l₁₂ 0 u)) (ap only (An′.lowers .val-is z (v ∷ []) is)) refl $
+            land ! (from ! (stop !)) (init ! 45 refl (LL.lawful An.the-type An.Laws.the-laws 𝓤 H A W .typed z _ is .0)) $ rewrite ! 45 (λ (u : Val). ‵ (fat fullShare An.Laws.mir l₁₂ 0 u)) (ap only (An.Laws.lowers .val-is z (v ∷ []) is)) refl $
             move ! (5 ∷ []) $ drop ! $ move ! (4 ∷ []) $ drop ! $ move ! (4 ∷ 5 ∷ 6 ∷ 7 ∷ 8 ∷ 9 ∷ 10 ∷ 11 ∷ 0 ∷ 1 ∷ 2 ∷ 3 ∷ []) $
-            tests-it gp z (subst (Is An.the-row z) (An′.lowers .val-is z (v ∷ []) is) is) (left-by inject-ways Y₄ c w) g′ refl (φ (c .singles)))
+            tests-it gp z (subst (Is An.the-row z) (An.Laws.lowers .val-is z (v ∷ []) is) is) (left-by inject-ways Y₄ c w) g′ refl (φ (c .singles)))
 
         -- its operands
-        operands : Is P.the-row place (P′.lowered place ∷ []) → Sq W (At ys d c (injected blank (holds (P′.lowered place)) (holds (D′.lowered d)) blank 3 blank blank blank)) (runs C′ Λ E (afters 6 (taken mir.s-11)) (Then mir.t-12))
+        operands : Is P.the-row place (P.Laws.lowered place ∷ []) → Sq W (At ys d c (injected blank (holds (P.Laws.lowered place)) (holds (D.Laws.lowered d)) blank 3 blank blank blank)) (runs C′ Λ E (afters 6 (taken f.Code.Mir.s-11)) (Then f.Code.Mir.t-12))
         operands gp =
             assigns ! (addr ! (from ! (hop ! (look ! 21 refl) (fld ! refl (stop !))))) (from ! (stop !)) (init ! 75 refl (tt, tt)) $
             assigns ! (addr ! (from ! (hop ! (look ! 21 refl) (fld ! refl (stop !))))) (from ! (stop !)) (init ! 77 refl (tt, tt)) $
             assigns ! (addr ! (from ! (hop ! (look ! 21 refl) (fld ! refl (stop !))))) (from ! (stop !)) (init ! 79 refl (tt, tt)) $
             assigns ! (of-opd ! (load ! (from ! (hop ! (look ! 21 refl) (fld ! refl (stop !)))) (look ! 12 refl))) (from ! (stop !)) (init ! 81 refl (tt, tt)) $ injects-it gp
 
-        takes-inject : Sq W (At ys d c (tested (eqb group 10))) (runs C′ Λ E (taken mir.s-11) (Then mir.t-12))
+        takes-inject : Sq W (At ys d c (tested (eqb group 10))) (runs C′ Λ E (taken f.Code.Mir.s-11) (Then f.Code.Mir.t-12))
         takes-inject =
             assigns ! (agg ! (and-then ! (load ! (from ! (stop !)) (look ! 29 refl)) (no-more !))) (from ! (stop !)) (init ! 37 refl (typed-id 𝓤 H A W id fits-id)) $
             assigns ! (addr ! (from ! (fld ! refl (hop ! (look-in ! 25 (sub ! 0 refl (whole !))) (stop !))))) (from ! (stop !)) (init ! 69 refl (tt, tt)) $
             assigns ! (agg ! (and-then ! (load ! (from ! (stop !)) (look ! 69 refl)) (and-then ! (load ! (from ! (fld ! refl (stop !))) (look-in ! 25 (sub ! 1 refl (whole !)))) (no-more !)))) (from ! (stop !)) (init ! 71 refl (tt, (tt, (record { fits = room .0 }, tt)))) $
             looks-up ! mem′ run fm (known .look-up) ys id (a .bt) (a .ot) room fits-id (λ _ _. (and-then ! (load ! (from ! (stop !)) (look ! 72 refl)) (and-then ! (load ! (from ! (stop !)) (look ! 38 refl)) (no-more !))))
-            (λ gp. land ! (from ! (stop !)) (init ! 39 refl (LL.lawful P.the-type P′.the-laws 𝓤 H A W .typed place _ gp .0)) $
+            (λ gp. land ! (from ! (stop !)) (init ! 39 refl (LL.lawful P.the-type P.Laws.the-laws 𝓤 H A W .typed place _ gp .0)) $
             assigns ! (addr ! (from ! (hop ! (look ! 23 refl) (stop !)))) (from ! (stop !)) (init ! 73 refl (tt, tt)) $
             move ! (1 ∷ []) $ reads-device ! mem′ run fm (known .read-device) d (a .bd) (a .od) gd (λ _ _. (and-then ! (load ! (from ! (stop !)) (look ! 74 refl)) (no-more !)))
-            (land ! (from ! (stop !)) (init ! 41 refl (LL.lawful D.the-type D′.the-laws 𝓤 H A W .typed d _ gd .0)) $ move ! (1 ∷ []) $ operands gp))
+            (land ! (from ! (stop !)) (init ! 41 refl (LL.lawful D.the-type D.Laws.the-laws 𝓤 H A W .typed d _ gd .0)) $ move ! (1 ∷ []) $ operands gp))
 
       -- ---- a request about an adapter's place
-      takes-place : onPlace group ≡ true → Sq W (At ys d c (blank ∷ plainly (eqb group 10) 0 0 0 (holds (vbool (onPlace group))) 0 blank)) (runs C′ Λ E (taken mir.s-13) (Then mir.t-14))
+      takes-place : onPlace group ≡ true → Sq W (At ys d c (blank ∷ plainly (eqb group 10) 0 0 0 (holds (vbool (onPlace group))) 0 blank)) (runs C′ Λ E (taken f.Code.Mir.s-13) (Then f.Code.Mir.t-14))
       takes-place on =
           assigns ! (addr ! (from ! (fld ! refl (hop ! (look-in ! 25 (sub ! 0 refl (whole !))) (stop !))))) (from ! (stop !)) (init ! 89 refl (tt, tt)) $
           assigns ! (agg ! (and-then ! (load ! (from ! (stop !)) (look ! 89 refl)) (and-then ! (load ! (from ! (fld ! refl (stop !))) (look-in ! 25 (sub ! 1 refl (whole !)))) (no-more !)))) (from ! (stop !)) (init ! 91 refl (tt, (tt, (record { fits = room .0 }, tt)))) $
           move ! (0 ∷ 17 ∷ 18 ∷ []) $ sets-place ! mem′ run fm (known .set-place) κp qp bp op γp ps ys (a .bt) (a .ot) room group attr group-fits attr-fits on (λ _ _ _. (and-then ! (load ! (from ! (stop !)) (look ! 91 refl)) (and-then ! (load ! (from ! (stop !)) (look ! 27 refl)) (and-then ! (load ! (from ! (stop !)) (look ! 29 refl)) (and-then ! (load ! (from ! (stop !)) (look ! 31 refl)) (no-more !)))))) (λ z v zs φ is.
-          land ! (from ! (stop !)) (init ! 19 refl (LL.lawful An.the-type An′.the-laws 𝓤 H A W .typed z _ is .0)) $ rewrite ! 19 (λ (u : Val). ‵ (fat fullShare An′.mir l₀ 0 u)) (ap only (An′.lowers .val-is z (v ∷ []) is)) refl $
+          land ! (from ! (stop !)) (init ! 19 refl (LL.lawful An.the-type An.Laws.the-laws 𝓤 H A W .typed z _ is .0)) $ rewrite ! 19 (λ (u : Val). ‵ (fat fullShare An.Laws.mir l₀ 0 u)) (ap only (An.Laws.lowers .val-is z (v ∷ []) is)) refl $
           move ! (0 ∷ 3 ∷ 4 ∷ 5 ∷ 6 ∷ 7 ∷ 8 ∷ 9 ∷ 10 ∷ 11 ∷ 12 ∷ 13 ∷ 14 ∷ 15 ∷ 16 ∷ 17 ∷ 18 ∷ 1 ∷ 2 ∷ []) $
-          ends (Then mir.t-14) refl c d zs z (φ .same-length) gc gd (subst (Is An.the-row z) (An′.lowers .val-is z (v ∷ []) is) is) (place-promises group attr c d ys ps z right (valid right) zs φ) (plainly (eqb group 10) 0 0 0 (holds (vbool (onPlace group))) 2 blank))
+          ends (Then f.Code.Mir.t-14) refl c d zs z (φ .same-length) gc gd (subst (Is An.the-row z) (An.Laws.lowers .val-is z (v ∷ []) is) is) (place-promises group attr c d ys ps z right (valid right) zs φ) (plainly (eqb group 10) 0 0 0 (holds (vbool (onPlace group))) 2 blank))
 
       -- ---- any other request is about the device record, or of no group
-      takes-modes : (group ≡ 2 → ⊥) × (group ≡ 3 → ⊥) × (group ≡ 8 → ⊥) × (group ≡ 10 → ⊥) × (onPlace group ≡ false) → Sq W (At ys d c (blank ∷ plainly (eqb group 10) 0 0 0 (holds (vbool (onPlace group))) 0 blank)) (runs C′ Λ E mir.t-14 (atRet E Post))
+      takes-modes : (group ≡ 2 → ⊥) × (group ≡ 3 → ⊥) × (group ≡ 8 → ⊥) × (group ≡ 10 → ⊥) × (onPlace group ≡ false) → Sq W (At ys d c (blank ∷ plainly (eqb group 10) 0 0 0 (holds (vbool (onPlace group))) 0 blank)) (runs C′ Λ E f.Code.Mir.t-14 (atRet E Post))
       takes-modes other =
           assigns ! (addr ! (from ! (hop ! (look ! 23 refl) (stop !)))) (from ! (stop !)) (init ! 93 refl (tt, tt)) $
           assigns ! (of-opd ! (load ! (from ! (hop ! (look ! 21 refl) (fld ! refl (stop !)))) (look ! 12 refl))) (from ! (stop !)) (store ! 47 refl (tt, tt)) $
           move ! (1 ∷ 17 ∷ 18 ∷ []) $ sets-modes ! mem′ run fm (known .set-modes) κp qp bp op γp ps d (a .bd) (a .od) gd (c .ais) group attr group-fits attr-fits other (λ _ _ _. (and-then ! (load ! (from ! (stop !)) (look ! 93 refl)) (and-then ! (load ! (from ! (stop !)) (look ! 47 refl)) (and-then ! (load ! (from ! (stop !)) (look ! 27 refl)) (and-then ! (load ! (from ! (stop !)) (look ! 29 refl)) (and-then ! (load ! (from ! (stop !)) (look ! 31 refl)) (no-more !))))))) (λ z v y φ is gy.
-          land ! (from ! (stop !)) (init ! 19 refl (LL.lawful An.the-type An′.the-laws 𝓤 H A W .typed z _ is .0)) $ rewrite ! 19 (λ (u : Val). ‵ (fat fullShare An′.mir l₀ 0 u)) (ap only (An′.lowers .val-is z (v ∷ []) is)) refl $
+          land ! (from ! (stop !)) (init ! 19 refl (LL.lawful An.the-type An.Laws.the-laws 𝓤 H A W .typed z _ is .0)) $ rewrite ! 19 (λ (u : Val). ‵ (fat fullShare An.Laws.mir l₀ 0 u)) (ap only (An.Laws.lowers .val-is z (v ∷ []) is)) refl $
           move ! (3 ∷ 0 ∷ 4 ∷ 5 ∷ 6 ∷ 7 ∷ 8 ∷ 9 ∷ 10 ∷ 11 ∷ 12 ∷ 13 ∷ 14 ∷ 15 ∷ 16 ∷ 17 ∷ 18 ∷ 1 ∷ 2 ∷ []) $
-          ends (atRet E Post) refl c y ys z refl gc gy (subst (Is An.the-row z) (An′.lowers .val-is z (v ∷ []) is) is) (modes-promises group attr c d ys ps z right (valid right) y φ) (plainly (c .ais) 0 0 0 (holds (vbool (onPlace group))) 0 (holds (vptr (a .bd) (a .od)))))
+          ends (atRet E Post) refl c y ys z refl gc gy (subst (Is An.the-row z) (An.Laws.lowers .val-is z (v ∷ []) is) is) (modes-promises group attr c d ys ps z right (valid right) y φ) (plainly (c .ais) 0 0 0 (holds (vbool (onPlace group))) 0 (holds (vptr (a .bd) (a .od)))))
 
       -- ---- the groups, one after another
       abbrev not-records : Type 0
       not-records = (eqb group 2 ≡ false) × (eqb group 3 ≡ false) × (eqb group 8 ≡ false)
 
-      asks-about-place : not-records → eqb group 10 ≡ false → Sq W (At ys d c (tested (eqb group 10))) (runs C′ Λ E mir.t-12 (atRet E Post))
+      asks-about-place : not-records → eqb group 10 ≡ false → Sq W (At ys d c (tested (eqb group 10))) (runs C′ Λ E f.Code.Mir.t-12 (atRet E Post))
       asks-about-place n n₁₀ =
           asks-place ! mem′ run fm (known .on-place) group group-fits (λ _. (and-then ! (load ! (from ! (stop !)) (look ! 28 refl)) (no-more !))) (land ! (from ! (stop !)) (init ! 87 refl (tt, tt)) $ first ! $ branches ! (load ! (from ! (stop !)) (look ! 87 refl))
           (λ t. takes-place (holds-true (onPlace group) t))
-          (λ t. skips ! $ exec ! C′ Λ E mir.t-14 (atRet E Post) $ takes-modes (eqb-false group 2 (n .0), eqb-false group 3 (n .1), eqb-false group 8 (n .2), eqb-false group 10 n₁₀, holds-false (onPlace group) t)))
+          (λ t. skips ! $ exec ! C′ Λ E f.Code.Mir.t-14 (atRet E Post) $ takes-modes (eqb-false group 2 (n .0), eqb-false group 3 (n .1), eqb-false group 8 (n .2), eqb-false group 10 n₁₀, holds-false (onPlace group) t)))
 
-      asks-injection : not-records → Sq W (At ys d c (tested (eqb group 8))) (runs C′ Λ E mir.t-10 (atRet E Post))
+      asks-injection : not-records → Sq W (At ys d c (tested (eqb group 8))) (runs C′ Λ E f.Code.Mir.t-10 (atRet E Post))
       asks-injection n =
           assigns ! (bin ! (load ! (from ! (stop !)) (look ! 27 refl)) (lit ! tt) tt) (from ! (stop !)) (store ! 47 refl (tt, tt)) $ first ! $ branches ! (load ! (from ! (stop !)) (look ! 47 refl)) (λ t. takes-inject (holds-true (eqb group 10) t))
-          (λ t. skips ! $ exec ! C′ Λ E mir.t-12 (atRet E Post) $ asks-about-place n (holds-false (eqb group 10) t))
+          (λ t. skips ! $ exec ! C′ Λ E f.Code.Mir.t-12 (atRet E Post) $ asks-about-place n (holds-false (eqb group 10) t))
 
-      asks-clear-io : eqb group 2 ≡ false → eqb group 3 ≡ false → Sq W (At ys d c (tested (eqb group 3))) (runs C′ Λ E mir.t-8 (atRet E Post))
+      asks-clear-io : eqb group 2 ≡ false → eqb group 3 ≡ false → Sq W (At ys d c (tested (eqb group 3))) (runs C′ Λ E f.Code.Mir.t-8 (atRet E Post))
       asks-clear-io n₂ n₃ =
           assigns ! (bin ! (load ! (from ! (stop !)) (look ! 27 refl)) (lit ! tt) tt) (from ! (stop !)) (store ! 47 refl (tt, tt)) $ first ! $ branches ! (load ! (from ! (stop !)) (look ! 47 refl)) (λ t. takes-clear-io (holds-true (eqb group 8) t))
-          (λ t. skips ! $ exec ! C′ Λ E mir.t-10 (atRet E Post) $ asks-injection (n₂, n₃, holds-false (eqb group 8) t))
+          (λ t. skips ! $ exec ! C′ Λ E f.Code.Mir.t-10 (atRet E Post) $ asks-injection (n₂, n₃, holds-false (eqb group 8) t))
 
-      asks-clear : eqb group 2 ≡ false → Sq W (At ys d c (tested (eqb group 2))) (runs C′ Λ E mir.t-6 (atRet E Post))
+      asks-clear : eqb group 2 ≡ false → Sq W (At ys d c (tested (eqb group 2))) (runs C′ Λ E f.Code.Mir.t-6 (atRet E Post))
       asks-clear n₂ =
           assigns ! (bin ! (load ! (from ! (stop !)) (look ! 27 refl)) (lit ! tt) tt) (from ! (stop !)) (store ! 47 refl (tt, tt)) $ first ! $ branches ! (load ! (from ! (stop !)) (look ! 47 refl)) (λ t. takes-clear (holds-true (eqb group 3) t))
-          (λ t. skips ! $ exec ! C′ Λ E mir.t-8 (atRet E Post) $ asks-clear-io n₂ (holds-false (eqb group 3) t))
+          (λ t. skips ! $ exec ! C′ Λ E f.Code.Mir.t-8 (atRet E Post) $ asks-clear-io n₂ (holds-false (eqb group 3) t))
 
-      asks-enqueue : Sq W (At ys d c (tested wrong)) (runs C′ Λ E mir.t-4 (atRet E Post))
+      asks-enqueue : Sq W (At ys d c (tested wrong)) (runs C′ Λ E f.Code.Mir.t-4 (atRet E Post))
       asks-enqueue =
           assigns ! (bin ! (load ! (from ! (stop !)) (look ! 27 refl)) (lit ! tt) tt) (from ! (stop !)) (store ! 47 refl (tt, tt)) $ first ! $ branches ! (load ! (from ! (stop !)) (look ! 47 refl)) (λ t. takes-enqueue (holds-true (eqb group 2) t))
-          (λ t. skips ! $ exec ! C′ Λ E mir.t-6 (atRet E Post) $ asks-clear (holds-false (eqb group 2) t))
+          (λ t. skips ! $ exec ! C′ Λ E f.Code.Mir.t-6 (atRet E Post) $ asks-clear (holds-false (eqb group 2) t))
 
     -- the table's length is looked at, and all is opened
-    starts-it : Sq W (Passed a (‵ (flft κp qp) ∷ ‵ OwnP ∷ locals E (blank ∷ holds (vptr (a .bc) (a .oc)) ∷ holds (vptr (a .bd) (a .od)) ∷ holds (table a) ∷ holds (vint w32 group) ∷ holds (vint w64 attr) ∷ holds sp ∷ []) [])) (runs C′ Λ E mir.t-1 (atRet E Post))
+    starts-it : Sq W (Passed a (‵ (flft κp qp) ∷ ‵ OwnP ∷ locals E (blank ∷ holds (vptr (a .bc) (a .oc)) ∷ holds (vptr (a .bd) (a .od)) ∷ holds (table a) ∷ holds (vint w32 group) ∷ holds (vint w64 attr) ∷ holds sp ∷ []) [])) (runs C′ Λ E f.Code.Mir.t-1 (atRet E Post))
     starts-it =
         assigns ! (of-opd ! (load ! (from ! (fld ! refl (stop !))) (look-in ! 14 (sub ! 1 refl (whole !))))) (from ! (stop !)) (init ! 34 refl (tt, record { fits = room .0 })) $
         assigns ! (bin ! (load ! (from ! (stop !)) (look ! 34 refl)) (lit ! tt) tt) (from ! (stop !)) (init ! 36 refl (tt, tt)) $ first ! $ branches ! (load ! (from ! (stop !)) (look ! 36 refl))
         (λ t. refuses-it (holds-false (eqb (length ys) imageSize) t))
-        (λ t. skips ! $ exec ! C′ Λ E mir.t-4 (atRet E Post) $ opens-all ! tt a (λ gc gd. asks-enqueue (right-length c _ (eqb-true (length ys) imageSize (not-not (eqb (length ys) imageSize) t))) gc gd))
+        (λ t. skips ! $ exec ! C′ Λ E f.Code.Mir.t-4 (atRet E Post) $ opens-all ! tt a (λ gc gd. asks-enqueue (right-length c _ (eqb-true (length ys) imageSize (not-not (eqb (length ys) imageSize) t))) gc gd))
 
-  walk : (C′ : Calls 𝓤 H) (Λ : Loops 𝓤 H) (fm : FmC 𝓤 H (W .laws) C′) → Known 𝓤 H A mem′ run C′ → ent 𝓤 (onEntry 𝓤 H A f.signature (bound .0 .0) (bound .0 .1) x at) (WpFn 𝓤 H C′ Λ code.function (vptr (a .bc) (a .oc) ∷ vptr (a .bd) (a .od) ∷ table a ∷ vint w32 group ∷ vint w64 attr ∷ sp ∷ []) Post)
+  walk : (C′ : Calls 𝓤 H) (Λ : Loops 𝓤 H) (fm : FmC 𝓤 H (W .laws) C′) → Known 𝓤 H A mem′ run C′ → ent 𝓤 (onEntry 𝓤 H A f.signature (bound .0 .0) (bound .0 .1) x at) (WpFn 𝓤 H C′ Λ f.Code.function (vptr (a .bc) (a .oc) ∷ vptr (a .bd) (a .od) ∷ table a ∷ vint w32 group ∷ vint w64 attr ∷ sp ∷ []) Post)
   walk C′ Λ fm known =
       qed W (Tokens a (‵ (flft κp qp) ⊛ ‵ ftrue) ∷ ‵ (Owned a (a .c) (a .d) (a .t) (owns (u32 ∷ u64 ∷ ShrSlice (named 3) κp u8 ∷ []) (x .1 .1 .1) (at .1 .1 .1))) ∷ []) ∵
       takes-all ! a $ move ! (7 ∷ []) $ fsplit ! $ drop ! $ fsplit ! $ drop ! $ fsplit ! $ move ! (8 ∷ []) $ split ! $
       -- [the payload's token; true; the payload; true; the references]
       keep ! (4 ∷ 5 ∷ 6 ∷ 7 ∷ 8 ∷ 9 ∷ 0 ∷ 2 ∷ []) $
-      enter ! C′ Λ code.function (vptr (a .bc) (a .oc) ∷ vptr (a .bd) (a .od) ∷ table a ∷ vint w32 group ∷ vint w64 attr ∷ sp ∷ []) _ $
+      enter ! C′ Λ f.Code.function (vptr (a .bc) (a .oc) ∷ vptr (a .bd) (a .od) ∷ table a ∷ vint w32 group ∷ vint w64 attr ∷ sp ∷ []) _ $
       alloc1 ! (λ l₀. alloc1 ! (λ l₁. alloc1 ! (λ l₂. alloc1 ! (λ l₃. alloc1 ! (λ l₄. alloc1 ! (λ l₅. alloc1 ! (λ l₆. alloc1 ! (λ l₇. alloc1 ! (λ l₈. alloc1 ! (λ l₉. alloc1 ! (λ l₁₀. alloc1 ! (λ l₁₁. alloc1 ! (λ l₁₂. alloc1 ! (λ l₁₃. alloc1 ! (λ l₁₄. alloc1 ! (λ l₁₅. alloc1 ! (λ l₁₆. alloc1 ! (λ l₁₇. alloc1 ! (λ l₁₈. alloc1 ! (λ l₁₉. alloc1 ! (λ l₂₀. alloc1 ! (λ l₂₁. alloc1 ! (λ l₂₂. alloc1 ! (λ l₂₃. alloc1 ! (λ l₂₄. alloc1 ! (λ l₂₅. alloc1 ! (λ l₂₆. alloc1 ! (λ l₂₇. alloc1 ! (λ l₂₈. alloc1 ! (λ l₂₉. alloc1 ! (λ l₃₀. alloc1 ! (λ l₃₁. alloc1 ! (λ l₃₂. alloc1 ! (λ l₃₃. alloc1 ! (λ l₃₄. alloc1 ! (λ l₃₅. alloc1 ! (λ l₃₆. alloc1 ! (λ l₃₇. alloc0 ! $ params1 ! $
       pass1 ! (init ! 72 refl (tt, tt)) $ pass1 ! (init ! 70 refl (tt, tt)) $ pass1 ! (init ! 68 refl (tt, (tt, (record { fits = room .0 }, tt)))) $ pass1 ! (init ! 66 refl (tt, record { fits = group-fits })) $ pass1 ! (init ! 64 refl (tt, record { fits = attr-fits })) $ pass1 ! (init ! 62 refl (tt, (tt, (record { fits = room-p .0 }, tt)))) $ pass0 ! $
       keep ! (76 ∷ 77 ∷ 78 ∷ 79 ∷ 80 ∷ 81 ∷ 82 ∷ 83 ∷ 74 ∷ 75 ∷ 72 ∷ 73 ∷ 70 ∷ 71 ∷ 68 ∷ 69 ∷ 66 ∷ 67 ∷ 64 ∷ 65 ∷ 62 ∷ 63 ∷ 60 ∷ 61 ∷ 58 ∷ 59 ∷ 56 ∷ 57 ∷ 54 ∷ 55 ∷ 52 ∷ 53 ∷ 50 ∷ 51 ∷ 48 ∷ 49 ∷ 46 ∷ 47 ∷ 44 ∷ 45 ∷ 42 ∷ 43 ∷ 40 ∷ 41 ∷ 38 ∷ 39 ∷ 36 ∷ 37 ∷ 34 ∷ 35 ∷ 32 ∷ 33 ∷ 30 ∷ 31 ∷ 28 ∷ 29 ∷ 26 ∷ 27 ∷ 24 ∷ 25 ∷ 22 ∷ 23 ∷ 20 ∷ 21 ∷ 18 ∷ 19 ∷ 16 ∷ 17 ∷ 14 ∷ 15 ∷ 12 ∷ 13 ∷ 10 ∷ 11 ∷ 8 ∷ 9 ∷ 6 ∷ 7 ∷ 4 ∷ 5 ∷ 2 ∷ 3 ∷ 0 ∷ 1 ∷ []) $ starts-it C′ Λ fm known l₀ l₁ l₂ l₃ l₄ l₅ l₆ l₇ l₈ l₉ l₁₀ l₁₁ l₁₂ l₁₃ l₁₄ l₁₅ l₁₆ l₁₇ l₁₈ l₁₉ l₂₀ l₂₁ l₂₂ l₂₃ l₂₄ l₂₅ l₂₆ l₂₇ l₂₈ l₂₉ l₃₀ l₃₁ l₃₂ l₃₃ l₃₄ l₃₅ l₃₆ l₃₇))))))))))))))))))))))))))))))))))))))
 
 module _ {M : Type 1} (𝓤 : URA M) (H : Heap 𝓤) (A : Atoms 𝓤) (W : Given 𝓤 H A) (mem′ : Memory → SProp 𝓤) (run : Routine → Fun 𝓤) where
-  walks : (C′ : Calls 𝓤 H) (Λ : Loops 𝓤 H) → FmC 𝓤 H (W .laws) C′ → Known 𝓤 H A mem′ run C′ → Walks 𝓤 H A f.ended stayed (WpFn 𝓤 H C′ Λ code.function) (f.clauses 𝓤 H A mem′ run)
-  walks C′ Λ fm known = walked 𝓤 H A f.ended stayed (f.clauses 𝓤 H A mem′ run) (WpFn 𝓤 H C′ Λ code.function) (λ κs. (ptr-vals, (ptr-vals, (slice-vals, (uint-vals w32, (uint-vals w64, (slice-vals, tt)))))))
+  walks : (C′ : Calls 𝓤 H) (Λ : Loops 𝓤 H) → FmC 𝓤 H (W .laws) C′ → Known 𝓤 H A mem′ run C′ → Walks 𝓤 H A f.ended stayed (WpFn 𝓤 H C′ Λ f.Code.function) (f.clauses 𝓤 H A mem′ run)
+  walks C′ Λ fm known = walked 𝓤 H A f.ended stayed (f.clauses 𝓤 H A mem′ run) (WpFn 𝓤 H C′ Λ f.Code.function) (λ κs. (ptr-vals, (ptr-vals, (slice-vals, (uint-vals w32, (uint-vals w64, (slice-vals, tt)))))))
       (λ κs. (mut-tells (named 0) (κs .0) C.the-row, (mut-tells (named 1) (κs .1 .0) D.the-row, (mut-slice-tells (named 2) (κs .1 .1 .0) P.the-row, (uint-tells w32, (uint-tells w64, (shr-slice-tells (named 3) (κs .1 .1 .1 .0) u8, tt)))))))
       (λ κs qs bounds a _ are. needs 𝓤 (length (a .1 .1 .0 .now) ≡ limitsOf (a .0 .now) .places → Valid (a .0 .now) (a .1 .0 .now) (a .1 .1 .0 .now)) _ (λ valid. walk 𝓤 H A W mem′ run (refs (κs .0) (κs .1 .0) (κs .1 .1 .0) (qs .0) (qs .1 .0) (qs .1 .1 .0) (a .0) (a .1 .0) (a .1 .1 .0)) (κs .1 .1 .1 .0) (qs .1 .1 .1 .0)
       (a .1 .1 .1 .1 .1 .0 .ptr .0) (a .1 .1 .1 .1 .1 .0 .ptr .1) (a .1 .1 .1 .1 .1 .0 .name) (a .1 .1 .1 .0) (a .1 .1 .1 .1 .0) (a .1 .1 .1 .1 .1 .0 .now) (are .1 .1 .0 .0 .1) (are .1 .1 .1 .0 .1) (are .1 .1 .1 .1 .0 .1) (are .1 .1 .1 .1 .1 .0 .0 .1) valid C′ Λ fm known))
 
-pub flic-set-spec : {M : Type 1} → stated.statement M
-unfolding code.routine tablesOf
+pub flic-set-spec : {M : Type 1} → f.Statement.statement M
+unfolding f.Code.routine tablesOf
 flic-set-spec 𝓤 H 𝓜 𝓖 𝓡 =
-    concludes 𝓤 H 𝓜 𝓖 𝓡 f.ended stayed (f.clauses 𝓤 H (𝓖 .A) (𝓜 .mem) (𝓡 .run)) code.env #key code.function (code.unfolded 𝓤 H 𝓜 𝓡)
+    concludes 𝓤 H 𝓜 𝓖 𝓡 f.ended stayed (f.clauses 𝓤 H (𝓖 .A) (𝓜 .mem) (𝓡 .run)) f.Code.env f.Key.name f.Code.function (f.Code.unfolded 𝓤 H 𝓜 𝓡)
     (goes-ref 𝓤 H (𝓖 .A) (givenOf 𝓤 H 𝓜 𝓖) 4 0 tt (plain (λ _. C.the-row)), (goes-ref 𝓤 H (𝓖 .A) (givenOf 𝓤 H 𝓜 𝓖) 4 1 tt (plain (λ _. D.the-row)), (goes-slice 𝓤 H (𝓖 .A) (givenOf 𝓤 H 𝓜 𝓖) 4 2 tt (plain (λ _. P.the-row)), (goes-dropped 𝓤 H (𝓖 .A) (givenOf 𝓤 H 𝓜 𝓖) 4 (plain (λ _. u32)) yes (λ κs x f. refl), (goes-dropped 𝓤 H (𝓖 .A) (givenOf 𝓤 H 𝓜 𝓖) 4 (plain (λ _. u64)) yes (λ κs x f. refl), (goes-dropped 𝓤 H (𝓖 .A) (givenOf 𝓤 H 𝓜 𝓖) 4 (shrSliceOf (3 ∷ []) tt (plain (λ _. u8))) yes (λ κs x f. refl), tt))))))
     (λ fm. walks 𝓤 H (𝓖 .A) (givenOf 𝓤 H 𝓜 𝓖) (𝓜 .mem) (𝓡 .run) _ _ fm (record {
-      refuse = cited 𝓤 H (Refuse 𝓤 H (𝓖 .A) (𝓜 .mem) (𝓡 .run)) 𝓜 𝓡 code.env refuse-def.name refuse-def.routine code.calls-answers·refuse (refuse-thm.met 𝓤 H 𝓜 𝓖 𝓡);
-      enqueue = cited 𝓤 H (Enqueue 𝓤 H (𝓖 .A) (𝓜 .mem) (𝓡 .run)) 𝓜 𝓡 code.env enqueue-def.name enqueue-def.routine code.calls-record-add·enqueue-irqs (enqueue-thm.met 𝓤 H 𝓜 𝓖 𝓡);
-      by-fields = cited 𝓤 H (ByFields 𝓤 H (𝓖 .A) (𝓜 .mem) (𝓡 .run)) 𝓜 𝓡 code.env by-fields-def.name by-fields-def.routine code.calls-answers·by-fields (by-fields-thm.met 𝓤 H 𝓜 𝓖 𝓡);
-      clear = cited 𝓤 H (Clear 𝓤 H (𝓖 .A) (𝓜 .mem) (𝓡 .run)) 𝓜 𝓡 code.env clear-def.name clear-def.routine code.calls-record-take·clear-irqs (clear-thm.met 𝓤 H 𝓜 𝓖 𝓡);
-      clear-io = cited 𝓤 H (ClearIo 𝓤 H (𝓖 .A) (𝓜 .mem) (𝓡 .run)) 𝓜 𝓡 code.env clear-io-def.name clear-io-def.routine code.calls-record-take·clear-io (clear-io-thm.met 𝓤 H 𝓜 𝓖 𝓡);
-      look-up = cited 𝓤 H (LookUp 𝓤 H (𝓖 .A) (𝓜 .mem) (𝓡 .run)) 𝓜 𝓡 code.env look-up-def.name look-up-def.routine code.calls-lent-table·look-up (look-up-thm.met 𝓤 H 𝓜 𝓖 𝓡);
-      read-device = cited 𝓤 H (ReadDevice 𝓤 H (𝓖 .A) (𝓜 .mem) (𝓡 .run)) 𝓜 𝓡 code.env read-device-def.name read-device-def.routine code.calls-lent-table·read-device (read-device-thm.met 𝓤 H 𝓜 𝓖 𝓡);
-      inject = cited 𝓤 H (AnswerInject 𝓤 H (𝓖 .A) (𝓜 .mem) (𝓡 .run)) 𝓜 𝓡 code.env answer-inject-def.name answer-inject-def.routine code.calls-calls·answer-inject (answer-inject-thm.met 𝓤 H 𝓜 𝓖 𝓡);
-      note = cited 𝓤 H (NoteInjection 𝓤 H (𝓖 .A) (𝓜 .mem) (𝓡 .run)) 𝓜 𝓡 code.env note-injection-def.name note-injection-def.routine code.calls-lent-table·note-injection (note-injection-thm.met 𝓤 H 𝓜 𝓖 𝓡);
-      on-place = cited 𝓤 H (OnPlace 𝓤 H (𝓖 .A) (𝓜 .mem) (𝓡 .run)) 𝓜 𝓡 code.env on-place-def.name on-place-def.routine code.calls-adapter-requests·on-place (on-place-thm.met 𝓤 H 𝓜 𝓖 𝓡);
-      set-place = cited 𝓤 H (SetPlace 𝓤 H (𝓖 .A) (𝓜 .mem) (𝓡 .run)) 𝓜 𝓡 code.env set-place-def.name set-place-def.routine code.calls-lent-requests·set-place (set-place-thm.met 𝓤 H 𝓜 𝓖 𝓡);
-      set-modes = cited 𝓤 H (SetModes 𝓤 H (𝓖 .A) (𝓜 .mem) (𝓡 .run)) 𝓜 𝓡 code.env set-modes-def.name set-modes-def.routine code.calls-lent-requests·set-modes (set-modes-thm.met 𝓤 H 𝓜 𝓖 𝓡);
+      refuse = cited 𝓤 H (Refuse 𝓤 H (𝓖 .A) (𝓜 .mem) (𝓡 .run)) 𝓜 𝓡 f.Code.env refuse.Symbol.name refuse.Symbol.routine f.Code.calls-answers·refuse (refuse.Met.met 𝓤 H 𝓜 𝓖 𝓡);
+      enqueue = cited 𝓤 H (Enqueue 𝓤 H (𝓖 .A) (𝓜 .mem) (𝓡 .run)) 𝓜 𝓡 f.Code.env enqueue.Symbol.name enqueue.Symbol.routine f.Code.calls-record-add·enqueue-irqs (enqueue.Met.met 𝓤 H 𝓜 𝓖 𝓡);
+      by-fields = cited 𝓤 H (ByFields 𝓤 H (𝓖 .A) (𝓜 .mem) (𝓡 .run)) 𝓜 𝓡 f.Code.env by-fields.Symbol.name by-fields.Symbol.routine f.Code.calls-answers·by-fields (by-fields.Met.met 𝓤 H 𝓜 𝓖 𝓡);
+      clear = cited 𝓤 H (Clear 𝓤 H (𝓖 .A) (𝓜 .mem) (𝓡 .run)) 𝓜 𝓡 f.Code.env clear.Symbol.name clear.Symbol.routine f.Code.calls-record-take·clear-irqs (clear.Met.met 𝓤 H 𝓜 𝓖 𝓡);
+      clear-io = cited 𝓤 H (ClearIo 𝓤 H (𝓖 .A) (𝓜 .mem) (𝓡 .run)) 𝓜 𝓡 f.Code.env clear-io.Symbol.name clear-io.Symbol.routine f.Code.calls-record-take·clear-io (clear-io.Met.met 𝓤 H 𝓜 𝓖 𝓡);
+      look-up = cited 𝓤 H (LookUp 𝓤 H (𝓖 .A) (𝓜 .mem) (𝓡 .run)) 𝓜 𝓡 f.Code.env look-up.Symbol.name look-up.Symbol.routine f.Code.calls-lent-table·look-up (look-up.Met.met 𝓤 H 𝓜 𝓖 𝓡);
+      read-device = cited 𝓤 H (ReadDevice 𝓤 H (𝓖 .A) (𝓜 .mem) (𝓡 .run)) 𝓜 𝓡 f.Code.env read-device.Symbol.name read-device.Symbol.routine f.Code.calls-lent-table·read-device (read-device.Met.met 𝓤 H 𝓜 𝓖 𝓡);
+      inject = cited 𝓤 H (AnswerInject 𝓤 H (𝓖 .A) (𝓜 .mem) (𝓡 .run)) 𝓜 𝓡 f.Code.env answer-inject.Symbol.name answer-inject.Symbol.routine f.Code.calls-calls·answer-inject (answer-inject.Met.met 𝓤 H 𝓜 𝓖 𝓡);
+      note = cited 𝓤 H (NoteInjection 𝓤 H (𝓖 .A) (𝓜 .mem) (𝓡 .run)) 𝓜 𝓡 f.Code.env note-injection.Symbol.name note-injection.Symbol.routine f.Code.calls-lent-table·note-injection (note-injection.Met.met 𝓤 H 𝓜 𝓖 𝓡);
+      on-place = cited 𝓤 H (OnPlace 𝓤 H (𝓖 .A) (𝓜 .mem) (𝓡 .run)) 𝓜 𝓡 f.Code.env on-place.Symbol.name on-place.Symbol.routine f.Code.calls-adapter-requests·on-place (on-place.Met.met 𝓤 H 𝓜 𝓖 𝓡);
+      set-place = cited 𝓤 H (SetPlace 𝓤 H (𝓖 .A) (𝓜 .mem) (𝓡 .run)) 𝓜 𝓡 f.Code.env set-place.Symbol.name set-place.Symbol.routine f.Code.calls-lent-requests·set-place (set-place.Met.met 𝓤 H 𝓜 𝓖 𝓡);
+      set-modes = cited 𝓤 H (SetModes 𝓤 H (𝓖 .A) (𝓜 .mem) (𝓡 .run)) 𝓜 𝓡 f.Code.env set-modes.Symbol.name set-modes.Symbol.routine f.Code.calls-lent-requests·set-modes (set-modes.Met.met 𝓤 H 𝓜 𝓖 𝓡);
     }))

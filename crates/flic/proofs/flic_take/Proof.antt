@@ -1,26 +1,16 @@
 -- `flic_take`: the controller is opened at entry and closed at the exit; its four arrays, the slots shared, are lent to `take`, and the bytes are passed on.
 use Rattle.flic.proofs.Walk.{_≡_, refl, ℕ, _<_, _^_, Bool, [], _∷_, List, length, URA, fullShare, imm, named, erased, w8, w64, tyInt, tyBool, tyRef, mut, Val, vint, vbool, vptr, SProp, ent, id⊢, feq, GName, Lft, Share, Fml, ftrue, fsep, flft, fobs, fbor, Memory, Routine, Heap, Env, Calls, Loops, WpFn, Atoms, Fun, givenOf, tablesOf, Given, Item, Sq, runs, atRet, ‵, ⋆, _⊛_, _$_, _∵_, !, qed, by, move, keep, drop, split, join, fsplit, fsplit3, fjoin, fjoin3, feqL, feqI, suffices, frame, done, look, init, stop, hop, fld, from, load, addr, and-then, no-more, assigns, land, returns, enter, alloc1, alloc0, params1, pass1, pass0, agg, whole, sub, look-in, Body, FmC, owns, Is, mem, pointee, bool-vals, bool-tells, bool-makes, uint-vals, uint-tells, uint-makes, u8, RefT, MutRef, ptr-vals, mut-tells, finally, sliceVal, sliceTy, MutSlice, Room, slice-vals, mut-slice-tells, plain, owned, nothing, onEntry, tripleOf, Contract, Triple, cited, says, Stays, stay-ref, walkOf, goes-ref, Walks, ends-at, walked, yes, _+_, tyArray, bool, needs, stay-dropped, goes-dropped, gave-slice, goes-gave-slice}
-use Rattle.lent_table.proofs.Ends.{concludes}
+use Rattle.lent_table.proofs.{Ends.concludes, Locals.Content, Locals.blank, Locals.holds, Locals.since, Locals.locals, Locals.frees-all, Locals.swaps}
 use denote.Struct.Laws as LL
-use Rattle.answers.specs.declared.Answer.{Answer}
-use Rattle.answers.specs.Answers.{saw}
+use Rattle.answers.specs.{declared.Answer.Answer, Answers.saw}
 use Rattle.answers.proofs.Answer as An
-use Rattle.answers.proofs.Answer.Laws as An′
 use Rattle.calls.specs.declared.Controller.{Controller}
 use Rattle.flic.specs.Surface.{Ready, Taken}
-use Rattle.flic.proofs.Promises.{TakenOf, take-promises}
+use Rattle.flic.proofs.{Promises.TakenOf, Promises.take-promises, Opened.Has, Opened.OpenAt, Opened.opens-ctl, Opened.closes-ctl}
 use Rattle.calls.proofs.Controller as C
-use Rattle.lent_table.proofs.Locals.{Content, blank, holds, since, locals, frees-all, swaps}
-use Rattle.flic.proofs.Opened.{Has, OpenAt, opens-ctl, closes-ctl}
 use Rattle.flic.proofs.Four.{Ways, mutably, shared, Loan, Toks, Lent, Left, left-by, lent-lfts, lent-shares, lent-args, lent-vals, calls-four}
 use Rattle.record_take.proofs.take as take
-use Rattle.record_take.proofs.take.Symbol as take-def
-use Rattle.record_take.proofs.take.Met as take-thm
-use Rattle.flic.proofs.flic_take.Key.{name as #key}
 use Rattle.flic.proofs.flic_take as f
-use Rattle.flic.proofs.flic_take.Statement as stated
-use Rattle.flic.proofs.flic_take.Code as code
-use Rattle.flic.proofs.flic_take.Code.Mir as mir
 
 abbrev stayed : Stays (f.ended .signature .params) (f.ended .kept)
 stayed = (stay-ref (0 ∷ []) tt (plain (λ _. C.the-row)), (stay-dropped (plain (λ _. u8)) yes, (stay-dropped (plain (λ _. bool)) yes, (stay-dropped (plain (λ _. bool)) yes, (gave-slice (1 ∷ []) tt (plain (λ _. u8)), tt)))))
@@ -63,7 +53,7 @@ module _ {M : Type 1} (𝓤 : URA M) (H : Heap 𝓤) (A : Atoms 𝓤) (W : Given
       nothing ! $ move ! (5 ∷ 0 ∷ []) $ fjoin ! $ nothing ! $ fjoin ! $ nothing ! $ fjoin ! $ nothing ! $ fjoin ! $
       -- [the last bytes; obs; the borrow; the tokens]
       nothing ! $ move ! (5 ∷ 0 ∷ []) $ join ! $ move ! (4 ∷ 0 ∷ []) $ join ! $ frame ! $ move ! (1 ∷ 2 ∷ []) $ feqI ! (List Val) (vptr bc oc ∷ []) (vptr bc oc ∷ []) refl $ fjoin3 ! $ fjoin ! $
-      frame ! $ owned ! An.the-row (Is An.the-row) (LL.makes An.the-type An′.the-plain 𝓤 H A) z _ is $ done !
+      frame ! $ owned ! An.the-row (Is An.the-row) (LL.makes An.the-type An.Laws.the-plain 𝓤 H A) z _ is $ done !
 
   -- ---- the call of `take`: after the arrays it takes three values and the bytes
   abbrev T : Item 𝓤
@@ -94,9 +84,9 @@ module _ {M : Type 1} (𝓤 : URA M) (H : Heap 𝓤) (A : Atoms 𝓤) (W : Given
   goes : (n : Loan) → ent 𝓤 (⋆ 𝓤 H A (Toks ways n T ∷ ‵ (Lent ways n c bc oc O) ∷ [])) (Take 𝓤 H A mem′ run .pre (to-take n))
   goes n = qed W (Toks ways n T ∷ ‵ (Lent ways n c bc oc O) ∷ []) ∵ says ! ready $ done !
 
-  module _ (C′ : Calls 𝓤 H) (Λ : Loops 𝓤 H) (fm : FmC 𝓤 H (W .laws) C′) (known : Triple 𝓤 (C′ take-def.name) (Take 𝓤 H A mem′ run)) (l₀ l₁ l₂ l₃ l₄ l₅ l₆ l₇ l₈ l₉ l₁₀ l₁₁ : ℕ) where
+  module _ (C′ : Calls 𝓤 H) (Λ : Loops 𝓤 H) (fm : FmC 𝓤 H (W .laws) C′) (known : Triple 𝓤 (C′ take.Symbol.name) (Take 𝓤 H A mem′ run)) (l₀ l₁ l₂ l₃ l₄ l₅ l₆ l₇ l₈ l₉ l₁₀ l₁₁ : ℕ) where
     abbrev E : Env 𝓤 H
-    E = (An′.mir, l₀) ∷ (tyRef (named 0) mut (pointee (C.the-row .written)), l₁) ∷ (tyInt w8, l₂) ∷ (tyBool, l₃) ∷ (tyBool, l₄) ∷ (sliceTy (tyRef (named 1) mut (tyInt w8)), l₅) ∷ (tyRef erased imm (tyArray (tyInt w8) 18432), l₆) ∷ (tyRef erased mut (tyArray (tyInt w8) 2560), l₇) ∷ (tyRef erased mut (tyArray (tyInt w64) 11), l₈) ∷ (tyRef erased mut (tyArray (tyInt w8) 146), l₉) ∷ (tyRef erased mut (tyInt w8), l₁₀) ∷ (sliceTy (tyRef erased mut (tyInt w8)), l₁₁) ∷ []
+    E = (An.Laws.mir, l₀) ∷ (tyRef (named 0) mut (pointee (C.the-row .written)), l₁) ∷ (tyInt w8, l₂) ∷ (tyBool, l₃) ∷ (tyBool, l₄) ∷ (sliceTy (tyRef (named 1) mut (tyInt w8)), l₅) ∷ (tyRef erased imm (tyArray (tyInt w8) 18432), l₆) ∷ (tyRef erased mut (tyArray (tyInt w8) 2560), l₇) ∷ (tyRef erased mut (tyArray (tyInt w64) 11), l₈) ∷ (tyRef erased mut (tyArray (tyInt w8) 146), l₉) ∷ (tyRef erased mut (tyInt w8), l₁₀) ∷ (sliceTy (tyRef erased mut (tyInt w8)), l₁₁) ∷ []
 
     -- what the locals hold after n statements, and the result's v₀
     abbrev held : Content → ℕ → List Content
@@ -104,23 +94,23 @@ module _ {M : Type 1} (𝓤 : URA M) (H : Heap 𝓤) (A : Atoms 𝓤) (W : Given
 
     -- the controller is closed
     ends : (z : Answer) (v : Val) (w : Left ways Y) → Φ z w → Has (left-by ways Y c w) → Is An.the-row z (v ∷ [])
-        → Sq W (OpenAt H κc qc γc c (left-by ways Y c w) bc oc (T ∷ ‵ (Leaves (w .1 .1 .1 .1)) ∷ locals E (held (holds v) 6) [])) (runs C′ Λ E mir.t-8 (atRet E Post))
+        → Sq W (OpenAt H κc qc γc c (left-by ways Y c w) bc oc (T ∷ ‵ (Leaves (w .1 .1 .1 .1)) ∷ locals E (held (holds v) 6) [])) (runs C′ Λ E f.Code.Mir.t-8 (atRet E Post))
     ends z v w φ g is =
         closes-ctl ! tt c (left-by ways Y c w) g bc oc $ move ! (4 ∷ []) $ fsplit ! $ drop ! $ fsplit ! $ drop ! $ fsplit ! $ drop ! $ fsplit ! $ fsplit ! $ move ! (1 ∷ []) $ feqL ! (λ e.
         -- [the last bytes; true; obs; the borrow; the token; T; the locals]
         move ! (5 ∷ []) $ split ! $ move ! (4 ∷ 5 ∷ 6 ∷ 0 ∷ 2 ∷ 1 ∷ 3 ∷ []) $ move ! (5 ∷ []) $ drop ! $ move ! (5 ∷ []) $ drop ! $
         returns ! (look ! 5 refl) $ swaps ! (Rest (left-by ways Y c w) (last w)) (locals E (held (holds v) 6) []) $ frees-all ! E (held (holds v) 6) $ by ! (exits (left-by ways Y c w) (last w) z v (take-promises subclasses external mcheck c _ _ _ bytes (last w) z φ) e is))
 
-    calls-it : Has c → Sq W (OpenAt H κc qc γc c c bc oc (‵ OwnO ∷ ‵ (flft κo qo) ∷ locals E (held blank 6) [])) (runs C′ Λ E mir.t-7 (atRet E Post))
+    calls-it : Has c → Sq W (OpenAt H κc qc γc c c bc oc (‵ OwnO ∷ ‵ (flft κo qo) ∷ locals E (held blank 6) [])) (runs C′ Λ E f.Code.Mir.t-7 (atRet E Post))
     calls-it g =
         nothing ! $ move ! (10 ∷ 0 ∷ []) $ fjoin ! $ owned ! bool (Is bool) (bool-makes 𝓤 H A W) mcheck _ refl $ fjoin ! $ owned ! bool (Is bool) (bool-makes 𝓤 H A W) external _ refl $ fjoin ! $ owned ! u8 (Is u8) (uint-makes 𝓤 H A W w8) subclasses _ (refl, fits) $ fjoin ! $
         nothing ! $ move ! (11 ∷ 0 ∷ []) $ join ! $ move ! (2 ∷ 3 ∷ 4 ∷ 5 ∷ 0 ∷ 1 ∷ []) $
         calls-four ways ! fm (Take 𝓤 H A mem′ run) known to-take c g bc oc An.the-row T O Leaves Φ goes (λ n v. id⊢ 𝓤 _) (λ n i.
         (and-then ! (load ! (from ! (stop !)) (look ! 22 refl)) (and-then ! (load ! (from ! (stop !)) (look ! 24 refl)) (and-then ! (load ! (from ! (stop !)) (look ! 26 refl)) (and-then ! (load ! (from ! (stop !)) (look ! 28 refl)) (and-then ! (load ! (from ! (stop !)) (look ! 14 refl)) (and-then ! (load ! (from ! (stop !)) (look ! 16 refl)) (and-then ! (load ! (from ! (stop !)) (look ! 18 refl)) (and-then ! (load ! (from ! (stop !)) (look ! 32 refl)) (no-more !)))))))))) (λ z v w φ g′ is.
-        land ! (from ! (stop !)) (init ! 11 refl (LL.lawful An.the-type An′.the-laws 𝓤 H A W .typed z _ is .0)) $ move ! (0 ∷ 1 ∷ 2 ∷ 3 ∷ 6 ∷ 7 ∷ 8 ∷ 9 ∷ 10 ∷ []) $ ends z v w φ g′ is)
+        land ! (from ! (stop !)) (init ! 11 refl (LL.lawful An.the-type An.Laws.the-laws 𝓤 H A W .typed z _ is .0)) $ move ! (0 ∷ 1 ∷ 2 ∷ 3 ∷ 6 ∷ 7 ∷ 8 ∷ 9 ∷ 10 ∷ []) $ ends z v w φ g′ is)
 
     -- the controller is opened, and the operands are made
-    opens-it : Sq W (‵ (MutRef (named 0) κc C.the-row .own (x .0) (vptr bc oc ∷ [])) ∷ ‵ (flft κc qc) ∷ ‵ OwnO ∷ ‵ (flft κo qo) ∷ locals E (held blank 0) []) (runs C′ Λ E mir.t-1 (atRet E Post))
+    opens-it : Sq W (‵ (MutRef (named 0) κc C.the-row .own (x .0) (vptr bc oc ∷ [])) ∷ ‵ (flft κc qc) ∷ ‵ OwnO ∷ ‵ (flft κo qo) ∷ locals E (held blank 0) []) (runs C′ Λ E f.Code.Mir.t-1 (atRet E Post))
     opens-it =
         fsplit3 ! $ drop ! $ opens-ctl ! tt c bc oc (λ g.
         assigns ! (addr ! (from ! (hop ! (look ! 13 refl) (fld ! refl (stop !))))) (from ! (stop !)) (init ! 23 refl (tt, tt)) $
@@ -131,25 +121,25 @@ module _ {M : Type 1} (𝓤 : URA M) (H : Heap 𝓤) (A : Atoms 𝓤) (W : Given
         assigns ! (agg ! (and-then ! (load ! (from ! (stop !)) (look ! 31 refl)) (and-then ! (load ! (from ! (fld ! refl (stop !))) (look-in ! 21 (sub ! 1 refl (whole !)))) (no-more !)))) (from ! (stop !)) (init ! 33 refl (tt, (tt, (record { fits = room .0 }, tt)))) $
         calls-it g)
 
-  walk : (C′ : Calls 𝓤 H) (Λ : Loops 𝓤 H) (fm : FmC 𝓤 H (W .laws) C′) → Triple 𝓤 (C′ take-def.name) (Take 𝓤 H A mem′ run) → ent 𝓤 (onEntry 𝓤 H A f.signature (κc, (κo, tt)) (qc, (qo, tt)) x at) (WpFn 𝓤 H C′ Λ code.function (vptr bc oc ∷ vint w8 subclasses ∷ vbool external ∷ vbool mcheck ∷ out ∷ []) Post)
+  walk : (C′ : Calls 𝓤 H) (Λ : Loops 𝓤 H) (fm : FmC 𝓤 H (W .laws) C′) → Triple 𝓤 (C′ take.Symbol.name) (Take 𝓤 H A mem′ run) → ent 𝓤 (onEntry 𝓤 H A f.signature (κc, (κo, tt)) (qc, (qo, tt)) x at) (WpFn 𝓤 H C′ Λ f.Code.function (vptr bc oc ∷ vint w8 subclasses ∷ vbool external ∷ vbool mcheck ∷ out ∷ []) Post)
   walk C′ Λ fm known =
       qed W ((‵ (flft κc qc) ⊛ ‵ (flft κo qo) ⊛ ‵ ftrue) ∷ ‵ (owns (MutRef (named 0) κc C.the-row ∷ u8 ∷ bool ∷ bool ∷ MutSlice (named 1) κo u8 ∷ []) x at) ∷ []) ∵
       split ! $ move ! (1 ∷ []) $ split ! $ move ! (3 ∷ []) $ fsplit ! $ move ! (1 ∷ []) $ fsplit ! $ drop ! $ fsplit ! $ drop ! $ fsplit ! $ drop ! $ fsplit ! $ keep ! (2 ∷ 5 ∷ 0 ∷ 3 ∷ []) $
-      enter ! C′ Λ code.function (vptr bc oc ∷ vint w8 subclasses ∷ vbool external ∷ vbool mcheck ∷ out ∷ []) _ $
+      enter ! C′ Λ f.Code.function (vptr bc oc ∷ vint w8 subclasses ∷ vbool external ∷ vbool mcheck ∷ out ∷ []) _ $
       alloc1 ! (λ l₀. alloc1 ! (λ l₁. alloc1 ! (λ l₂. alloc1 ! (λ l₃. alloc1 ! (λ l₄. alloc1 ! (λ l₅. alloc1 ! (λ l₆. alloc1 ! (λ l₇. alloc1 ! (λ l₈. alloc1 ! (λ l₉. alloc1 ! (λ l₁₀. alloc1 ! (λ l₁₁. alloc0 ! $ params1 ! $
       pass1 ! (init ! 20 refl (tt, tt)) $ pass1 ! (init ! 18 refl (tt, record { fits = fits })) $ pass1 ! (init ! 16 refl (tt, tt)) $ pass1 ! (init ! 14 refl (tt, tt)) $ pass1 ! (init ! 12 refl (tt, (tt, (record { fits = room .0 }, tt)))) $ pass0 ! $
       keep ! (24 ∷ 25 ∷ 26 ∷ 27 ∷ 22 ∷ 23 ∷ 20 ∷ 21 ∷ 18 ∷ 19 ∷ 16 ∷ 17 ∷ 14 ∷ 15 ∷ 12 ∷ 13 ∷ 10 ∷ 11 ∷ 8 ∷ 9 ∷ 6 ∷ 7 ∷ 4 ∷ 5 ∷ 2 ∷ 3 ∷ 0 ∷ 1 ∷ []) $ opens-it C′ Λ fm known l₀ l₁ l₂ l₃ l₄ l₅ l₆ l₇ l₈ l₉ l₁₀ l₁₁))))))))))))
 
 module _ {M : Type 1} (𝓤 : URA M) (H : Heap 𝓤) (A : Atoms 𝓤) (W : Given 𝓤 H A) (mem′ : Memory → SProp 𝓤) (run : Routine → Fun 𝓤) where
-  walks : (C′ : Calls 𝓤 H) (Λ : Loops 𝓤 H) → FmC 𝓤 H (W .laws) C′ → Triple 𝓤 (C′ take-def.name) (Take 𝓤 H A mem′ run) → Walks 𝓤 H A f.ended stayed (WpFn 𝓤 H C′ Λ code.function) (f.clauses 𝓤 H A mem′ run)
-  walks C′ Λ fm known = walked 𝓤 H A f.ended stayed (f.clauses 𝓤 H A mem′ run) (WpFn 𝓤 H C′ Λ code.function) (λ κs. (ptr-vals, (uint-vals w8, (bool-vals, (bool-vals, (slice-vals, tt))))))
+  walks : (C′ : Calls 𝓤 H) (Λ : Loops 𝓤 H) → FmC 𝓤 H (W .laws) C′ → Triple 𝓤 (C′ take.Symbol.name) (Take 𝓤 H A mem′ run) → Walks 𝓤 H A f.ended stayed (WpFn 𝓤 H C′ Λ f.Code.function) (f.clauses 𝓤 H A mem′ run)
+  walks C′ Λ fm known = walked 𝓤 H A f.ended stayed (f.clauses 𝓤 H A mem′ run) (WpFn 𝓤 H C′ Λ f.Code.function) (λ κs. (ptr-vals, (uint-vals w8, (bool-vals, (bool-vals, (slice-vals, tt))))))
       (λ κs. (mut-tells (named 0) (κs .0) C.the-row, (uint-tells w8, (bool-tells, (bool-tells, (mut-slice-tells (named 1) (κs .1 .0) u8, tt))))))
       (λ κs qs bounds a _ are. needs 𝓤 (Ready (a .0 .now)) _ (λ ready. walk 𝓤 H A W mem′ run (κs .0) (κs .1 .0) (qs .0) (qs .1 .0) (a .0 .ptr .0) (a .0 .ptr .1) (a .1 .1 .1 .1 .0 .ptr .0) (a .1 .1 .1 .1 .0 .ptr .1)
       (a .0 .name) (a .1 .1 .1 .1 .0 .name) (a .0 .now) (a .1 .0) (a .1 .1 .0) (a .1 .1 .1 .0) (a .1 .1 .1 .1 .0 .now) (are .1 .0 .1) (are .1 .1 .1 .1 .0 .0 .1) ready C′ Λ fm known))
 
-pub flic-take-spec : {M : Type 1} → stated.statement M
-unfolding code.routine tablesOf
+pub flic-take-spec : {M : Type 1} → f.Statement.statement M
+unfolding f.Code.routine tablesOf
 flic-take-spec 𝓤 H 𝓜 𝓖 𝓡 =
-    concludes 𝓤 H 𝓜 𝓖 𝓡 f.ended stayed (f.clauses 𝓤 H (𝓖 .A) (𝓜 .mem) (𝓡 .run)) code.env #key code.function (code.unfolded 𝓤 H 𝓜 𝓡)
+    concludes 𝓤 H 𝓜 𝓖 𝓡 f.ended stayed (f.clauses 𝓤 H (𝓖 .A) (𝓜 .mem) (𝓡 .run)) f.Code.env f.Key.name f.Code.function (f.Code.unfolded 𝓤 H 𝓜 𝓡)
     (goes-ref 𝓤 H (𝓖 .A) (givenOf 𝓤 H 𝓜 𝓖) 2 0 tt (plain (λ _. C.the-row)), (goes-dropped 𝓤 H (𝓖 .A) (givenOf 𝓤 H 𝓜 𝓖) 2 (plain (λ _. u8)) yes (λ κs x f. refl), (goes-dropped 𝓤 H (𝓖 .A) (givenOf 𝓤 H 𝓜 𝓖) 2 (plain (λ _. bool)) yes (λ κs x f. refl), (goes-dropped 𝓤 H (𝓖 .A) (givenOf 𝓤 H 𝓜 𝓖) 2 (plain (λ _. bool)) yes (λ κs x f. refl), (goes-gave-slice 𝓤 H (𝓖 .A) (givenOf 𝓤 H 𝓜 𝓖) 2 1 tt (plain (λ _. u8)), tt)))))
-    (λ fm. walks 𝓤 H (𝓖 .A) (givenOf 𝓤 H 𝓜 𝓖) (𝓜 .mem) (𝓡 .run) _ _ fm (cited 𝓤 H (Take 𝓤 H (𝓖 .A) (𝓜 .mem) (𝓡 .run)) 𝓜 𝓡 code.env take-def.name take-def.routine code.calls-record-take·take (take-thm.met 𝓤 H 𝓜 𝓖 𝓡)))
+    (λ fm. walks 𝓤 H (𝓖 .A) (givenOf 𝓤 H 𝓜 𝓖) (𝓜 .mem) (𝓡 .run) _ _ fm (cited 𝓤 H (Take 𝓤 H (𝓖 .A) (𝓜 .mem) (𝓡 .run)) 𝓜 𝓡 f.Code.env take.Symbol.name take.Symbol.routine f.Code.calls-record-take·take (take.Met.met 𝓤 H 𝓜 𝓖 𝓡)))

@@ -1,54 +1,31 @@
 -- `flic_write_list`: a table of a wrong length is refused. Else the device record and the table are passed on and given up; the controller is looked into, and shut at the exit. The
 -- bytes are passed on whole.
 use Rattle.flic.proofs.Walk.{_≡_, refl, Bool, false, lit, bin, store, first, skips, branches, exec, returns-within, anyQ, afterSeq, Wp, atReturn, ℕ, [], _∷_, List, length, URA, named, erased, w8, w64, tyInt, tyBool, tyRef, imm, mut, Val, vint, vbool, vptr, SProp, ent, id⊢, feq, GName, Lft, Share, Fml, ftrue, fsep, flft, fobor, Memory, Routine, Heap, Env, Calls, Loops, WpFn, Atoms, Fun, Given, Item, Sq, runs, atRet, ‵, ⋆, _⊛_, _$_, _∵_, !, qed, by, move, keep, drop, split, join, fsplit, fsplit3, fjoin, feqL, suffices, frame, done, look, init, stop, hop, fld, from, load, addr, of-opd, and-then, no-more, assigns, land, returns, enter, alloc1, alloc0, params1, pass1, pass0, agg, whole, sub, look-in, FmC, owns, Is, partAt, pointee, bool-makes, u8, RefT, ShrRef, ptr-vals, shr-tells, finally, sliceVal, sliceTy, MutSlice, ShrSlice, Room, slice-vals, mut-slice-tells, shr-slice-tells, plain, owned, nothing, onEntry, tripleOf, Contract, Triple, cited, says, Stays, walkOf, Walks, ends-at, walked, yes, givenOf, tablesOf, _+_, tyArray, bool, needs, stay-dropped, goes-dropped, gave-slice, goes-gave-slice}
-use Rattle.lent_table.proofs.Ends.{concludes}
-use types.Kit as Kit
+use Rattle.lent_table.proofs.{Ends.concludes, Images.Image, Images.imageTy, Images.low-image, Images.FitsImage, Images.image-makes, Images.image-typed, Record.ReadDevice, Calls.Snapshot, Calls.snapshots-shared, Count.taken}
 use Rattle.numbers.proofs.Basics.{arith, eqb, not, eqb-true, eqb-false}
 use denote.Struct.Laws as LL
 use denote.Signature.{shrRefTo, shrSliceOf}
-use Rattle.calls.specs.Limits.{limitsOf}
+use Rattle.calls.specs.{Limits.limitsOf, declared.Controller.Controller, Inner.pendingIn}
 use Rattle.calls.proofs.Limits.{right-length, wrong-length}
 use Rattle.rules.specs.Machine.{writeList}
-use Rattle.answers.specs.declared.Answer.{Answer}
-use Rattle.answers.specs.Answers.{saw}
+use Rattle.answers.specs.{declared.Answer.Answer, Answers.saw}
 use Rattle.answers.proofs.Answer as An
-use Rattle.answers.proofs.Answer.Laws as An′
-use Rattle.adapters.specs.declared.Device.{Device}
-use Rattle.adapters.specs.declared.Place.{Place}
+use Rattle.adapters.specs.declared.{Device.Device, Place.Place}
 use Rattle.adapters.proofs.Device as D
-use Rattle.adapters.proofs.Device.Laws as D′
 use Rattle.adapters.proofs.Place as P
 use Rattle.lent_table.specs.Table.{snapTo}
-use Rattle.lent_table.proofs.Images.{Image, imageTy, low-image, FitsImage, image-makes, image-typed}
-use Rattle.lent_table.proofs.Record.{ReadDevice}
-use Rattle.lent_table.proofs.Calls.{Snapshot, snapshots-shared}
-use Rattle.calls.specs.declared.Controller.{Controller}
 use Rattle.flic.specs.Surface.{Valid, Requested}
 use Rattle.list_write.specs.Write.{Written}
-use Rattle.calls.specs.Inner.{pendingIn}
 use Rattle.calls.proofs.Controller as C
-use Rattle.flic.proofs.Promises.{write-promises, wrong-promises}
+use Rattle.flic.proofs.{Promises.write-promises, Promises.wrong-promises, Opened.Has, Opened.Cells, Opened.looks-ctl, Opened.shuts-ctl, All.Refs, All.refs, All.at-ctl, All.at-dev, All.at-tab, All.table, All.Tokens, Calls.gives-up, Calls.reads-passed}
 use Rattle.lent_table.proofs.Locals.{Content, blank, holds, since, locals, frees-all, swaps, holds-false, not-not}
-use Rattle.flic.proofs.Opened.{Has, Cells, looks-ctl, shuts-ctl}
-use Rattle.flic.proofs.All.{Refs, refs, at-ctl, at-dev, at-tab, table, Tokens}
 use Rattle.flic.proofs.Four.{all, shared, at-array, Loan, Toks, Lent, lent-lfts, lent-shares, lent-args, lent-vals, calls-four}
-use Rattle.flic.proofs.Calls.{gives-up, reads-passed}
-use Rattle.lent_table.proofs.Count.{taken}
 use Rattle.lent_requests.proofs.Answered.{refused, Refuse, refuses}
-use Rattle.answers.proofs.refuse.Symbol as refuse-def
-use Rattle.answers.proofs.refuse.Met as refuse-thm
-use Rattle.lent_table.proofs.read_device.Symbol as read-device-def
-use Rattle.lent_table.proofs.read_device.Met as read-device-thm
-use Rattle.lent_table.proofs.snapshot.Symbol as snapshot-def
-use Rattle.lent_table.proofs.snapshot.Met as snapshot-thm
+use Rattle.answers.proofs.refuse as refuse
+use Rattle.lent_table.proofs.read_device as read-device
+use Rattle.lent_table.proofs.snapshot as snapshot
 use Rattle.list_write.proofs.write_list as write-list
-use Rattle.list_write.proofs.write_list.Symbol as write-list-def
-use Rattle.list_write.proofs.write_list.Met as write-list-thm
-use Rattle.flic.proofs.flic_write_list.Key.{name as #key}
 use Rattle.flic.proofs.flic_write_list as f
-use Rattle.flic.proofs.flic_write_list.Statement as stated
-use Rattle.flic.proofs.flic_write_list.Code as code
-use Rattle.flic.proofs.flic_write_list.Code.Mir as mir
 use Rattle.list_image.specs.Image.{imageSize}
 
 abbrev stayed : Stays (f.ended .signature .params) (f.ended .kept)
@@ -60,10 +37,10 @@ module _ {M : Type 1} (𝓤 : URA M) (H : Heap 𝓤) (A : Atoms 𝓤) (mem′ : 
 
   -- what is known of the four callees
   pub record Known (C′ : Calls 𝓤 H) : Type 1 where
-    pub refuse : Triple 𝓤 (C′ refuse-def.name) (Refuse 𝓤 H A mem′ run)
-    pub read-device : Triple 𝓤 (C′ read-device-def.name) (ReadDevice 𝓤 H A mem′ run)
-    pub snapshot : Triple 𝓤 (C′ snapshot-def.name) (Snapshot 𝓤 H A mem′ run)
-    pub write-list : Triple 𝓤 (C′ write-list-def.name) WriteList
+    pub refuse : Triple 𝓤 (C′ refuse.Symbol.name) (Refuse 𝓤 H A mem′ run)
+    pub read-device : Triple 𝓤 (C′ read-device.Symbol.name) (ReadDevice 𝓤 H A mem′ run)
+    pub snapshot : Triple 𝓤 (C′ snapshot.Symbol.name) (Snapshot 𝓤 H A mem′ run)
+    pub write-list : Triple 𝓤 (C′ write-list.Symbol.name) WriteList
 
 module _ {M : Type 1} (𝓤 : URA M) (H : Heap 𝓤) (A : Atoms 𝓤) (W : Given 𝓤 H A) (mem′ : Memory → SProp 𝓤) (run : Routine → Fun 𝓤) (a : Refs) (κo : Lft) (qo : Share) (bo oo : ℕ) (γo : GName) (bytes : List ℕ)
     (room : Room P.the-row (length (a .t))) (room-o : Room u8 (length bytes)) (valid : length (a .t) ≡ limitsOf (a .c) .places → Valid (a .c) (a .d) (a .t)) where
@@ -93,14 +70,14 @@ module _ {M : Type 1} (𝓤 : URA M) (H : Heap 𝓤) (A : Atoms 𝓤) (W : Given
   exits ls z v requested e is =
       qed W (Rest ls) ∵ suffices ! _ (ends-at 𝓤 H A f.ended stayed (f.clauses 𝓤 H A mem′ run) W bound v z (tt, (tt, (tt, (ls, tt)))) (tt, (tt, (tt, (e, tt))))) $ says ! requested $
       nothing ! $ move ! (4 ∷ 0 ∷ []) $ join ! $ move ! (3 ∷ 0 ∷ []) $ join ! $ move ! (2 ∷ 0 ∷ []) $ join ! $ move ! (1 ∷ 0 ∷ []) $ join ! $ frame ! $
-      nothing ! $ move ! (1 ∷ 0 ∷ []) $ fjoin ! $ nothing ! $ fjoin ! $ nothing ! $ fjoin ! $ nothing ! $ fjoin ! $ frame ! $ owned ! An.the-row (Is An.the-row) (LL.makes An.the-type An′.the-plain 𝓤 H A) z _ is $ done !
+      nothing ! $ move ! (1 ∷ 0 ∷ []) $ fjoin ! $ nothing ! $ fjoin ! $ nothing ! $ fjoin ! $ nothing ! $ fjoin ! $ frame ! $ owned ! An.the-row (Is An.the-row) (LL.makes An.the-type An.Laws.the-plain 𝓤 H A) z _ is $ done !
 
   -- ---- the call of `write_list`: after the arrays it takes three values and the bytes
   abbrev T : Item 𝓤
   T = ‵ (flft κo qo) ⊛ ‵ ftrue
 
   abbrev O : Fml
-  O = fsep (bool .own (a .c .ais) (vbool (a .c .ais) ∷ [])) (fsep (D.the-row .own (a .d) (D′.lowered (a .d) ∷ [])) (fsep (Image .own (snapTo (a .t) imageSize) (low-image (snapTo (a .t) imageSize) ∷ [])) (fsep OwnO ftrue)))
+  O = fsep (bool .own (a .c .ais) (vbool (a .c .ais) ∷ [])) (fsep (D.the-row .own (a .d) (D.Laws.lowered (a .d) ∷ [])) (fsep (Image .own (snapTo (a .t) imageSize) (low-image (snapTo (a .t) imageSize) ∷ [])) (fsep OwnO ftrue)))
 
   abbrev Y : Type 0
   Y = Unit {0} × (Unit {0} × (Unit {0} × (List ℕ × Unit {0})))
@@ -112,21 +89,21 @@ module _ {M : Type 1} (𝓤 : URA M) (H : Heap 𝓤) (A : Atoms 𝓤) (W : Given
   Leaves y = fsep ftrue (fsep ftrue (fsep ftrue (fsep (fsep (finally u8 γo (last y)) (feq ℕ (length (last y)) (length bytes))) ftrue)))
 
   abbrev to-write : Share → Loan → WriteList 𝓤 H A mem′ run .Ghost
-  to-write sh n = ((lent-lfts (all (shared sh)) n (κo, tt), lent-shares (all (shared sh)) (qo, tt), tt, lent-args (all (shared sh)) n (a .c) (a .bc) (a .oc) (a .c .ais, (a .d, (snapTo (a .t) imageSize, (at-array bo oo γo bytes, tt)))), lent-vals (all (shared sh)) (a .bc) (a .oc) (vbool (a .c .ais) ∷ [], (D′.lowered (a .d) ∷ [], (low-image (snapTo (a .t) imageSize) ∷ [], (out ∷ [], tt))))), tt)
+  to-write sh n = ((lent-lfts (all (shared sh)) n (κo, tt), lent-shares (all (shared sh)) (qo, tt), tt, lent-args (all (shared sh)) n (a .c) (a .bc) (a .oc) (a .c .ais, (a .d, (snapTo (a .t) imageSize, (at-array bo oo γo bytes, tt)))), lent-vals (all (shared sh)) (a .bc) (a .oc) (vbool (a .c .ais) ∷ [], (D.Laws.lowered (a .d) ∷ [], (low-image (snapTo (a .t) imageSize) ∷ [], (out ∷ [], tt))))), tt)
 
   goes : length (a .t) ≡ limitsOf (a .c) .places → (sh : Share) (n : Loan) → ent 𝓤 (⋆ 𝓤 H A (Toks (all (shared sh)) n T ∷ ‵ (Lent (all (shared sh)) n (a .c) (a .bc) (a .oc) O) ∷ [])) (WriteList 𝓤 H A mem′ run .pre (to-write sh n))
   goes right sh n = qed W (Toks (all (shared sh)) n T ∷ ‵ (Lent (all (shared sh)) n (a .c) (a .bc) (a .oc) O) ∷ []) ∵ says ! (valid right .ready) $ done !
 
   module _ (C′ : Calls 𝓤 H) (Λ : Loops 𝓤 H) (fm : FmC 𝓤 H (W .laws) C′) (known : Known 𝓤 H A mem′ run C′) (l₀ l₁ l₂ l₃ l₄ l₅ l₆ l₇ l₈ l₉ l₁₀ l₁₁ l₁₂ l₁₃ l₁₄ : ℕ) where
     abbrev E : Env 𝓤 H
-    E = (An′.mir, l₀) ∷ (tyRef (named 0) imm (pointee (C.the-row .written)), l₁) ∷ (tyRef (named 1) imm (pointee (D.the-row .written)), l₂) ∷ (sliceTy (tyRef (named 2) imm (pointee (P.the-row .written))), l₃) ∷ (sliceTy (tyRef (named 3) mut (tyInt w8)), l₄) ∷ (D′.mir, l₅) ∷ (imageTy, l₆) ∷ (tyInt w64, l₇) ∷ (tyBool, l₈) ∷ (tyRef erased imm (tyArray (tyInt w8) 18432), l₉) ∷ (tyRef erased imm (tyArray (tyInt w8) 2560), l₁₀) ∷ (tyRef erased imm (tyArray (tyInt w64) 11), l₁₁) ∷ (tyRef erased imm (tyArray (tyInt w8) 146), l₁₂) ∷ (tyRef erased mut (tyInt w8), l₁₃) ∷ (sliceTy (tyRef erased mut (tyInt w8)), l₁₄) ∷ []
+    E = (An.Laws.mir, l₀) ∷ (tyRef (named 0) imm (pointee (C.the-row .written)), l₁) ∷ (tyRef (named 1) imm (pointee (D.the-row .written)), l₂) ∷ (sliceTy (tyRef (named 2) imm (pointee (P.the-row .written))), l₃) ∷ (sliceTy (tyRef (named 3) mut (tyInt w8)), l₄) ∷ (D.Laws.mir, l₅) ∷ (imageTy, l₆) ∷ (tyInt w64, l₇) ∷ (tyBool, l₈) ∷ (tyRef erased imm (tyArray (tyInt w8) 18432), l₉) ∷ (tyRef erased imm (tyArray (tyInt w8) 2560), l₁₀) ∷ (tyRef erased imm (tyArray (tyInt w64) 11), l₁₁) ∷ (tyRef erased imm (tyArray (tyInt w8) 146), l₁₂) ∷ (tyRef erased mut (tyInt w8), l₁₃) ∷ (sliceTy (tyRef erased mut (tyInt w8)), l₁₄) ∷ []
 
     -- what the locals hold after n statements, and the result's v₀; the flag is whether the length is wrong, then the capability
     abbrev wrong : Bool
     wrong = not (eqb (length (a .t)) imageSize)
 
     abbrev held : Content → Bool → ℕ → List Content
-    held v₀ flag n = v₀ ∷ holds (vptr (a .bc) (a .oc)) ∷ holds (vptr (a .bd) (a .od)) ∷ holds (table a) ∷ holds out ∷ since 4 n (D′.lowered (a .d)) ∷ since 5 n (low-image (snapTo (a .t) imageSize)) ∷ since 1 n (vint w64 (length (a .t))) ∷ since 2 n (vbool flag)
+    held v₀ flag n = v₀ ∷ holds (vptr (a .bc) (a .oc)) ∷ holds (vptr (a .bd) (a .od)) ∷ holds (table a) ∷ holds out ∷ since 4 n (D.Laws.lowered (a .d)) ∷ since 5 n (low-image (snapTo (a .t) imageSize)) ∷ since 1 n (vint w64 (length (a .t))) ∷ since 2 n (vbool flag)
         ∷ since 6 n (vptr (a .bc) (a .oc + 0)) ∷ since 7 n (vptr (a .bc) (a .oc + 18432)) ∷ since 8 n (vptr (a .bc) (a .oc + 20992)) ∷ since 9 n (vptr (a .bc) (a .oc + 21080)) ∷ since 11 n (vptr bo oo) ∷ since 12 n out ∷ []
 
     -- the controller looked into, at the share sh
@@ -136,23 +113,23 @@ module _ {M : Type 1} (𝓤 : URA M) (H : Heap 𝓤) (A : Atoms 𝓤) (W : Given
     module _ (right : length (a .t) ≡ limitsOf (a .c) .places) where
       -- the controller is shut
       ends : (sh : Share) → Has (a .c) → (z : Answer) (v : Val) (y : Y) → Written (a .c .ais) (a .d) (snapTo (a .t) imageSize) (pendingIn (a .c)) bytes (last y) z → Is An.the-row z (v ∷ [])
-          → Sq W (Open sh (T ∷ ‵ (Leaves y) ∷ ‵ (flft (a .κd) (a .qd)) ∷ ‵ (flft (a .κt) (a .qt)) ∷ locals E (held (holds v) (a .c .ais) 12) [])) (runs C′ Λ E mir.t-14 (atRet E Post))
+          → Sq W (Open sh (T ∷ ‵ (Leaves y) ∷ ‵ (flft (a .κd) (a .qd)) ∷ ‵ (flft (a .κt) (a .qt)) ∷ locals E (held (holds v) (a .c .ais) 12) [])) (runs C′ Λ E f.Code.Mir.t-14 (atRet E Post))
       ends sh g z v y wrote is =
           shuts-ctl ! tt sh (a .c) g (a .bc) (a .oc) $ move ! (2 ∷ []) $ fsplit ! $ drop ! $ fsplit ! $ drop ! $ fsplit ! $ drop ! $ fsplit ! $ fsplit ! $ move ! (1 ∷ []) $ feqL ! (λ e.
           -- [the last bytes; true; the token; T; two tokens; the locals]
           move ! (3 ∷ []) $ split ! $ move ! (4 ∷ 5 ∷ 6 ∷ 0 ∷ 2 ∷ 1 ∷ 3 ∷ []) $ move ! (5 ∷ []) $ drop ! $ move ! (5 ∷ []) $ drop ! $
           returns ! (look ! 5 refl) $ swaps ! (Rest (last y)) (locals E (held (holds v) (a .c .ais) 12) []) $ frees-all ! E (held (holds v) (a .c .ais) 12) $ by ! (exits (last y) z v (write-promises (a .c) (a .d) (a .t) bytes (last y) z right (valid right) wrote) e is))
 
-      calls-it : (sh : Share) → Has (a .c) → Is D.the-row (a .d) (D′.lowered (a .d) ∷ []) → FitsImage (snapTo (a .t) imageSize) → Sq W (Open sh (‵ (flft (a .κd) (a .qd)) ∷ ‵ OwnO ∷ ‵ (flft κo qo) ∷ ‵ (flft (a .κt) (a .qt)) ∷ locals E (held blank (a .c .ais) 12) [])) (runs C′ Λ E mir.t-13 (atRet E Post))
+      calls-it : (sh : Share) → Has (a .c) → Is D.the-row (a .d) (D.Laws.lowered (a .d) ∷ []) → FitsImage (snapTo (a .t) imageSize) → Sq W (Open sh (‵ (flft (a .κd) (a .qd)) ∷ ‵ OwnO ∷ ‵ (flft κo qo) ∷ ‵ (flft (a .κt) (a .qt)) ∷ locals E (held blank (a .c .ais) 12) [])) (runs C′ Λ E f.Code.Mir.t-13 (atRet E Post))
       calls-it sh g gd gi =
-          nothing ! $ move ! (9 ∷ 0 ∷ []) $ fjoin ! $ owned ! Image (Is Image) (image-makes 𝓤 H A W) (snapTo (a .t) imageSize) _ gi $ fjoin ! $ owned ! D.the-row (Is D.the-row) (LL.makes D.the-type D′.the-plain 𝓤 H A) (a .d) _ gd $ fjoin ! $
+          nothing ! $ move ! (9 ∷ 0 ∷ []) $ fjoin ! $ owned ! Image (Is Image) (image-makes 𝓤 H A W) (snapTo (a .t) imageSize) _ gi $ fjoin ! $ owned ! D.the-row (Is D.the-row) (LL.makes D.the-type D.Laws.the-plain 𝓤 H A) (a .d) _ gd $ fjoin ! $
           owned ! bool (Is bool) (bool-makes 𝓤 H A W) (a .c .ais) _ refl $ fjoin ! $ nothing ! $ move ! (10 ∷ 0 ∷ []) $ join ! $ move ! (2 ∷ 3 ∷ 4 ∷ 5 ∷ 0 ∷ 1 ∷ []) $
           calls-four (all (shared sh)) ! fm (WriteList 𝓤 H A mem′ run) (known .write-list) (to-write sh) (a .c) g (a .bc) (a .oc) An.the-row T O Leaves (λ z w. Written (a .c .ais) (a .d) (snapTo (a .t) imageSize) (pendingIn (a .c)) bytes (last (w .1 .1 .1 .1)) z) (goes right sh) (λ n v. id⊢ 𝓤 _) (λ n i.
           (and-then ! (load ! (from ! (stop !)) (look ! 28 refl)) (and-then ! (load ! (from ! (stop !)) (look ! 30 refl)) (and-then ! (load ! (from ! (stop !)) (look ! 32 refl)) (and-then ! (load ! (from ! (stop !)) (look ! 34 refl)) (and-then ! (load ! (from ! (stop !)) (look ! 26 refl)) (and-then ! (load ! (from ! (stop !)) (look ! 20 refl)) (and-then ! (load ! (from ! (stop !)) (look ! 22 refl)) (and-then ! (load ! (from ! (stop !)) (look ! 38 refl)) (no-more !)))))))))) (λ z v w wrote g′ is.
-          land ! (from ! (stop !)) (init ! 11 refl (LL.lawful An.the-type An′.the-laws 𝓤 H A W .typed z _ is .0)) $ move ! (0 ∷ 1 ∷ 2 ∷ 3 ∷ 6 ∷ 7 ∷ 8 ∷ []) $ ends sh g z v (w .1 .1 .1 .1) wrote is)
+          land ! (from ! (stop !)) (init ! 11 refl (LL.lawful An.the-type An.Laws.the-laws 𝓤 H A W .typed z _ is .0)) $ move ! (0 ∷ 1 ∷ 2 ∷ 3 ∷ 6 ∷ 7 ∷ 8 ∷ []) $ ends sh g z v (w .1 .1 .1 .1) wrote is)
 
       -- the operands
-      operands : (sh : Share) → Has (a .c) → Is D.the-row (a .d) (D′.lowered (a .d) ∷ []) → FitsImage (snapTo (a .t) imageSize) → Sq W (Open sh (‵ (flft (a .κd) (a .qd)) ∷ ‵ OwnO ∷ ‵ (flft κo qo) ∷ ‵ (flft (a .κt) (a .qt)) ∷ locals E (held blank wrong 5) [])) (runs C′ Λ E mir.t-6 (atRet E Post))
+      operands : (sh : Share) → Has (a .c) → Is D.the-row (a .d) (D.Laws.lowered (a .d) ∷ []) → FitsImage (snapTo (a .t) imageSize) → Sq W (Open sh (‵ (flft (a .κd) (a .qd)) ∷ ‵ OwnO ∷ ‵ (flft κo qo) ∷ ‵ (flft (a .κt) (a .qt)) ∷ locals E (held blank wrong 5) [])) (runs C′ Λ E f.Code.Mir.t-6 (atRet E Post))
       operands sh g gd gi =
           assigns ! (addr ! (from ! (hop ! (look ! 13 refl) (fld ! refl (stop !))))) (from ! (stop !)) (init ! 29 refl (tt, tt)) $
           assigns ! (addr ! (from ! (hop ! (look ! 13 refl) (fld ! refl (stop !))))) (from ! (stop !)) (init ! 31 refl (tt, tt)) $
@@ -168,60 +145,60 @@ module _ {M : Type 1} (𝓤 : URA M) (H : Heap 𝓤) (A : Atoms 𝓤) (W : Given
     Passed Γ = ‵ (flft (a .κd) (a .qd)) ∷ ‵ (ShrRef (named 1) (a .κd) D.the-row .own (x .1 .0) (vptr (a .bd) (a .od) ∷ [])) ∷ ‵ (ShrRef (named 0) (a .κc) C.the-row .own (x .0) (vptr (a .bc) (a .oc) ∷ [])) ∷ ‵ (flft (a .κc) (a .qc)) ∷ ‵ OwnO ∷ ‵ (flft κo qo) ∷ ‵ (flft (a .κt) (a .qt)) ∷ ‵ (ShrSlice (named 2) (a .κt) P.the-row .own (x .1 .1 .0) (table a ∷ [])) ∷ Γ
 
     -- `read_device` and `snapshot` are called, and the controller is looked into
-    reads-it : length (a .t) ≡ limitsOf (a .c) .places → Sq W (Passed (locals E (held blank wrong 2) [])) (runs C′ Λ E mir.t-4 (atRet E Post))
+    reads-it : length (a .t) ≡ limitsOf (a .c) .places → Sq W (Passed (locals E (held blank wrong 2) [])) (runs C′ Λ E f.Code.Mir.t-4 (atRet E Post))
     reads-it right =
-        reads-passed ! mem′ run fm (known .read-device) (a .κd) (a .qd) (a .bd) (a .od) (a .γd) (a .d) (λ _. (and-then ! (load ! (from ! (stop !)) (look ! 11 refl)) (no-more !))) (λ gd. land ! (from ! (stop !)) (init ! 17 refl (LL.lawful D.the-type D′.the-laws 𝓤 H A W .typed (a .d) _ gd .0)) $ move ! (5 ∷ 6 ∷ []) $
+        reads-passed ! mem′ run fm (known .read-device) (a .κd) (a .qd) (a .bd) (a .od) (a .γd) (a .d) (λ _. (and-then ! (load ! (from ! (stop !)) (look ! 11 refl)) (no-more !))) (λ gd. land ! (from ! (stop !)) (init ! 17 refl (LL.lawful D.the-type D.Laws.the-laws 𝓤 H A W .typed (a .d) _ gd .0)) $ move ! (5 ∷ 6 ∷ []) $
         snapshots-shared ! mem′ run fm (known .snapshot) (a .t) (a .bt) (a .ot) (a .κt) (a .qt) (a .γt) (λ _ _. (and-then ! (load ! (from ! (stop !)) (look ! 13 refl)) (no-more !))) (λ gi. land ! (from ! (stop !)) (init ! 19 refl (image-typed 𝓤 H A W (snapTo (a .t) imageSize) gi)) $
         -- [t's token; t's; d's token; c's; its token; out's; its token; the locals]
         move ! (1 ∷ []) $ drop ! $ move ! (2 ∷ []) $ fsplit3 ! $ drop ! $ drop ! $ move ! (0 ∷ 3 ∷ 2 ∷ 4 ∷ 5 ∷ 1 ∷ []) $ looks-ctl ! tt (a .c) (a .bc) (a .oc) (λ sh g. operands right sh g gd gi)))
 
-    abbrev Then : Kit.Post 𝓤 H
-    Then = anyQ (afterSeq 𝓤 H (Wp 𝓤 H C′ Λ E mir.t-4 (atReturn 𝓤 H E Post)) (atReturn 𝓤 H E Post))
+    abbrev Then : types.Kit.Post 𝓤 H
+    Then = anyQ (afterSeq 𝓤 H (Wp 𝓤 H C′ Λ E f.Code.Mir.t-4 (atReturn 𝓤 H E Post)) (atReturn 𝓤 H E Post))
 
     -- a wrong table: the bytes are given up as they are
-    refuses-it : eqb (length (a .t)) imageSize ≡ false → Sq W (Passed (locals E (held blank wrong 2) [])) (runs C′ Λ E (taken mir.s-3) Then)
+    refuses-it : eqb (length (a .t)) imageSize ≡ false → Sq W (Passed (locals E (held blank wrong 2) [])) (runs C′ Λ E (taken f.Code.Mir.s-3) Then)
     refuses-it e =
         refuses ! mem′ run fm (known .refuse) 14 (omega arith) (λ i. (and-then ! (lit ! tt) (no-more !))) (λ g.
-        land ! (from ! (stop !)) (init ! 8 refl (LL.lawful An.the-type An′.the-laws 𝓤 H A W .typed (refused 14) _ g .0)) $ move ! (4 ∷ []) $ gives-up ! κo bo oo γo bytes $
+        land ! (from ! (stop !)) (init ! 8 refl (LL.lawful An.the-type An.Laws.the-laws 𝓤 H A W .typed (refused 14) _ g .0)) $ move ! (4 ∷ []) $ gives-up ! κo bo oo γo bytes $
         move ! (4 ∷ 1 ∷ 6 ∷ 5 ∷ 0 ∷ []) $ move ! (5 ∷ []) $ drop ! $ move ! (5 ∷ []) $ drop ! $ move ! (5 ∷ []) $ drop ! $ returns-within ! Post refl (look ! 5 refl) $
-        swaps ! (Rest bytes) (locals E (held (holds (An′.lowered (refused 14))) wrong 2) []) $ frees-all ! E (held (holds (An′.lowered (refused 14))) wrong 2) $
-        by ! (exits bytes (refused 14) (An′.lowered (refused 14)) (wrong-promises (a .c) (a .d) (a .t) bytes (wrong-length (a .c) _ (eqb-false (length (a .t)) imageSize e)) writeList tt) refl g))
+        swaps ! (Rest bytes) (locals E (held (holds (An.Laws.lowered (refused 14))) wrong 2) []) $ frees-all ! E (held (holds (An.Laws.lowered (refused 14))) wrong 2) $
+        by ! (exits bytes (refused 14) (An.Laws.lowered (refused 14)) (wrong-promises (a .c) (a .d) (a .t) bytes (wrong-length (a .c) _ (eqb-false (length (a .t)) imageSize e)) writeList tt) refl g))
 
     -- the length is looked at
-    starts : Sq W (Passed (locals E (held blank wrong 0) [])) (runs C′ Λ E mir.t-1 (atRet E Post))
+    starts : Sq W (Passed (locals E (held blank wrong 0) [])) (runs C′ Λ E f.Code.Mir.t-1 (atRet E Post))
     starts =
         assigns ! (of-opd ! (load ! (from ! (fld ! refl (stop !))) (look-in ! 14 (sub ! 1 refl (whole !))))) (from ! (stop !)) (init ! 22 refl (tt, record { fits = room .0 })) $
         assigns ! (bin ! (load ! (from ! (stop !)) (look ! 22 refl)) (lit ! tt) tt) (from ! (stop !)) (init ! 24 refl (tt, tt)) $
         first ! $ branches ! (load ! (from ! (stop !)) (look ! 24 refl)) (λ t. refuses-it (holds-false (eqb (length (a .t)) imageSize) t))
-        (λ t. skips ! $ exec ! C′ Λ E mir.t-4 (atRet E Post) $ reads-it (right-length (a .c) _ (eqb-true (length (a .t)) imageSize (not-not (eqb (length (a .t)) imageSize) t))))
+        (λ t. skips ! $ exec ! C′ Λ E f.Code.Mir.t-4 (atRet E Post) $ reads-it (right-length (a .c) _ (eqb-true (length (a .t)) imageSize (not-not (eqb (length (a .t)) imageSize) t))))
 
-  walk : (C′ : Calls 𝓤 H) (Λ : Loops 𝓤 H) (fm : FmC 𝓤 H (W .laws) C′) → Known 𝓤 H A mem′ run C′ → ent 𝓤 (onEntry 𝓤 H A f.signature (bound .0 .0) (bound .0 .1) x at) (WpFn 𝓤 H C′ Λ code.function (vptr (a .bc) (a .oc) ∷ vptr (a .bd) (a .od) ∷ table a ∷ out ∷ []) Post)
+  walk : (C′ : Calls 𝓤 H) (Λ : Loops 𝓤 H) (fm : FmC 𝓤 H (W .laws) C′) → Known 𝓤 H A mem′ run C′ → ent 𝓤 (onEntry 𝓤 H A f.signature (bound .0 .0) (bound .0 .1) x at) (WpFn 𝓤 H C′ Λ f.Code.function (vptr (a .bc) (a .oc) ∷ vptr (a .bd) (a .od) ∷ table a ∷ out ∷ []) Post)
   walk C′ Λ fm known =
       qed W (Tokens a T ∷ ‵ (owns (ShrRef (named 0) (a .κc) C.the-row ∷ ShrRef (named 1) (a .κd) D.the-row ∷ ShrSlice (named 2) (a .κt) P.the-row ∷ MutSlice (named 3) κo u8 ∷ []) x at) ∷ []) ∵
       split ! $ move ! (1 ∷ []) $ split ! $ move ! (1 ∷ []) $ split ! $ move ! (1 ∷ []) $ split ! $
       -- [out's token; true; t's; d's; c's; the parameters']
       move ! (5 ∷ []) $ fsplit ! $ move ! (1 ∷ []) $ fsplit ! $ move ! (1 ∷ []) $ fsplit ! $ move ! (1 ∷ []) $ fsplit ! $
       -- [out's; true; t's; d's; c's; the tokens o; true; t; d; c]
-      keep ! (8 ∷ 3 ∷ 4 ∷ 9 ∷ 0 ∷ 5 ∷ 7 ∷ 2 ∷ []) $ enter ! C′ Λ code.function (vptr (a .bc) (a .oc) ∷ vptr (a .bd) (a .od) ∷ table a ∷ out ∷ []) _ $
+      keep ! (8 ∷ 3 ∷ 4 ∷ 9 ∷ 0 ∷ 5 ∷ 7 ∷ 2 ∷ []) $ enter ! C′ Λ f.Code.function (vptr (a .bc) (a .oc) ∷ vptr (a .bd) (a .od) ∷ table a ∷ out ∷ []) _ $
       alloc1 ! (λ l₀. alloc1 ! (λ l₁. alloc1 ! (λ l₂. alloc1 ! (λ l₃. alloc1 ! (λ l₄. alloc1 ! (λ l₅. alloc1 ! (λ l₆. alloc1 ! (λ l₇. alloc1 ! (λ l₈. alloc1 ! (λ l₉. alloc1 ! (λ l₁₀. alloc1 ! (λ l₁₁. alloc1 ! (λ l₁₂. alloc1 ! (λ l₁₃. alloc1 ! (λ l₁₄. alloc0 ! $ params1 ! $
       pass1 ! (init ! 26 refl (tt, tt)) $ pass1 ! (init ! 24 refl (tt, tt)) $ pass1 ! (init ! 22 refl (tt, (tt, (record { fits = room .0 }, tt)))) $ pass1 ! (init ! 20 refl (tt, (tt, (record { fits = room-o .0 }, tt)))) $ pass0 ! $
       keep ! (30 ∷ 31 ∷ 32 ∷ 33 ∷ 34 ∷ 35 ∷ 36 ∷ 37 ∷ 28 ∷ 29 ∷ 26 ∷ 27 ∷ 24 ∷ 25 ∷ 22 ∷ 23 ∷ 20 ∷ 21 ∷ 18 ∷ 19 ∷ 16 ∷ 17 ∷ 14 ∷ 15 ∷ 12 ∷ 13 ∷ 10 ∷ 11 ∷ 8 ∷ 9 ∷ 6 ∷ 7 ∷ 4 ∷ 5 ∷ 2 ∷ 3 ∷ 0 ∷ 1 ∷ []) $ starts C′ Λ fm known l₀ l₁ l₂ l₃ l₄ l₅ l₆ l₇ l₈ l₉ l₁₀ l₁₁ l₁₂ l₁₃ l₁₄)))))))))))))))
 
 module _ {M : Type 1} (𝓤 : URA M) (H : Heap 𝓤) (A : Atoms 𝓤) (W : Given 𝓤 H A) (mem′ : Memory → SProp 𝓤) (run : Routine → Fun 𝓤) where
-  walks : (C′ : Calls 𝓤 H) (Λ : Loops 𝓤 H) → FmC 𝓤 H (W .laws) C′ → Known 𝓤 H A mem′ run C′ → Walks 𝓤 H A f.ended stayed (WpFn 𝓤 H C′ Λ code.function) (f.clauses 𝓤 H A mem′ run)
-  walks C′ Λ fm known = walked 𝓤 H A f.ended stayed (f.clauses 𝓤 H A mem′ run) (WpFn 𝓤 H C′ Λ code.function) (λ κs. (ptr-vals, (ptr-vals, (slice-vals, (slice-vals, tt)))))
+  walks : (C′ : Calls 𝓤 H) (Λ : Loops 𝓤 H) → FmC 𝓤 H (W .laws) C′ → Known 𝓤 H A mem′ run C′ → Walks 𝓤 H A f.ended stayed (WpFn 𝓤 H C′ Λ f.Code.function) (f.clauses 𝓤 H A mem′ run)
+  walks C′ Λ fm known = walked 𝓤 H A f.ended stayed (f.clauses 𝓤 H A mem′ run) (WpFn 𝓤 H C′ Λ f.Code.function) (λ κs. (ptr-vals, (ptr-vals, (slice-vals, (slice-vals, tt)))))
       (λ κs. (shr-tells (named 0) (κs .0) C.the-row, (shr-tells (named 1) (κs .1 .0) D.the-row, (shr-slice-tells (named 2) (κs .1 .1 .0) P.the-row, (mut-slice-tells (named 3) (κs .1 .1 .1 .0) u8, tt)))))
       (λ κs qs bounds a _ are. needs 𝓤 (length (a .1 .1 .0 .now) ≡ limitsOf (a .0 .now) .places → Valid (a .0 .now) (a .1 .0 .now) (a .1 .1 .0 .now)) _ (λ valid. walk 𝓤 H A W mem′ run (refs (κs .0) (κs .1 .0) (κs .1 .1 .0) (qs .0) (qs .1 .0) (qs .1 .1 .0) (a .0) (a .1 .0) (a .1 .1 .0)) (κs .1 .1 .1 .0) (qs .1 .1 .1 .0)
       (a .1 .1 .1 .0 .ptr .0) (a .1 .1 .1 .0 .ptr .1) (a .1 .1 .1 .0 .name) (a .1 .1 .1 .0 .now) (are .1 .1 .0 .0 .1) (are .1 .1 .1 .0 .0 .1) valid C′ Λ fm known))
 
-pub flic-write-list-spec : {M : Type 1} → stated.statement M
-unfolding code.routine tablesOf
+pub flic-write-list-spec : {M : Type 1} → f.Statement.statement M
+unfolding f.Code.routine tablesOf
 flic-write-list-spec 𝓤 H 𝓜 𝓖 𝓡 =
-    concludes 𝓤 H 𝓜 𝓖 𝓡 f.ended stayed (f.clauses 𝓤 H (𝓖 .A) (𝓜 .mem) (𝓡 .run)) code.env #key code.function (code.unfolded 𝓤 H 𝓜 𝓡)
+    concludes 𝓤 H 𝓜 𝓖 𝓡 f.ended stayed (f.clauses 𝓤 H (𝓖 .A) (𝓜 .mem) (𝓡 .run)) f.Code.env f.Key.name f.Code.function (f.Code.unfolded 𝓤 H 𝓜 𝓡)
     (goes-dropped 𝓤 H (𝓖 .A) (givenOf 𝓤 H 𝓜 𝓖) 4 (shrRefTo (0 ∷ []) tt (plain (λ _. C.the-row))) yes (λ κs x f. refl), (goes-dropped 𝓤 H (𝓖 .A) (givenOf 𝓤 H 𝓜 𝓖) 4 (shrRefTo (1 ∷ []) tt (plain (λ _. D.the-row))) yes (λ κs x f. refl), (goes-dropped 𝓤 H (𝓖 .A) (givenOf 𝓤 H 𝓜 𝓖) 4 (shrSliceOf (2 ∷ []) tt (plain (λ _. P.the-row))) yes (λ κs x f. refl), (goes-gave-slice 𝓤 H (𝓖 .A) (givenOf 𝓤 H 𝓜 𝓖) 4 3 tt (plain (λ _. u8)), tt))))
     (λ fm. walks 𝓤 H (𝓖 .A) (givenOf 𝓤 H 𝓜 𝓖) (𝓜 .mem) (𝓡 .run) _ _ fm (record {
-      refuse = cited 𝓤 H (Refuse 𝓤 H (𝓖 .A) (𝓜 .mem) (𝓡 .run)) 𝓜 𝓡 code.env refuse-def.name refuse-def.routine code.calls-answers·refuse (refuse-thm.met 𝓤 H 𝓜 𝓖 𝓡);
-      read-device = cited 𝓤 H (ReadDevice 𝓤 H (𝓖 .A) (𝓜 .mem) (𝓡 .run)) 𝓜 𝓡 code.env read-device-def.name read-device-def.routine code.calls-lent-table·read-device (read-device-thm.met 𝓤 H 𝓜 𝓖 𝓡);
-      snapshot = cited 𝓤 H (Snapshot 𝓤 H (𝓖 .A) (𝓜 .mem) (𝓡 .run)) 𝓜 𝓡 code.env snapshot-def.name snapshot-def.routine code.calls-lent-table·snapshot (snapshot-thm.met 𝓤 H 𝓜 𝓖 𝓡);
-      write-list = cited 𝓤 H (WriteList 𝓤 H (𝓖 .A) (𝓜 .mem) (𝓡 .run)) 𝓜 𝓡 code.env write-list-def.name write-list-def.routine code.calls-list-write·write-list (write-list-thm.met 𝓤 H 𝓜 𝓖 𝓡);
+      refuse = cited 𝓤 H (Refuse 𝓤 H (𝓖 .A) (𝓜 .mem) (𝓡 .run)) 𝓜 𝓡 f.Code.env refuse.Symbol.name refuse.Symbol.routine f.Code.calls-answers·refuse (refuse.Met.met 𝓤 H 𝓜 𝓖 𝓡);
+      read-device = cited 𝓤 H (ReadDevice 𝓤 H (𝓖 .A) (𝓜 .mem) (𝓡 .run)) 𝓜 𝓡 f.Code.env read-device.Symbol.name read-device.Symbol.routine f.Code.calls-lent-table·read-device (read-device.Met.met 𝓤 H 𝓜 𝓖 𝓡);
+      snapshot = cited 𝓤 H (Snapshot 𝓤 H (𝓖 .A) (𝓜 .mem) (𝓡 .run)) 𝓜 𝓡 f.Code.env snapshot.Symbol.name snapshot.Symbol.routine f.Code.calls-lent-table·snapshot (snapshot.Met.met 𝓤 H 𝓜 𝓖 𝓡);
+      write-list = cited 𝓤 H (WriteList 𝓤 H (𝓖 .A) (𝓜 .mem) (𝓡 .run)) 𝓜 𝓡 f.Code.env write-list.Symbol.name write-list.Symbol.routine f.Code.calls-list-write·write-list (write-list.Met.met 𝓤 H 𝓜 𝓖 𝓡);
     }))

@@ -3,19 +3,9 @@ use Rattle.lent_table.proofs.Walk.{_≡_, refl, ap, subst, ℕ, Bool, [
 use denote.Struct.Laws as LL
 use Rattle.adapters.specs.declared.Device.{Device}
 use Rattle.adapters.proofs.Device as D
-use Rattle.adapters.proofs.Device.Laws as D′
 use Rattle.adapters.proofs.apf_set as by-value
-use Rattle.adapters.proofs.apf_set.Symbol as by-value-def
-use Rattle.adapters.proofs.apf_set.Met as by-value-thm
-use Rattle.lent_table.proofs.Called.{calls-plain}
-use Rattle.lent_table.proofs.Ends.{concludes}
-use Rattle.lent_table.proofs.Locals.{Content, blank, holds, locals, frees-all, swaps}
-use Rattle.lent_table.proofs.Modes.{FitsDevice, Had}
-use Rattle.lent_table.proofs.set_flag.Key.{name as #key}
+use Rattle.lent_table.proofs.{Called.calls-plain, Ends.concludes, Locals.Content, Locals.blank, Locals.holds, Locals.locals, Locals.frees-all, Locals.swaps, Modes.FitsDevice, Modes.Had}
 use Rattle.lent_table.proofs.set_flag as f
-use Rattle.lent_table.proofs.set_flag.Statement as stated
-use Rattle.lent_table.proofs.set_flag.Code as code
-use Rattle.lent_table.proofs.set_flag.Code.Mir as mir
 
 abbrev stayed : Stays (f.ended .signature .params) (f.ended .kept)
 stayed = (stay-ref (0 ∷ []) tt (plain (λ _. D.the-row)), (stay-dropped (plain (λ _. bool)) yes, tt))
@@ -48,59 +38,59 @@ module _ {M : Type 1} (𝓤 : URA M) (H : Heap 𝓤) (A : Atoms 𝓤) (W : Given
       feqI ! (List Val) (vunit ∷ []) (vunit ∷ []) refl $ move ! (1 ∷ 0 ∷ []) $ done !
 
   abbrev to-value : ByValue 𝓤 H A mem′ run .Ghost
-  to-value = ((tt, tt, tt, (h, (on, tt)), (D′.lowered h ∷ [], (vbool on ∷ [], tt))), tt)
+  to-value = ((tt, tt, tt, (h, (on, tt)), (D.Laws.lowered h ∷ [], (vbool on ∷ [], tt))), tt)
 
   goes : FitsDevice h → ent 𝓤 (emp 𝓤) (ByValue 𝓤 H A mem′ run .pre to-value)
-  goes g = qed W [] ∵ nothing ! $ owned ! bool (Is bool) (bool-makes 𝓤 H A W) on _ refl $ fjoin ! $ owned ! D.the-row (Is D.the-row) (LL.makes D.the-type D′.the-plain 𝓤 H A) h _ g $ fjoin ! $ nothing ! $ join ! $ frame ! $ done !
+  goes g = qed W [] ∵ nothing ! $ owned ! bool (Is bool) (bool-makes 𝓤 H A W) on _ refl $ fjoin ! $ owned ! D.the-row (Is D.the-row) (LL.makes D.the-type D.Laws.the-plain 𝓤 H A) h _ g $ fjoin ! $ nothing ! $ join ! $ frame ! $ done !
 
   module _ (C : Calls 𝓤 H) (Λ : Loops 𝓤 H) (l₀ l₁ l₂ l₃ l₄ : ℕ) where
     abbrev E : Env 𝓤 H
-    E = (tyUnit, l₀) ∷ (tyRef (named 0) mut (pointee (D.the-row .written)), l₁) ∷ (tyBool, l₂) ∷ (D′.mir, l₃) ∷ (D′.mir, l₄) ∷ []
+    E = (tyUnit, l₀) ∷ (tyRef (named 0) mut (pointee (D.the-row .written)), l₁) ∷ (tyBool, l₂) ∷ (D.Laws.mir, l₃) ∷ (D.Laws.mir, l₄) ∷ []
 
     abbrev held : Content → Content → Content → List Content
     held v₀ v₃ v₄ = v₀ ∷ holds (vptr b o) ∷ holds (vbool on) ∷ v₃ ∷ v₄ ∷ []
 
     -- the record opened: [its cell; what it owns; the open borrow; obs; auth; the locals]
     abbrev Opened : List Content → List (Item 𝓤)
-    Opened vs = ‵ (cellAt fullShare (D.the-row .mir) (D′.lowered h ∷ []) b o) ∷ ‵ (D.the-row .own h (D′.lowered h ∷ [])) ∷ ‵ (fobor κ q (Body (mem D.the-row) b o γ))
+    Opened vs = ‵ (cellAt fullShare (D.the-row .mir) (D.Laws.lowered h ∷ []) b o) ∷ ‵ (D.the-row .own h (D.Laws.lowered h ∷ [])) ∷ ‵ (fobor κ q (Body (mem D.the-row) b o γ))
         ∷ ‵ (fobs γ (D.the-row .coded .code h)) ∷ ‵ (fauth γ (D.the-row .coded .code h)) ∷ locals E vs []
 
-    stores : (z : Device) → FitsDevice z → z ≡ new → Sq W (Opened (held blank (holds (D′.lowered z)) (holds (D′.lowered h)))) (runs C Λ E mir.t-3 (atRet E Post))
+    stores : (z : Device) → FitsDevice z → z ≡ new → Sq W (Opened (held blank (holds (D.Laws.lowered z)) (holds (D.Laws.lowered h)))) (runs C Λ E f.Code.Mir.t-3 (atRet E Post))
     stores z g e =
-        assigns ! (of-opd ! (load ! (from ! (stop !)) (look ! 11 refl))) (from ! (hop ! (look ! 7 refl) (stop !))) (store-raw ! 0 refl (LL.lawful D.the-type D′.the-laws 𝓤 H A W .typed z _ g .0)) $
+        assigns ! (of-opd ! (load ! (from ! (stop !)) (look ! 11 refl))) (from ! (hop ! (look ! 7 refl) (stop !))) (store-raw ! 0 refl (LL.lawful D.the-type D.Laws.the-laws 𝓤 H A W .typed z _ g .0)) $
         assigns ! (of-opd ! (unit-lit !)) (from ! (stop !)) (init ! 5 refl (tt, tt)) $
-        move ! (1 ∷ []) $ drop ! $ owned ! D.the-row (Is D.the-row) (LL.makes D.the-type D′.the-plain 𝓤 H A) z _ g $ move ! (1 ∷ 0 ∷ []) $ closes ! tt D.the-row z (D′.lowered z ∷ []) b o $
-        returns ! (look ! 3 refl) $ swaps ! (Had κ q b o γ z []) (locals E (held (holds vunit) (holds (D′.lowered z)) (holds (D′.lowered h))) []) $
-        frees-all ! E (held (holds vunit) (holds (D′.lowered z)) (holds (D′.lowered h))) $ by ! (exits z e)
+        move ! (1 ∷ []) $ drop ! $ owned ! D.the-row (Is D.the-row) (LL.makes D.the-type D.Laws.the-plain 𝓤 H A) z _ g $ move ! (1 ∷ 0 ∷ []) $ closes ! tt D.the-row z (D.Laws.lowered z ∷ []) b o $
+        returns ! (look ! 3 refl) $ swaps ! (Had κ q b o γ z []) (locals E (held (holds vunit) (holds (D.Laws.lowered z)) (holds (D.Laws.lowered h))) []) $
+        frees-all ! E (held (holds vunit) (holds (D.Laws.lowered z)) (holds (D.Laws.lowered h))) $ by ! (exits z e)
 
-    changes : FmC 𝓤 H (W .laws) C → Triple 𝓤 (C by-value-def.name) (ByValue 𝓤 H A mem′ run) → Sq W (Had κ q b o γ h (locals E (held blank blank blank) [])) (runs C Λ E mir.t-1 (atRet E Post))
+    changes : FmC 𝓤 H (W .laws) C → Triple 𝓤 (C by-value.Symbol.name) (ByValue 𝓤 H A mem′ run) → Sq W (Had κ q b o γ h (locals E (held blank blank blank) [])) (runs C Λ E f.Code.Mir.t-1 (atRet E Post))
     changes fm known =
-        opens ! tt D.the-row {h = h} b o (λ vs. spelt ! D.the-row (Is D.the-row) (shows 𝓤 H A D.the-row) (LL.vals D.the-type D′.the-laws) (LL.tells D.the-type D′.the-laws) fullShare h vs b o $
-        move ! (1 ∷ []) $ peeks ! D.the-row (Is D.the-row) (shows 𝓤 H A D.the-row) h (D′.lowered h ∷ []) (λ g. move ! (1 ∷ 0 ∷ []) $
-        assigns ! (of-opd ! (load ! (from ! (hop ! (look ! 7 refl) (stop !))) (look-raw ! 0 refl))) (from ! (stop !)) (init ! 13 refl (LL.lawful D.the-type D′.the-laws 𝓤 H A W .typed h _ g .0)) $
+        opens ! tt D.the-row {h = h} b o (λ vs. spelt ! D.the-row (Is D.the-row) (shows 𝓤 H A D.the-row) (LL.vals D.the-type D.Laws.the-laws) (LL.tells D.the-type D.Laws.the-laws) fullShare h vs b o $
+        move ! (1 ∷ []) $ peeks ! D.the-row (Is D.the-row) (shows 𝓤 H A D.the-row) h (D.Laws.lowered h ∷ []) (λ g. move ! (1 ∷ 0 ∷ []) $
+        assigns ! (of-opd ! (load ! (from ! (hop ! (look ! 7 refl) (stop !))) (look-raw ! 0 refl))) (from ! (stop !)) (init ! 13 refl (LL.lawful D.the-type D.Laws.the-laws 𝓤 H A W .typed h _ g .0)) $
         calls-plain ! fm (ByValue 𝓤 H A mem′ run) known to-value (goes g) D.the-row {X = Unit {0} × (Unit {0} × Unit {0})} (λ w. fsep ftrue (fsep ftrue ftrue)) (λ z w. z ≡ new) (λ v. id⊢ 𝓤 _)
         (λ i. (and-then ! (load ! (from ! (stop !)) (look ! 14 refl)) (and-then ! (load ! (from ! (stop !)) (look ! 10 refl)) (no-more !)))) (λ z v w e is.
-        land ! (from ! (stop !)) (init ! 11 refl (LL.lawful D.the-type D′.the-laws 𝓤 H A W .typed z _ is .0)) $ rewrite ! 11 (λ (u : Val). ‵ (fat fullShare D′.mir l₃ 0 u)) (ap only (LL.tells D.the-type D′.the-laws z (v ∷ []) is)) refl $
-        stores z (subst (Is D.the-row z) (LL.tells D.the-type D′.the-laws z (v ∷ []) is) is) e)))
+        land ! (from ! (stop !)) (init ! 11 refl (LL.lawful D.the-type D.Laws.the-laws 𝓤 H A W .typed z _ is .0)) $ rewrite ! 11 (λ (u : Val). ‵ (fat fullShare D.Laws.mir l₃ 0 u)) (ap only (LL.tells D.the-type D.Laws.the-laws z (v ∷ []) is)) refl $
+        stores z (subst (Is D.the-row z) (LL.tells D.the-type D.Laws.the-laws z (v ∷ []) is) is) e)))
 
-  walk : (C : Calls 𝓤 H) (Λ : Loops 𝓤 H) → FmC 𝓤 H (W .laws) C → Triple 𝓤 (C by-value-def.name) (ByValue 𝓤 H A mem′ run)
-      → ent 𝓤 (onEntry 𝓤 H A f.signature (κ, tt) (q, tt) x at) (WpFn 𝓤 H C Λ code.function (vptr b o ∷ vbool on ∷ []) Post)
+  walk : (C : Calls 𝓤 H) (Λ : Loops 𝓤 H) → FmC 𝓤 H (W .laws) C → Triple 𝓤 (C by-value.Symbol.name) (ByValue 𝓤 H A mem′ run)
+      → ent 𝓤 (onEntry 𝓤 H A f.signature (κ, tt) (q, tt) x at) (WpFn 𝓤 H C Λ f.Code.function (vptr b o ∷ vbool on ∷ []) Post)
   walk C Λ fm known =
       qed W ((‵ (flft κ q) ⊛ ‵ ftrue) ∷ ‵ (owns (MutRef (named 0) κ D.the-row ∷ bool ∷ []) x at) ∷ []) ∵ split ! $ move ! (2 ∷ []) $ fsplit ! $ fsplit3 ! $ drop ! $ keep ! (0 ∷ 1 ∷ 3 ∷ []) $
-      enter ! C Λ code.function (vptr b o ∷ vbool on ∷ []) _ $ alloc1 ! (λ l₀. alloc1 ! (λ l₁. alloc1 ! (λ l₂. alloc1 ! (λ l₃. alloc1 ! (λ l₄. alloc0 ! $ params1 ! $
+      enter ! C Λ f.Code.function (vptr b o ∷ vbool on ∷ []) _ $ alloc1 ! (λ l₀. alloc1 ! (λ l₁. alloc1 ! (λ l₂. alloc1 ! (λ l₃. alloc1 ! (λ l₄. alloc0 ! $ params1 ! $
       pass1 ! (init ! 6 refl (tt, tt)) $ pass1 ! (init ! 4 refl (tt, tt)) $ pass0 ! $
       keep ! (10 ∷ 11 ∷ 12 ∷ 8 ∷ 9 ∷ 6 ∷ 7 ∷ 4 ∷ 5 ∷ 2 ∷ 3 ∷ 0 ∷ 1 ∷ []) $ changes C Λ l₀ l₁ l₂ l₃ l₄ fm known)))))
 
 module _ {M : Type 1} (𝓤 : URA M) (H : Heap 𝓤) (A : Atoms 𝓤) (W : Given 𝓤 H A) (mem′ : Memory → SProp 𝓤) (run : Routine → Fun 𝓤) where
-  walks : (C : Calls 𝓤 H) (Λ : Loops 𝓤 H) → FmC 𝓤 H (W .laws) C → Triple 𝓤 (C by-value-def.name) (ByValue 𝓤 H A mem′ run) → Walks 𝓤 H A f.ended stayed (WpFn 𝓤 H C Λ code.function) (f.clauses 𝓤 H A mem′ run)
-  walks C Λ fm known = walked 𝓤 H A f.ended stayed (f.clauses 𝓤 H A mem′ run) (WpFn 𝓤 H C Λ code.function)
+  walks : (C : Calls 𝓤 H) (Λ : Loops 𝓤 H) → FmC 𝓤 H (W .laws) C → Triple 𝓤 (C by-value.Symbol.name) (ByValue 𝓤 H A mem′ run) → Walks 𝓤 H A f.ended stayed (WpFn 𝓤 H C Λ f.Code.function) (f.clauses 𝓤 H A mem′ run)
+  walks C Λ fm known = walked 𝓤 H A f.ended stayed (f.clauses 𝓤 H A mem′ run) (WpFn 𝓤 H C Λ f.Code.function)
       (λ κs. (ptr-vals, (bool-vals, tt))) (λ κs. (mut-tells (named 0) (κs .0) D.the-row, (bool-tells, tt)))
       (λ κs qs bounds a _ are. via 𝓤 _ (fst∗ 𝓤 _ (emp 𝓤)) (walk 𝓤 H A W mem′ run (κs .0) (qs .0) (a .0 .ptr .0) (a .0 .ptr .1) (a .0 .name) (a .0 .now) (a .1 .0) C Λ fm known))
 
-pub set-flag-spec : {M : Type 1} → stated.statement M
-unfolding code.routine tablesOf
+pub set-flag-spec : {M : Type 1} → f.Statement.statement M
+unfolding f.Code.routine tablesOf
 set-flag-spec 𝓤 H 𝓜 𝓖 𝓡 =
-    concludes 𝓤 H 𝓜 𝓖 𝓡 f.ended stayed (f.clauses 𝓤 H (𝓖 .A) (𝓜 .mem) (𝓡 .run)) code.env #key code.function (code.unfolded 𝓤 H 𝓜 𝓡)
+    concludes 𝓤 H 𝓜 𝓖 𝓡 f.ended stayed (f.clauses 𝓤 H (𝓖 .A) (𝓜 .mem) (𝓡 .run)) f.Code.env f.Key.name f.Code.function (f.Code.unfolded 𝓤 H 𝓜 𝓡)
     (goes-ref 𝓤 H (𝓖 .A) (givenOf 𝓤 H 𝓜 𝓖) 1 0 tt (plain (λ _. D.the-row)), (goes-dropped 𝓤 H (𝓖 .A) (givenOf 𝓤 H 𝓜 𝓖) 1 (plain (λ _. bool)) yes (λ κs x f. refl), tt))
     (λ fm. walks 𝓤 H (𝓖 .A) (givenOf 𝓤 H 𝓜 𝓖) (𝓜 .mem) (𝓡 .run) _ _ fm
-    (cited 𝓤 H (ByValue 𝓤 H (𝓖 .A) (𝓜 .mem) (𝓡 .run)) 𝓜 𝓡 code.env by-value-def.name by-value-def.routine code.calls-adapters·apf-set (by-value-thm.met 𝓤 H 𝓜 𝓖 𝓡)))
+    (cited 𝓤 H (ByValue 𝓤 H (𝓖 .A) (𝓜 .mem) (𝓡 .run)) 𝓜 𝓡 f.Code.env by-value.Symbol.name by-value.Symbol.routine f.Code.calls-adapters·apf-set (by-value.Met.met 𝓤 H 𝓜 𝓖 𝓡)))

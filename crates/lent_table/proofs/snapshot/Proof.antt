@@ -1,8 +1,7 @@
 -- `snapshot`: a loop reads each place by a call of `look_up` and puts its byte by a call of `put_place`, to which its local image is lent.
 use Rattle.lent_table.proofs.Walk.{_≡_, refl, ap, subst, ℕ, _<_, _≤_, _^_, [], _∷_, List, length, getD, ltb, ltb→lt, nltb→le, URA, fullShare, named, erased, w64, tyInt, tyBool, tyUnit, tyRef, imm, mut, Val, vint, vbool, SProp, ent, emp, via, fst∗, GName, Lft, Share, ftrue, flft, fat, Memory, Routine, Heap, Env, Calls, Loops, Wp, WpFn, Tables, afterSeq, atReturn, Atoms, Fun, givenOf, tables, tablesOf, Given, Item, Sq, runs, anyQ, atRet, ‵, ⋆, _⊛_, _$_, _∵_, !, qed, by, move, keep, split, join, rewrite, fsplit, fjoin, suffices, frame, done, look, store, init, forget, stop, from, load, lit, addr, of-opd, bin, and-then, no-more, assigns, assigns-last, first, skips, branches, exec, land, returns, enter, alloc1, alloc0, params1, pass1, pass0, free1, free0, agg, FmC, fmOf, WpFn-mono, owns, Is, pointee, sliceVal, ShrSlice, Room, slice-vals, shr-slice-tells, plain, owned, nothing, onEntry, Meets, tripleOf, Triple, entered, cited, says, Stays, stay-none-slice, walkOf, goes-none-slice, Walks, ends-at, walked, walk-meets, yes}
 use Prim.Native.Nat.{_+_, zero-le}
-use native.Mathlib.Nat.{le-antisymm}
-use native.Mathlib.Numerals.{add-one-le, add-one-dec}
+use native.Mathlib.{Nat.le-antisymm, Numerals.add-one-le, Numerals.add-one-dec}
 use lib.Dec.{lit<}
 use lib.ListN.{replicate}
 use package.mir.Syntax.{Ty}
@@ -10,31 +9,18 @@ use prog.Wp.{Out, afterTurn, afterBlock}
 use types.Run.{Below, again, loops, blocks, jumps}
 use Rattle.numbers.specs.declared.AdapterId.{AdapterId}
 use Rattle.numbers.proofs.AdapterId.Laws as I′
-use Rattle.adapters.specs.declared.Place.{Place}
-use Rattle.adapters.specs.Values.{unused}
+use Rattle.adapters.specs.{declared.Place.Place, Values.unused}
 use Rattle.adapters.proofs.Place.Laws as P′
-use Rattle.list_image.proofs.empty.Symbol as empty-def
-use Rattle.list_image.proofs.empty.Symbol.{name as #empty}
-use Rattle.list_image.proofs.empty.Met as empty-thm
-use Rattle.list_image.proofs.put_place.Symbol as put-place-def
-use Rattle.list_image.proofs.put_place.Symbol.{name as #put-place}
-use Rattle.list_image.proofs.put_place.Met as put-place-thm
+use Rattle.list_image.proofs.empty as empty
+use Rattle.list_image.proofs.{empty.Symbol.name as #empty, put_place.Symbol.name as #put-place}
+use Rattle.list_image.proofs.put_place as put-place
 use Rattle.list_image.specs.Image.{imageSize}
 use Rattle.lent_table.specs.Table.{snapTo}
-use Rattle.lent_table.proofs.Tables.{snap-none, snap-next}
-use Rattle.lent_table.proofs.Count.{Upto, Nearer, Nearer-wf, fits-upto, after}
+use Rattle.lent_table.proofs.{Tables.snap-none, Tables.snap-next, Count.Upto, Count.Nearer, Count.Nearer-wf, Count.fits-upto, Count.after, Gives.at-list, Gives.Shared, Calls.LookUp, Calls.looks-up-shared, look_up.Symbol.name as #look-up}
 use Rattle.lent_table.proofs.Places.{filled, empty, R, slice-of, FitsId, fit-id, typed, typed-id}
 use Rattle.lent_table.proofs.Images.{Image, imageTy, low-image, FitsImage, image-makes, image-typed, Empty, PutPlace, takes-empty, puts-place}
-use Rattle.lent_table.proofs.Gives.{at-list, Shared}
-use Rattle.lent_table.proofs.Calls.{LookUp, looks-up-shared}
-use Rattle.lent_table.proofs.look_up.Symbol as look-up-def
-use Rattle.lent_table.proofs.look_up.Symbol.{name as #look-up}
-use Rattle.lent_table.proofs.look_up.Met as look-up-thm
-use Rattle.lent_table.proofs.snapshot.Key.{name as #key}
+use Rattle.lent_table.proofs.look_up as look-up
 use Rattle.lent_table.proofs.snapshot as f
-use Rattle.lent_table.proofs.snapshot.Statement as stated
-use Rattle.lent_table.proofs.snapshot.Code as code
-use Rattle.lent_table.proofs.snapshot.Code.Mir as mir
 
 abbrev stayed : Stays (f.ended .signature .params) (f.ended .kept)
 stayed = (stay-none-slice (0 ∷ []) tt (plain (λ _. R)) yes, tt)
@@ -101,9 +87,9 @@ module _ {M : Type 1} (𝓤 : URA M) (H : Heap 𝓤) (A : Atoms 𝓤) (W : Given
       Tested i = Have (Locals (filled tyBool l₆ (vbool (ltb (i .0) imageSize)) (Counted (i .0))))
 
       abbrev Turned : Turn → Out → SProp 𝓤
-      Turned i = afterTurn 𝓤 H (Below 𝓤 H A Before At i) (afterBlock 𝓤 H (afterSeq 𝓤 H (Wp 𝓤 H C Λ E mir.t-5 (atReturn 𝓤 H E Post)) (atReturn 𝓤 H E Post)))
+      Turned i = afterTurn 𝓤 H (Below 𝓤 H A Before At i) (afterBlock 𝓤 H (afterSeq 𝓤 H (Wp 𝓤 H C Λ E f.Code.Mir.t-5 (atReturn 𝓤 H E Post)) (atReturn 𝓤 H E Post)))
 
-      leaves : (i : Turn) → i .0 ≡ imageSize → Sq W (Tested i) (runs C Λ E mir.t-5 (atRet E Post))
+      leaves : (i : Turn) → i .0 ≡ imageSize → Sq W (Tested i) (runs C Λ E f.Code.Mir.t-5 (atRet E Post))
       leaves i e =
           assigns ! (of-opd ! (load ! (from ! (stop !)) (look ! 16 refl))) (from ! (stop !)) (init ! 20 refl (image-typed 𝓤 H A W (snapTo ys (i .0)) (i .1 .1))) $ returns ! (look ! 20 refl) $
           forget ! 8 refl $ forget ! 14 refl $ forget ! 16 refl $ forget ! 18 refl $ forget ! 20 refl $
@@ -124,7 +110,7 @@ module _ {M : Type 1} (𝓤 : URA M) (H : Heap 𝓤) (A : Atoms 𝓤) (W : Given
         fits : FitsId k
         fits = fit-id k (small (i .1 .0))
 
-        body : Sq W (Tested i) (runs C Λ E (after (after mir.turn-1)) (anyQ (Turned i)))
+        body : Sq W (Tested i) (runs C Λ E (after (after f.Code.Mir.turn-1)) (anyQ (Turned i)))
         unfolding afterTurn
         body =
             assigns ! (agg ! (and-then ! (load ! (from ! (stop !)) (look ! 14 refl)) (no-more !))) (from ! (stop !)) (init ! 6 refl (typed-id 𝓤 H A W k fits)) $
@@ -140,44 +126,44 @@ module _ {M : Type 1} (𝓤 : URA M) (H : Heap 𝓤) (A : Atoms 𝓤) (W : Given
             move ! (1 ∷ 2 ∷ 3 ∷ 4 ∷ 5 ∷ 6 ∷ 7 ∷ 8 ∷ 9 ∷ 10 ∷ 11 ∷ 12 ∷ 13 ∷ 14 ∷ 15 ∷ 16 ∷ []) $
             again ! Before At i (i .0 + 1, (add-one-le less, subst FitsImage (snap-next ys (i .0)) made)) (add-one-dec imageSize (i .0) less)))
 
-      turns : (i : Turn) → Sq W (At i) (runs C Λ E mir.turn-1 (anyQ (Turned i)))
+      turns : (i : Turn) → Sq W (At i) (runs C Λ E f.Code.Mir.turn-1 (anyQ (Turned i)))
       unfolding afterTurn
       turns i =
           assigns ! (bin ! (load ! (from ! (stop !)) (look ! 14 refl)) (lit ! tt) tt) (from ! (stop !)) (init ! 8 refl (tt, tt)) $
           first ! $ branches ! (load ! (from ! (stop !)) (look ! 8 refl))
-          (λ less. skips ! $ exec ! C Λ E (after (after mir.turn-1)) (anyQ (Turned i)) $ body i (ltb→lt (i .0) imageSize less))
-          (λ over. jumps ! $ exec ! C Λ E mir.t-5 (atRet E Post) $ leaves i (le-antisymm (i .1 .0) (nltb→le (i .0) imageSize over)))
+          (λ less. skips ! $ exec ! C Λ E (after (after f.Code.Mir.turn-1)) (anyQ (Turned i)) $ body i (ltb→lt (i .0) imageSize less))
+          (λ over. jumps ! $ exec ! C Λ E f.Code.Mir.t-5 (atRet E Post) $ leaves i (le-antisymm (i .1 .0) (nltb→le (i .0) imageSize over)))
 
-      starts : Sq W (Have (Locals (empty tyBool l₆ (empty imageTy l₅ (empty P′.mir l₄ (empty (tyInt w64) l₃ (empty imageTy l₂ Params))))))) (runs C Λ E mir.t-1 (atRet E Post))
+      starts : Sq W (Have (Locals (empty tyBool l₆ (empty imageTy l₅ (empty P′.mir l₄ (empty (tyInt w64) l₃ (empty imageTy l₂ Params))))))) (runs C Λ E f.Code.Mir.t-1 (atRet E Post))
       starts = takes-empty ! mem run fm known-empty (λ g.
           land ! (from ! (stop !)) (init ! 10 refl (image-typed 𝓤 H A W (replicate imageSize 0) g)) $
           assigns ! (of-opd ! (load ! (from ! (stop !)) (look ! 10 refl))) (from ! (stop !)) (init ! 16 refl (image-typed 𝓤 H A W (replicate imageSize 0) g)) $
           forget ! 10 refl $ rewrite ! 16 (λ (l : List ℕ). ‵ (fat fullShare imageTy l₂ 0 (low-image l))) (snap-none ys) refl $
           assigns ! (of-opd ! (lit ! tt)) (from ! (stop !)) (init ! 14 refl (tt, record { fits = lit< tt })) $ first ! $ blocks ! $ loops ! 𝓣 Before (Nearer-wf imageSize (λ i. FitsImage (snapTo ys i))) At turns (0, (zero-le, subst FitsImage (snap-none ys) g)))
 
-    walk : ent 𝓤 (onEntry 𝓤 H A f.signature (κ, tt) (q, tt) (at-list b o γ ys, tt) (s ∷ [], tt)) (WpFn 𝓤 H C Λ code.function (s ∷ []) Post)
+    walk : ent 𝓤 (onEntry 𝓤 H A f.signature (κ, tt) (q, tt) (at-list b o γ ys, tt) (s ∷ [], tt)) (WpFn 𝓤 H C Λ f.Code.function (s ∷ []) Post)
     walk =
-        qed W ((‵ (flft κ q) ⊛ ‵ ftrue) ∷ ‵ (owns (ShrSlice (named 0) κ R ∷ []) (at-list b o γ ys, tt) (s ∷ [], tt)) ∷ []) ∵ split ! $ move ! (2 ∷ []) $ fsplit ! $ move ! (2 ∷ 0 ∷ []) $ enter ! C Λ code.function (s ∷ []) _ $
+        qed W ((‵ (flft κ q) ⊛ ‵ ftrue) ∷ ‵ (owns (ShrSlice (named 0) κ R ∷ []) (at-list b o γ ys, tt) (s ∷ [], tt)) ∷ []) ∵ split ! $ move ! (2 ∷ []) $ fsplit ! $ move ! (2 ∷ 0 ∷ []) $ enter ! C Λ f.Code.function (s ∷ []) _ $
         alloc1 ! (λ l₀. alloc1 ! (λ l₁. alloc1 ! (λ l₂. alloc1 ! (λ l₃. alloc1 ! (λ l₄. alloc1 ! (λ l₅. alloc1 ! (λ l₆. alloc1 ! (λ l₇. alloc1 ! (λ l₈. alloc1 ! (λ l₉. alloc0 ! $ params1 ! $
         pass1 ! (init ! 16 refl (tt, (tt, (record { fits = room .0 }, tt)))) $ pass0 ! $
         keep ! (20 ∷ 21 ∷ 0 ∷ 1 ∷ 2 ∷ 3 ∷ 4 ∷ 5 ∷ 6 ∷ 7 ∷ 8 ∷ 9 ∷ 10 ∷ 11 ∷ 12 ∷ 13 ∷ 14 ∷ 15 ∷ 16 ∷ 17 ∷ 18 ∷ 19 ∷ []) $ starts l₀ l₁ l₂ l₃ l₄ l₅ l₆ l₇ l₈ l₉))))))))))
 
 module _ {M : Type 1} (𝓤 : URA M) (H : Heap 𝓤) (A : Atoms 𝓤) (W : Given 𝓤 H A) (mem : Memory → SProp 𝓤) (run : Routine → Fun 𝓤) (𝓣 : Tables 𝓤 H)
     (known-empty : Triple 𝓤 (𝓣 .C #empty) (Empty 𝓤 H A mem run)) (known-look : Triple 𝓤 (𝓣 .C #look-up) (LookUp 𝓤 H A mem run)) (known-put : Triple 𝓤 (𝓣 .C #put-place) (PutPlace 𝓤 H A mem run)) where
-  walks : Walks 𝓤 H A f.ended stayed (WpFn 𝓤 H (𝓣 .C) (𝓣 .Λ) code.function) (f.clauses 𝓤 H A mem run)
-  walks = walked 𝓤 H A f.ended stayed (f.clauses 𝓤 H A mem run) (WpFn 𝓤 H (𝓣 .C) (𝓣 .Λ) code.function) (λ κs. (slice-vals, tt)) (λ κs. (shr-slice-tells (named 0) (κs .0) R, tt))
+  walks : Walks 𝓤 H A f.ended stayed (WpFn 𝓤 H (𝓣 .C) (𝓣 .Λ) f.Code.function) (f.clauses 𝓤 H A mem run)
+  walks = walked 𝓤 H A f.ended stayed (f.clauses 𝓤 H A mem run) (WpFn 𝓤 H (𝓣 .C) (𝓣 .Λ) f.Code.function) (λ κs. (slice-vals, tt)) (λ κs. (shr-slice-tells (named 0) (κs .0) R, tt))
       (λ κs qs bounds a _ are. via 𝓤 _ (fst∗ 𝓤 _ (emp 𝓤)) (walk 𝓤 H A W mem run (κs .0) (qs .0) (a .0 .ptr .0) (a .0 .ptr .1) (a .0 .name) (a .0 .now) (are .0 .0 .1) 𝓣 known-empty known-look known-put))
 
-  meets : Meets 𝓤 H A f.signature (WpFn 𝓤 H (𝓣 .C) (𝓣 .Λ) code.function) (f.spec 𝓤 H A mem run)
+  meets : Meets 𝓤 H A f.signature (WpFn 𝓤 H (𝓣 .C) (𝓣 .Λ) f.Code.function) (f.spec 𝓤 H A mem run)
   meets = walk-meets 𝓤 H A f.ended stayed W (goes-none-slice 𝓤 H A W 1 (0 ∷ []) tt (plain (λ _. R)) yes, tt)
-      (f.clauses 𝓤 H A mem run) (WpFn 𝓤 H (𝓣 .C) (𝓣 .Λ) code.function) (WpFn-mono 𝓤 H (W .laws) 𝓣 code.function) walks
+      (f.clauses 𝓤 H A mem run) (WpFn 𝓤 H (𝓣 .C) (𝓣 .Λ) f.Code.function) (WpFn-mono 𝓤 H (W .laws) 𝓣 f.Code.function) walks
 
-pub snapshot-spec : {M : Type 1} → stated.statement M
-unfolding code.routine tablesOf
+pub snapshot-spec : {M : Type 1} → f.Statement.statement M
+unfolding f.Code.routine tablesOf
 snapshot-spec 𝓤 H 𝓜 𝓖 𝓡 =
     entered 𝓤 H (tripleOf 𝓤 H (𝓖 .A) f.signature (f.spec 𝓤 H (𝓖 .A) (𝓜 .mem) (𝓡 .run)))
-    (tables 𝓤 H 𝓜 𝓡 code.env .C) (tables 𝓤 H 𝓜 𝓡 code.env .Λ) #key code.function (code.unfolded 𝓤 H 𝓜 𝓡)
-    (meets 𝓤 H (𝓖 .A) (givenOf 𝓤 H 𝓜 𝓖) (𝓜 .mem) (𝓡 .run) (tablesOf 𝓤 H 𝓜 (tables 𝓤 H 𝓜 𝓡 code.env))
-    (cited 𝓤 H (Empty 𝓤 H (𝓖 .A) (𝓜 .mem) (𝓡 .run)) 𝓜 𝓡 code.env #empty empty-def.routine code.calls-list-image·empty (empty-thm.met 𝓤 H 𝓜 𝓖 𝓡))
-    (cited 𝓤 H (LookUp 𝓤 H (𝓖 .A) (𝓜 .mem) (𝓡 .run)) 𝓜 𝓡 code.env #look-up look-up-def.routine code.calls-lent-table·look-up (look-up-thm.met 𝓤 H 𝓜 𝓖 𝓡))
-    (cited 𝓤 H (PutPlace 𝓤 H (𝓖 .A) (𝓜 .mem) (𝓡 .run)) 𝓜 𝓡 code.env #put-place put-place-def.routine code.calls-list-image·put-place (put-place-thm.met 𝓤 H 𝓜 𝓖 𝓡)))
+    (tables 𝓤 H 𝓜 𝓡 f.Code.env .C) (tables 𝓤 H 𝓜 𝓡 f.Code.env .Λ) f.Key.name f.Code.function (f.Code.unfolded 𝓤 H 𝓜 𝓡)
+    (meets 𝓤 H (𝓖 .A) (givenOf 𝓤 H 𝓜 𝓖) (𝓜 .mem) (𝓡 .run) (tablesOf 𝓤 H 𝓜 (tables 𝓤 H 𝓜 𝓡 f.Code.env))
+    (cited 𝓤 H (Empty 𝓤 H (𝓖 .A) (𝓜 .mem) (𝓡 .run)) 𝓜 𝓡 f.Code.env #empty empty.Symbol.routine f.Code.calls-list-image·empty (empty.Met.met 𝓤 H 𝓜 𝓖 𝓡))
+    (cited 𝓤 H (LookUp 𝓤 H (𝓖 .A) (𝓜 .mem) (𝓡 .run)) 𝓜 𝓡 f.Code.env #look-up look-up.Symbol.routine f.Code.calls-lent-table·look-up (look-up.Met.met 𝓤 H 𝓜 𝓖 𝓡))
+    (cited 𝓤 H (PutPlace 𝓤 H (𝓖 .A) (𝓜 .mem) (𝓡 .run)) 𝓜 𝓡 f.Code.env #put-place put-place.Symbol.routine f.Code.calls-list-image·put-place (put-place.Met.met 𝓤 H 𝓜 𝓖 𝓡)))

@@ -1,8 +1,7 @@
 -- `list_form::slot_formed` meets its contract, by its tests.
 use Rattle.numbers.proofs.Basics.{_∙_, sym, _+_, _*_, eq-eqb, ne-eqb, needs}
 use Rattle.list_form.specs.Form.{slotAt}
-use Rattle.list_form.proofs.Laws.{inside}
-use Rattle.list_form.proofs.slot_formed.Statement.{statement}
+use Rattle.list_form.proofs.{Laws.inside, slot_formed.Statement.statement}
 use Rattle.list_form.proofs.slot_formed.Tie as tie
 
 returns : tie.Need-returns

@@ -3,8 +3,7 @@ use Rattle.numbers.proofs.Basics.{_≡_, sym, _∙_, _+_, _-_, _*_, _^_, _≤_,
 use Rattle.numbers.proofs.Basics.{needs}
 use Rattle.rules.specs.MoveList.{headerBytes, payloadOffset, tableEntriesIn, formed}
 use Rattle.list_form.specs.Form.{slotAt}
-use Rattle.list_form.proofs.Laws.{inside, slotsFrom, slots-all, formed-next, formed-stops, formed-ends}
-use Rattle.list_form.proofs.slots_formed.Statement.{statement}
+use Rattle.list_form.proofs.{Laws.inside, Laws.slotsFrom, Laws.slots-all, Laws.formed-next, Laws.formed-stops, Laws.formed-ends, slots_formed.Statement.statement}
 use Rattle.list_form.proofs.slots_formed.Tie as tie
 
 abbrev Inv-loop : tie.InvT-loop

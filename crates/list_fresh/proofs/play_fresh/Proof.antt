@@ -2,8 +2,7 @@
 use Rattle.numbers.proofs.Basics.{refl, sym, needs}
 use Rattle.rules.specs.State.{paperLimits, fresh}
 use Rattle.list_play.proofs.Sized.{paper-sized}
-use Rattle.list_fresh.proofs.Laws.{played-is}
-use Rattle.list_fresh.proofs.play_fresh.Statement.{statement}
+use Rattle.list_fresh.proofs.{Laws.played-is, play_fresh.Statement.statement}
 use Rattle.list_fresh.proofs.play_fresh.Tie as tie
 
 returns : tie.Need-returns

@@ -1,8 +1,7 @@
 -- `list_image::look_up` meets its contract, by the test.
 use Rattle.numbers.proofs.Basics.{ap, _∙_, needs}
 use Rattle.adapters.specs.Values.{placeOf}
-use Rattle.list_image.proofs.Laws.{read-in, read-out, read-canonical}
-use Rattle.list_image.proofs.look_up.Statement.{statement}
+use Rattle.list_image.proofs.{Laws.read-in, Laws.read-out, Laws.read-canonical, look_up.Statement.statement}
 use Rattle.list_image.proofs.look_up.Tie as tie
 
 returns : tie.Need-returns

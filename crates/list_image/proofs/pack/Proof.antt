@@ -1,7 +1,6 @@
 -- `list_image::pack` meets its contract: each flag is 0 or 1, so the sums stay below 256.
 use Rattle.numbers.proofs.Basics.{sym, not-true, not-false, needs}
-use Rattle.list_image.proofs.Packed.{unused-byte, used-byte}
-use Rattle.list_image.proofs.pack.Statement.{statement}
+use Rattle.list_image.proofs.{Packed.unused-byte, Packed.used-byte, pack.Statement.statement}
 use Rattle.list_image.proofs.pack.Tie as tie
 
 returns : tie.Need-returns

@@ -1,8 +1,7 @@
 -- `list_image::put` meets its contract, by the test.
 use borrow.Author.Needs.{needs}
 use Rattle.adapters.specs.Values.{placeOf}
-use Rattle.list_image.proofs.Laws.{write-in, write-out, write-canonical}
-use Rattle.list_image.proofs.put.Statement.{statement}
+use Rattle.list_image.proofs.{Laws.write-in, Laws.write-out, Laws.write-canonical, put.Statement.statement}
 use Rattle.list_image.proofs.put.Tie as tie
 
 returns : tie.Need-returns

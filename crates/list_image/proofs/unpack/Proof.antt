@@ -1,8 +1,7 @@
 -- `list_image::unpack` meets its contract, by the test.
 use Rattle.numbers.proofs.Basics.{sym, _∙_, needs}
 use Rattle.adapters.proofs.Laws.{place-is-free}
-use Rattle.list_image.proofs.Packed.{unpacked-unused, unpacked-used}
-use Rattle.list_image.proofs.unpack.Statement.{statement}
+use Rattle.list_image.proofs.{Packed.unpacked-unused, Packed.unpacked-used, unpack.Statement.statement}
 use Rattle.list_image.proofs.unpack.Tie as tie
 
 returns : tie.Need-returns

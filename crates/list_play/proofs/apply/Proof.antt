@@ -1,11 +1,9 @@
 -- `list_play::apply` meets its contract: an answer about pending records, or a reply about one place, is one about the state of the image.
 use Rattle.numbers.proofs.Basics.{refl, sym, ap, _∙_, true≢false, needs}
-use Rattle.rules.specs.Requests.{request}
-use Rattle.rules.specs.MoveList.{movable}
+use Rattle.rules.specs.{Requests.request, MoveList.movable}
 use Rattle.answers.proofs.Laws.{as-answer}
 use Rattle.list_play.specs.Play.{limitsFrom}
-use Rattle.list_play.proofs.Laws.{as-state}
-use Rattle.list_play.proofs.apply.Statement.{statement}
+use Rattle.list_play.proofs.{Laws.as-state, apply.Statement.statement}
 use Rattle.list_play.proofs.apply.Tie as tie
 
 returns : tie.Need-returns

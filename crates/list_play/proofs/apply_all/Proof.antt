@@ -7,8 +7,7 @@ use Rattle.list_image.specs.Places.{AllCanonical}
 use Rattle.list_form.specs.Form.{slotsOf}
 use Rattle.list_form.proofs.Laws.{slotsFrom, slots-all}
 use Rattle.list_play.specs.Play.{limitsFrom, imageState}
-use Rattle.list_play.proofs.Laws.{applies-next, applies-stops, applies-ends, ran-all, ran-part}
-use Rattle.list_play.proofs.apply_all.Statement.{statement}
+use Rattle.list_play.proofs.{Laws.applies-next, Laws.applies-stops, Laws.applies-ends, Laws.ran-all, Laws.ran-part, apply_all.Statement.statement}
 use Rattle.list_play.proofs.apply_all.Tie as tie
 
 abbrev Inv-loop : tie.InvT-loop

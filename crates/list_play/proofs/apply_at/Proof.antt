@@ -3,8 +3,7 @@ use Rattle.numbers.proofs.Basics.{_+_, _*_, _≤_, _≡_, ap, _∙_, arith, len
 use Rattle.rules.specs.MoveList.{movable}
 use Rattle.list_form.specs.Form.{slotAt}
 use Rattle.list_form.proofs.Laws.{inside, slot-within}
-use Rattle.list_play.proofs.Laws.{as-slot}
-use Rattle.list_play.proofs.apply_at.Statement.{statement}
+use Rattle.list_play.proofs.{Laws.as-slot, apply_at.Statement.statement}
 use Rattle.list_play.proofs.apply_at.Tie as tie
 
 size-is : (c : tie.After-read-be3) → let a = c .before .before .before .before .args in c .read-be3 .result ≡ slotAt (a .place) (a .list .now) .size

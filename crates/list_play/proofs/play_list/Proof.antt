@@ -1,8 +1,7 @@
 -- `list_play::play_list` meets its contract: a refusal of form, a list refused part-way, and one that is played.
 use Rattle.numbers.proofs.Basics.{refl, arith, replicate, needs}
 use Rattle.list_image.proofs.Laws.{canonical-zeros, canonical-take}
-use Rattle.list_play.proofs.Laws.{not-refused, fresh-is, not-played, played-all, played-part}
-use Rattle.list_play.proofs.play_list.Statement.{statement}
+use Rattle.list_play.proofs.{Laws.not-refused, Laws.fresh-is, Laws.not-played, Laws.played-all, Laws.played-part, play_list.Statement.statement}
 use Rattle.list_play.proofs.play_list.Tie as tie
 use Rattle.list_image.specs.Image.{imageSize}
 

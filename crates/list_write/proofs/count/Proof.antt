@@ -2,8 +2,7 @@
 use Rattle.numbers.proofs.Basics.{_≡_, _+_, _-_, _≤_, arith, length, getD, needs}
 use Rattle.list_image.specs.Image.{imageSize, unpacked}
 use Rattle.list_write.specs.Parts.{each, isWritten}
-use Rattle.list_write.proofs.Entries.{eachFrom, each-last, count-turn}
-use Rattle.list_write.proofs.count.Statement.{statement}
+use Rattle.list_write.proofs.{Entries.eachFrom, Entries.each-last, Entries.count-turn, count.Statement.statement}
 use Rattle.list_write.proofs.count.Tie as tie
 
 abbrev Inv-loop : tie.InvT-loop

@@ -4,8 +4,7 @@ use Rattle.rules.specs.MoveList.{oneIf, payloads}
 use Rattle.list_image.specs.Image.{imageSize, unpacked}
 use Rattle.list_image.proofs.Packed.{unpacked-isc}
 use Rattle.list_write.specs.Parts.{put, each, isWritten, sizeOf}
-use Rattle.list_write.proofs.Entries.{put-none, eachFrom, each-last, room-turn, payloads-turn}
-use Rattle.list_write.proofs.put_adapter_payloads.Statement.{statement}
+use Rattle.list_write.proofs.{Entries.put-none, Entries.eachFrom, Entries.each-last, Entries.room-turn, Entries.payloads-turn, put_adapter_payloads.Statement.statement}
 use Rattle.list_write.proofs.put_adapter_payloads.Tie as tie
 
 abbrev Inv-loop : tie.InvT-loop

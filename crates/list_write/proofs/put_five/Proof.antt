@@ -1,7 +1,6 @@
 -- `list_write::put_five` meets its contract: five numbers one behind the other.
 use borrow.Author.Needs.{needs}
-use Rattle.list_write.proofs.Entries.{five-numbers}
-use Rattle.list_write.proofs.put_five.Statement.{statement}
+use Rattle.list_write.proofs.{Entries.five-numbers, put_five.Statement.statement}
 use Rattle.list_write.proofs.put_five.Tie as tie
 
 returns : tie.Need-returns

@@ -1,7 +1,6 @@
 -- `list_write::put_listing` meets its contract: the part of the buffer from an index on holds the listing.
 use borrow.Author.Needs.{needs}
-use Rattle.list_write.proofs.Laws.{listing-put}
-use Rattle.list_write.proofs.put_listing.Statement.{statement}
+use Rattle.list_write.proofs.{Laws.listing-put, put_listing.Statement.statement}
 use Rattle.list_write.proofs.put_listing.Tie as tie
 
 returns : tie.Need-returns

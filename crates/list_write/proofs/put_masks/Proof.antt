@@ -2,9 +2,7 @@
 use Rattle.numbers.proofs.Basics.{_∙_, _+_, _*_, arith, needs}
 use Rattle.rules.specs.Bytes.{choose, bytes}
 use Rattle.rules.proofs.Codec.{length-bytes}
-use Rattle.list_write.proofs.Entries.{put-none, put-paste}
-use Rattle.list_write.proofs.Laws.{two-bytes}
-use Rattle.list_write.proofs.put_masks.Statement.{statement}
+use Rattle.list_write.proofs.{Entries.put-none, Entries.put-paste, Laws.two-bytes, put_masks.Statement.statement}
 use Rattle.list_write.proofs.put_masks.Tie as tie
 
 write-be-requires : tie.Need-write-be-requires

@@ -1,7 +1,6 @@
 -- `list_write::put_others` meets its contract: three table entries, each if there is one.
 use borrow.Author.Needs.{needs}
-use Rattle.list_write.proofs.Laws.{others-put}
-use Rattle.list_write.proofs.put_others.Statement.{statement}
+use Rattle.list_write.proofs.{Laws.others-put, put_others.Statement.statement}
 use Rattle.list_write.proofs.put_others.Tie as tie
 
 returns : tie.Need-returns

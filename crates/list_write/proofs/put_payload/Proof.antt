@@ -2,8 +2,7 @@
 use Rattle.numbers.proofs.Basics.{_≡_, true, _+_, _≤_, arith, length, not-true, not-false, needs}
 use denote.Ref.{now}
 use Rattle.rules.specs.Bytes.{choose}
-use Rattle.list_write.proofs.Entries.{put-none, payload-room, modify-put, register-put}
-use Rattle.list_write.proofs.put_payload.Statement.{statement}
+use Rattle.list_write.proofs.{Entries.put-none, Entries.payload-room, Entries.modify-put, Entries.register-put, put_payload.Statement.statement}
 use Rattle.list_write.proofs.put_payload.Tie as tie
 
 -- there is a payload, and room for it

@@ -1,7 +1,6 @@
 -- `list_write::put_payloads` meets its contract: the payloads one behind the other.
 use borrow.Author.Needs.{needs}
-use Rattle.list_write.proofs.Laws.{payloads-put}
-use Rattle.list_write.proofs.put_payloads.Statement.{statement}
+use Rattle.list_write.proofs.{Laws.payloads-put, put_payloads.Statement.statement}
 use Rattle.list_write.proofs.put_payloads.Tie as tie
 
 returns : tie.Need-returns

@@ -1,8 +1,7 @@
 -- `list_write::put_slot` meets its contract, by its test.
 use Rattle.numbers.proofs.Basics.{arith, needs}
 use Rattle.rules.specs.Bytes.{choose}
-use Rattle.list_write.proofs.Entries.{put-none}
-use Rattle.list_write.proofs.put_slot.Statement.{statement}
+use Rattle.list_write.proofs.{Entries.put-none, put_slot.Statement.statement}
 use Rattle.list_write.proofs.put_slot.Tie as tie
 
 returns : tie.Need-returns

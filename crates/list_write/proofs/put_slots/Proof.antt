@@ -3,8 +3,7 @@ use Rattle.numbers.proofs.Basics.{_≡_, sym, _∙_, _+_, _-_, _*_, _≤_, arit
 use Rattle.rules.specs.MoveList.{oneIf, writtenTable}
 use Rattle.list_image.specs.Image.{imageSize, unpacked}
 use Rattle.list_write.specs.Parts.{put, each, isWritten}
-use Rattle.list_write.proofs.Entries.{put-none, eachFrom, each-last, room-turn, slots-turn}
-use Rattle.list_write.proofs.put_slots.Statement.{statement}
+use Rattle.list_write.proofs.{Entries.put-none, Entries.eachFrom, Entries.each-last, Entries.room-turn, Entries.slots-turn, put_slots.Statement.statement}
 use Rattle.list_write.proofs.put_slots.Tie as tie
 
 abbrev Inv-loop : tie.InvT-loop

@@ -1,9 +1,7 @@
 -- The table entries of REGISTER, behind them those of MODIFY, and behind these the others.
 use Rattle.numbers.proofs.Basics.{refl, sym, true, false, _*_, arith, needs}
-use Rattle.list_write.specs.Parts.{each}
-use Rattle.list_write.specs.Write.{adapterEntries, otherEntries}
-use Rattle.list_write.proofs.Laws.{table-next, registers-size, adapters-count, adapters-size}
-use Rattle.list_write.proofs.put_table.Statement.{statement}
+use Rattle.list_write.specs.{Parts.each, Write.adapterEntries, Write.otherEntries}
+use Rattle.list_write.proofs.{Laws.table-next, Laws.registers-size, Laws.adapters-count, Laws.adapters-size, put_table.Statement.statement}
 use Rattle.list_write.proofs.put_table.Tie as tie
 
 returns : tie.Need-returns

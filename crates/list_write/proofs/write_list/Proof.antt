@@ -1,16 +1,13 @@
 -- The length is computed first; then the parts are put one behind the other.
 use Rattle.numbers.proofs.Basics.{_≡_, refl, sym, ap, _∙_, List, ℕ, _+_, _*_, arith, length, needs}
-use Rattle.rules.specs.State.{State, Record, listing}
-use Rattle.rules.specs.MoveList.{ListRequest, listRequests, total}
+use Rattle.rules.specs.{State.State, State.Record, State.listing, MoveList.ListRequest, MoveList.listRequests, MoveList.total}
 use Rattle.rules.proofs.Reachable.{length-records}
 use Rattle.store.specs.Memory.{pendingOf}
 use Rattle.answers.proofs.Laws.{not-refused}
 use Rattle.adapters.specs.Values.{deviceOf}
 use Rattle.list_image.specs.Places.{placesOf}
-use Rattle.list_write.specs.declared.Parts.{Parts}
-use Rattle.list_write.specs.Write.{entriesFrom, Counted, WholeListing}
-use Rattle.list_write.proofs.Laws.{entries-count, entries-size, entries-are, list-put, too-short, written}
-use Rattle.list_write.proofs.write_list.Statement.{statement}
+use Rattle.list_write.specs.{declared.Parts.Parts, Write.entriesFrom, Write.Counted, Write.WholeListing}
+use Rattle.list_write.proofs.{Laws.entries-count, Laws.entries-size, Laws.entries-are, Laws.list-put, Laws.too-short, Laws.written, write_list.Statement.statement}
 use Rattle.list_write.proofs.write_list.Tie as tie
 
 -- what is counted, and the entries that are written

@@ -1,8 +1,7 @@
 -- The digits left of w and those counted are those of v.
 use Rattle.numbers.proofs.Basics.{_≡_, _+_, _≤_, arith, needs}
 use Rattle.rules.specs.Listing.{digitCount}
-use Rattle.listing_text.proofs.Text.{size-one, size-next, size-most}
-use Rattle.listing_text.proofs.decimal_size.Statement.{statement}
+use Rattle.listing_text.proofs.{Text.size-one, Text.size-next, Text.size-most, decimal_size.Statement.statement}
 use Rattle.listing_text.proofs.decimal_size.Tie as tie
 
 abbrev Inv-loop : tie.InvT-loop

@@ -1,7 +1,6 @@
 -- The two ranges of digits.
 use Rattle.numbers.proofs.Basics.{lt-ltb, le-ltb, needs}
-use Rattle.rules.specs.Bytes.{choose}
-use Rattle.rules.specs.Listing.{digit}
+use Rattle.rules.specs.{Bytes.choose, Listing.digit}
 use Rattle.listing_text.proofs.letter.Statement.{statement}
 use Rattle.listing_text.proofs.letter.Tie as tie
 

@@ -1,12 +1,9 @@
 -- What comes of the list decides the text.
 use Rattle.numbers.proofs.Basics.{_≡_, _∙_, eqb, eq-eqb, ne-eqb, needs}
-use Rattle.rules.specs.Bytes.{choose}
-use Rattle.rules.specs.State.{listing}
-use Rattle.rules.specs.Listing.{shown, refusal, printed}
+use Rattle.rules.specs.{Bytes.choose, State.listing, Listing.shown, Listing.refusal, Listing.printed}
 use Rattle.rules.proofs.Checks.{chosen, passed}
 use Rattle.store.specs.Memory.{pendingOf}
-use Rattle.listing_text.proofs.Laws.{whole, too-long, printed-is}
-use Rattle.listing_text.proofs.print_list.Statement.{statement}
+use Rattle.listing_text.proofs.{Laws.whole, Laws.too-long, Laws.printed-is, print_list.Statement.statement}
 use Rattle.listing_text.proofs.print_list.Tie as tie
 
 -- what the list that was played prints

@@ -1,10 +1,8 @@
 -- The n - i lowest digits of v stand in out from index at + i.
 use Rattle.numbers.proofs.Basics.{_≡_, refl, _+_, _-_, _/_, _^_, _≤_, div-one, pow-zero, mod-lt, lt-of-lt-of-le}
-use Rattle.numbers.proofs.Basics.{arith, length, length-set, paste, needs}
+use Rattle.numbers.proofs.{Basics.arith, Basics.length, Basics.length-set, Basics.paste, Basics.needs, Laws.paste-none, Laws.write-turn}
 use Rattle.rules.specs.Listing.{digit, digits}
-use Rattle.numbers.proofs.Laws.{paste-none, write-turn}
-use Rattle.listing_text.proofs.Text.{length-digits}
-use Rattle.listing_text.proofs.spell.Statement.{statement}
+use Rattle.listing_text.proofs.{Text.length-digits, spell.Statement.statement}
 use Rattle.listing_text.proofs.spell.Tie as tie
 
 abbrev Inv-loop : tie.InvT-loop

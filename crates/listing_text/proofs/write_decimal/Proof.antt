@@ -1,8 +1,7 @@
 -- The digits, then what comes after.
 use Rattle.numbers.proofs.Basics.{arith, needs}
 use Rattle.rules.specs.Listing.{decimal}
-use Rattle.listing_text.proofs.Text.{wrote-then}
-use Rattle.listing_text.proofs.write_decimal.Statement.{statement}
+use Rattle.listing_text.proofs.{Text.wrote-then, write_decimal.Statement.statement}
 use Rattle.listing_text.proofs.write_decimal.Tie as tie
 
 returns : tie.Need-returns

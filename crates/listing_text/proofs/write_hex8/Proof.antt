@@ -1,7 +1,6 @@
 -- The digits, then what comes after.
 use Rattle.numbers.proofs.Basics.{arith, needs}
-use Rattle.listing_text.proofs.Text.{wrote-then}
-use Rattle.listing_text.proofs.write_hex8.Statement.{statement}
+use Rattle.listing_text.proofs.{Text.wrote-then, write_hex8.Statement.statement}
 use Rattle.listing_text.proofs.write_hex8.Tie as tie
 
 returns : tie.Need-returns

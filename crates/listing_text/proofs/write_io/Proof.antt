@@ -1,8 +1,7 @@
 -- Kind, subclass, type and word, one after the other.
 use Rattle.numbers.proofs.Basics.{_≡_, arith, needs}
 use Rattle.rules.specs.Listing.{ascii, digitCount}
-use Rattle.listing_text.proofs.Text.{wrote-then, io-text, size-one}
-use Rattle.listing_text.proofs.write_io.Statement.{statement}
+use Rattle.listing_text.proofs.{Text.wrote-then, Text.io-text, Text.size-one, write_io.Statement.statement}
 use Rattle.listing_text.proofs.write_io.Tie as tie
 
 -- a subclass is one digit

@@ -1,8 +1,7 @@
 -- The word, a space, the number.
 use Rattle.numbers.proofs.Basics.{_≤_, arith, needs}
 use Rattle.rules.specs.Listing.{ascii, digitCount}
-use Rattle.listing_text.proofs.Text.{wrote-then, number-text, size-most}
-use Rattle.listing_text.proofs.write_number.Statement.{statement}
+use Rattle.listing_text.proofs.{Text.wrote-then, Text.number-text, Text.size-most, write_number.Statement.statement}
 use Rattle.listing_text.proofs.write_number.Tie as tie
 
 -- a number has at most 20 digits

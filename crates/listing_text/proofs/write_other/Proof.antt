@@ -1,8 +1,7 @@
 -- Name and type with `-` after each.
 use Rattle.numbers.proofs.Basics.{arith, needs}
 use Rattle.rules.specs.Listing.{ascii}
-use Rattle.listing_text.proofs.Text.{wrote-then, other-text}
-use Rattle.listing_text.proofs.write_other.Statement.{statement}
+use Rattle.listing_text.proofs.{Text.wrote-then, Text.other-text, write_other.Statement.statement}
 use Rattle.listing_text.proofs.write_other.Tie as tie
 
 returns : tie.Need-returns

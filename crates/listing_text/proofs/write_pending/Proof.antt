@@ -1,8 +1,7 @@
 -- The records that list_all wrote are those of the listing.
 use Rattle.numbers.proofs.Basics.{arith, needs}
 use Rattle.rules.specs.Listing.{ascii, shown}
-use Rattle.listing_text.proofs.Text.{wrote-then, records-listed}
-use Rattle.listing_text.proofs.write_pending.Statement.{statement}
+use Rattle.listing_text.proofs.{Text.wrote-then, Text.records-listed, write_pending.Statement.statement}
 use Rattle.listing_text.proofs.write_pending.Tie as tie
 
 returns : tie.Need-returns

@@ -1,13 +1,10 @@
 -- The place, then what its kind shows.
 use Rattle.numbers.proofs.Basics.{_≡_, refl, List, [], _∷_, ℕ, arith, needs}
-use Rattle.rules.specs.Bytes.{part}
-use Rattle.rules.specs.Listing.{ascii, hex8, line, name, ofIo, recordLine}
-use Rattle.record_add.specs.declared.Kind.the-variants.{Done, Service, MachineCheck, Other}
-use Rattle.record_add.specs.declared.Kind.{Kind}
+use Rattle.rules.specs.{Bytes.part, Listing.ascii, Listing.hex8, Listing.line, Listing.name, Listing.ofIo, Listing.recordLine}
+use Rattle.record_add.specs.declared.{Kind.the-variants.Done, Kind.the-variants.Service, Kind.the-variants.MachineCheck, Kind.the-variants.Other, Kind.Kind}
 use Rattle.record_add.proofs.Laws.{io-told, kindFor}
 use Rattle.listing_text.specs.Wrote.{Wrote}
-use Rattle.listing_text.proofs.Text.{wrote-then, io-line, other-line}
-use Rattle.listing_text.proofs.write_record.Statement.{statement}
+use Rattle.listing_text.proofs.{Text.wrote-then, Text.io-line, Text.other-line, write_record.Statement.statement}
 use Rattle.listing_text.proofs.write_record.Tie as tie
 
 write-io-requires : tie.Need-write-io-requires

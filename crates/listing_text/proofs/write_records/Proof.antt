@@ -1,10 +1,8 @@
 -- The lines of the first i records stand in out.
 use Rattle.numbers.proofs.Basics.{_≡_, refl, _∙_, [], _+_, _*_, _-_, _≤_, arith, length, paste-zero, needs}
-use Rattle.rules.specs.Requests.{recordsIn}
-use Rattle.rules.specs.Listing.{linesFrom}
+use Rattle.rules.specs.{Requests.recordsIn, Listing.linesFrom}
 use Rattle.listing_text.specs.Wrote.{Wrote}
-use Rattle.listing_text.proofs.Text.{wrote-then, wrote-long, lines-next, size-most}
-use Rattle.listing_text.proofs.write_records.Statement.{statement}
+use Rattle.listing_text.proofs.{Text.wrote-then, Text.wrote-long, Text.lines-next, Text.size-most, write_records.Statement.statement}
 use Rattle.listing_text.proofs.write_records.Tie as tie
 
 abbrev Inv-loop : tie.InvT-loop

@@ -1,7 +1,6 @@
 -- The copied bytes of src stand at the start of r.
 use Rattle.numbers.proofs.Basics.{_≡_, _-_, _≤_, arith, length, drop, length-drop, getD-drop, paste, needs}
-use Rattle.numbers.proofs.Laws.{paste-more, paste-all}
-use Rattle.numbers.proofs.load.Statement.{statement}
+use Rattle.numbers.proofs.{Laws.paste-more, Laws.paste-all, load.Statement.statement}
 use Rattle.numbers.proofs.load.Tie as tie
 
 abbrev Inv-loop : tie.InvT-loop

@@ -1,8 +1,7 @@
 -- The number that the first i bytes say, below 256 ^ i.
 use Rattle.numbers.proofs.Basics.{_≡_, refl, _-_, _^_, _≤_, _<_, arith, take, drop, needs}
 use Rattle.rules.specs.Bytes.{number}
-use Rattle.numbers.proofs.Laws.{read-turn, read-fits}
-use Rattle.numbers.proofs.read_be.Statement.{statement}
+use Rattle.numbers.proofs.{Laws.read-turn, Laws.read-fits, read_be.Statement.statement}
 use Rattle.numbers.proofs.read_be.Tie as tie
 
 abbrev Inv-loop : tie.InvT-loop

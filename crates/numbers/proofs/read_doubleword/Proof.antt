@@ -1,7 +1,5 @@
 -- The two words say what the eight bytes say.
-use Rattle.numbers.proofs.Basics.{sym, _∙_, _*_, _+_, arith, needs}
-use Rattle.numbers.proofs.Laws.{number-parts}
-use Rattle.numbers.proofs.read_doubleword.Statement.{statement}
+use Rattle.numbers.proofs.{Basics.sym, Basics._∙_, Basics._*_, Basics._+_, Basics.arith, Basics.needs, Laws.number-parts, read_doubleword.Statement.statement}
 use Rattle.numbers.proofs.read_doubleword.Tie as tie
 
 returns : tie.Need-returns

@@ -1,7 +1,5 @@
 -- The word is the two halves, and each of them has two bytes.
-use Rattle.numbers.proofs.Basics.{_∙_, _+_, arith, needs}
-use Rattle.numbers.proofs.Laws.{number-parts, pair-small}
-use Rattle.numbers.proofs.read_word.Statement.{statement}
+use Rattle.numbers.proofs.{Basics._∙_, Basics._+_, Basics.arith, Basics.needs, Laws.number-parts, Laws.pair-small, read_word.Statement.statement}
 use Rattle.numbers.proofs.read_word.Tie as tie
 
 returns : tie.Need-returns

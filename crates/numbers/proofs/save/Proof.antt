@@ -1,7 +1,6 @@
 -- The first i bytes of r stand in dst from index at.
 use Rattle.numbers.proofs.Basics.{_≡_, refl, _-_, _≤_, arith, length, paste, paste-zero, needs}
-use Rattle.numbers.proofs.Laws.{paste-more}
-use Rattle.numbers.proofs.save.Statement.{statement}
+use Rattle.numbers.proofs.{Laws.paste-more, save.Statement.statement}
 use Rattle.numbers.proofs.save.Tie as tie
 
 abbrev Inv-loop : tie.InvT-loop

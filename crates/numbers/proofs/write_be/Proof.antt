@@ -1,9 +1,7 @@
 -- The n - i lowest bytes of v stand in b from index at + i.
 use Rattle.numbers.proofs.Basics.{_≡_, refl, _+_, _-_, _/_, _^_, _≤_, div-one, arith, length, length-set}
-use Rattle.numbers.proofs.Basics.{paste, needs}
+use Rattle.numbers.proofs.{Basics.paste, Basics.needs, Laws.paste-none, Laws.write-turn, write_be.Statement.statement}
 use Rattle.rules.specs.Bytes.{bytes}
-use Rattle.numbers.proofs.Laws.{paste-none, write-turn}
-use Rattle.numbers.proofs.write_be.Statement.{statement}
 use Rattle.numbers.proofs.write_be.Tie as tie
 
 abbrev Inv-loop : tie.InvT-loop

@@ -1,12 +1,9 @@
 -- The invariant: the records that are left, added to what is held now, give what all records give; and they have room.
 use Rattle.numbers.proofs.Basics.{_≡_, refl, sym, _∙_, _+_, _-_, _≤_, arith, needs}
-use Rattle.record_add.proofs.Laws.{add-next, add-ends, want-next, recordsFrom, records-all}
-use Rattle.rules.specs.State.{addAll}
-use Rattle.rules.specs.Requests.{recordsIn, allWant}
-use Rattle.store_queues.specs.Slots.{slotCount}
-use Rattle.store_queues.specs.Queues.{total, Held}
+use Rattle.record_add.proofs.{Laws.add-next, Laws.add-ends, Laws.want-next, Laws.recordsFrom, Laws.records-all, add_all.Statement.statement}
+use Rattle.rules.specs.{State.addAll, Requests.recordsIn, Requests.allWant}
+use Rattle.store_queues.specs.{Slots.slotCount, Queues.total, Queues.Held}
 use Rattle.store.specs.Memory.{pendingOf}
-use Rattle.record_add.proofs.add_all.Statement.{statement}
 use Rattle.record_add.proofs.add_all.Tie as tie
 
 abbrev Inv-loop : tie.InvT-loop

@@ -1,8 +1,6 @@
 -- The record joins what its kind names.
 use Rattle.numbers.proofs.Basics.{_≡_, refl, ap, _∙_, arith, needs}
-use Rattle.rules.specs.Bytes.{part}
-use Rattle.rules.specs.State.{Record, kind, subclass}
-use Rattle.rules.specs.Requests.{wants}
+use Rattle.rules.specs.{Bytes.part, State.Record, State.kind, State.subclass, Requests.wants}
 use Rattle.record_add.specs.declared.Kind.{Kind}
 use Rattle.record_add.proofs.Laws.{kind-known, kindFor, io-told, adds-io, adds-done, adds-service, adds-mchk, adds-other}
 use Rattle.record_add.proofs.add_one.Statement.{statement}

@@ -2,8 +2,7 @@
 use Rattle.numbers.proofs.Basics.{sym, _∙_, arith, le-leb, lt-leb, needs}
 use Rattle.rules.specs.Bytes.{choose}
 use Rattle.record_add.specs.Cases.{answerTo}
-use Rattle.record_add.proofs.Laws.{good-few}
-use Rattle.record_add.proofs.answer_to.Statement.{statement}
+use Rattle.record_add.proofs.{Laws.good-few, answer_to.Statement.statement}
 use Rattle.record_add.proofs.answer_to.Tie as tie
 
 returns : tie.Need-returns

@@ -1,7 +1,6 @@
 -- The interrupt joins the queue of its subclass.
 use Rattle.numbers.proofs.Basics.{arith, needs}
-use Rattle.record_add.proofs.Laws.{io-joins}
-use Rattle.record_add.proofs.append_interrupt.Statement.{statement}
+use Rattle.record_add.proofs.{Laws.io-joins, append_interrupt.Statement.statement}
 use Rattle.record_add.proofs.append_interrupt.Tie as tie
 
 append-requires : tie.Need-append-requires

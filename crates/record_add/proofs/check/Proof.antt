@@ -1,13 +1,10 @@
 -- The invariant: what is left to check, from a place with the number wanted so far, comes to what all comes to.
 use Rattle.numbers.proofs.Basics.{_≡_, sym, ap, _∙_, true, ⊎-elim, _+_, _*_, _-_, _≤_, arith, needs}
 use denote.Enum.Declared.{tagOf}
-use Rattle.rules.specs.Bytes.{part}
-use Rattle.rules.specs.State.{Record, kind, subclass}
-use Rattle.rules.specs.Requests.{kindAccepted, wants, recordsIn}
-use Rattle.record_add.proofs.Kind.{the-type}
+use Rattle.rules.specs.{Bytes.part, State.Record, State.kind, State.subclass, Requests.kindAccepted, Requests.wants, Requests.recordsIn}
+use Rattle.record_add.proofs.{Kind.the-type, check.Statement.statement}
 use Rattle.record_add.proofs.Laws.{kind-known, kindFor, tag-wants, check-next, check-stops, check-ends, recordsFrom, records-all}
 use Rattle.record_add.specs.Cases.{checkFrom}
-use Rattle.record_add.proofs.check.Statement.{statement}
 use Rattle.record_add.proofs.check.Tie as tie
 
 abbrev Inv-loop : tie.InvT-loop

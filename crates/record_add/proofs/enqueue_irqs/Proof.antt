@@ -1,16 +1,13 @@
 -- The checks of the rules, in their order; a refusal comes before anything is added.
 use Rattle.numbers.proofs.Basics.{_≡_, refl, sym, ap, _∙_, ⊎-elim, ℕ, _+_, _*_, _/_, _≤_, arith, length, eq-eqb}
 use Rattle.numbers.proofs.Basics.{ne-eqb, le-leb, lt-leb, needs}
-use Rattle.rules.specs.State.{Pending, addAll, queued}
-use Rattle.rules.specs.Requests.{enqueueBytes, recordsIn, allWant, request}
+use Rattle.rules.specs.{State.Pending, State.addAll, State.queued, Requests.enqueueBytes, Requests.recordsIn, Requests.allWant, Requests.request}
 use Rattle.rules.proofs.Checks.{fails}
 use Rattle.answers.proofs.Laws.{refused}
-use Rattle.store_queues.specs.Slots.{slotCount}
-use Rattle.store_queues.specs.Queues.{total}
+use Rattle.store_queues.specs.{Slots.slotCount, Queues.total}
 use Rattle.store.specs.Memory.{pendingOf}
 use Rattle.record_add.specs.Cases.{checkFrom, answerTo}
-use Rattle.record_add.proofs.Laws.{queued-total, add-none, told, answer-good, enqueuing, enqueue-bad, enqueue-good}
-use Rattle.record_add.proofs.enqueue_irqs.Statement.{statement}
+use Rattle.record_add.proofs.{Laws.queued-total, Laws.add-none, Laws.told, Laws.answer-good, Laws.enqueuing, Laws.enqueue-bad, Laws.enqueue-good, enqueue_irqs.Statement.statement}
 use Rattle.record_add.proofs.enqueue_irqs.Tie as tie
 
 returns : tie.Need-returns

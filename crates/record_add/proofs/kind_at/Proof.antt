@@ -1,11 +1,9 @@
 -- The type is tested against the numbers of the rules, in their order.
 use Rattle.numbers.proofs.Basics.{_≡_, le-leb, lt-leb, eq-eqb, ne-eqb, needs}
-use Rattle.rules.specs.Bytes.{choose, part}
+use Rattle.rules.specs.{Bytes.choose, Bytes.part, State.kind}
 use Rattle.rules.specs.State as rules
-use Rattle.rules.specs.State.{kind}
 use Rattle.record_add.specs.Cases.{asCase}
-use Rattle.record_add.proofs.Laws.{kind-at-is}
-use Rattle.record_add.proofs.kind_at.Statement.{statement}
+use Rattle.record_add.proofs.{Laws.kind-at-is, kind_at.Statement.statement}
 use Rattle.record_add.proofs.kind_at.Tie as tie
 
 -- the kind by the type that was read

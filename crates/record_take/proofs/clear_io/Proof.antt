@@ -3,8 +3,7 @@ use Rattle.numbers.proofs.Basics.{refl, _∙_, [], _<_, arith, getD, le-leb, lt
 use Rattle.rules.specs.Requests.{request, clearsIo}
 use Rattle.rules.proofs.Checks.{passes, fails}
 use Rattle.answers.proofs.Laws.{refused, accepted, not-refused}
-use Rattle.record_take.proofs.Laws.{word-zero, clears-none, clears-one}
-use Rattle.record_take.proofs.clear_io.Statement.{statement}
+use Rattle.record_take.proofs.{Laws.word-zero, Laws.clears-none, Laws.clears-one, clear_io.Statement.statement}
 use Rattle.record_take.proofs.clear_io.Tie as tie
 
 returns : tie.Need-returns

@@ -4,8 +4,7 @@ use Rattle.rules.specs.Requests.{request}
 use Rattle.rules.proofs.Checks.{passes, fails}
 use Rattle.answers.proofs.Laws.{refused, accepted, not-refused}
 use Rattle.store.proofs.Laws.{none-left}
-use Rattle.record_take.proofs.Laws.{clears-all}
-use Rattle.record_take.proofs.clear_irqs.Statement.{statement}
+use Rattle.record_take.proofs.{Laws.clears-all, clear_irqs.Statement.statement}
 use Rattle.record_take.proofs.clear_irqs.Tie as tie
 
 returns : tie.Need-returns

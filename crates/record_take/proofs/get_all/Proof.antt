@@ -1,13 +1,11 @@
 -- The checks of the rules, in their order; then the listing is written.
 use Rattle.numbers.proofs.Basics.{_≡_, refl, ap, _∙_, not, _*_, _≤_, arith, length, eq-eqb, ne-eqb, le-leb, lt-leb}
 use Rattle.numbers.proofs.Basics.{needs}
-use Rattle.rules.specs.State.{listing}
-use Rattle.rules.specs.Requests.{request}
+use Rattle.rules.specs.{State.listing, Requests.request}
 use Rattle.rules.proofs.Checks.{passes, fails}
 use Rattle.store.specs.Memory.{pendingOf}
 use Rattle.answers.proofs.Laws.{refused, accepted, not-refused}
-use Rattle.record_take.proofs.Laws.{lists-none, lists-all, records-size}
-use Rattle.record_take.proofs.get_all.Statement.{statement}
+use Rattle.record_take.proofs.{Laws.lists-none, Laws.lists-all, Laws.records-size, get_all.Statement.statement}
 use Rattle.record_take.proofs.get_all.Tie as tie
 
 room : (c : tie.After-list-all-arg) → let a = c .before .before .before .before .before .before .args in 72 * length (listing (pendingOf (a .order .now) (a .counts .now) (a .slots .now) (a .singles .now))) ≤ length (a .out .now)

@@ -3,8 +3,7 @@ use Rattle.numbers.proofs.Basics.{_≡_, refl, ap, false, _⊎_, inl, inr, ⊎-
 use Rattle.numbers.proofs.Basics.{ltb-false, needs}
 use Rattle.numbers.specs.declared.Queue.{Queue}
 use Rattle.record_take.specs.declared.Next.the-variants.{At}
-use Rattle.record_take.proofs.Laws.{next-done, no-done, next-none, next-io}
-use Rattle.record_take.proofs.next_queued.Statement.{statement}
+use Rattle.record_take.proofs.{Laws.next-done, Laws.no-done, Laws.next-none, Laws.next-io, next_queued.Statement.statement}
 use Rattle.record_take.proofs.next_queued.Tie as tie
 
 -- the count of finished page faults

@@ -1,7 +1,6 @@
 -- The queued records, and one for each of the other two.
 use Rattle.numbers.proofs.Basics.{arith, needs}
-use Rattle.record_take.proofs.Laws.{count-is}
-use Rattle.record_take.proofs.pending.Statement.{statement}
+use Rattle.record_take.proofs.{Laws.count-is, pending.Statement.statement}
 use Rattle.record_take.proofs.pending.Tie as tie
 
 returns : tie.Need-returns

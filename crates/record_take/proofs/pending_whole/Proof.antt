@@ -1,7 +1,6 @@
 -- Every slot and both single records have 72 bytes.
 use Rattle.numbers.proofs.Basics.{arith, needs}
-use Rattle.record_take.proofs.Laws.{whole-listing}
-use Rattle.record_take.proofs.pending_whole.Statement.{statement}
+use Rattle.record_take.proofs.{Laws.whole-listing, pending_whole.Statement.statement}
 use Rattle.record_take.proofs.pending_whole.Tie as tie
 
 returns : tie.Need-returns

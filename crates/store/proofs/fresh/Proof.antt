@@ -1,7 +1,6 @@
 -- Nothing is queued, and neither service record nor machine check is there.
 use Rattle.numbers.proofs.Basics.{_∙_, needs}
-use Rattle.store.proofs.Laws.{none-left}
-use Rattle.store.proofs.fresh.Statement.{statement}
+use Rattle.store.proofs.{Laws.none-left, fresh.Statement.statement}
 use Rattle.store.proofs.fresh.Tie as tie
 
 returns : tie.Need-returns

@@ -1,9 +1,7 @@
 -- The last free slot is the queue's next, and the counts follow.
 use Rattle.numbers.proofs.Basics.{ℕ, _+_, _^_, _<_, div-le-self, arith, getD, needs}
 use Rattle.store_queues.specs.Slots.{slotCount}
-use Rattle.store_queues.proofs.Counts.{count-small, waiting-small, mask-stays, mask-set, some-zero, some-one}
-use Rattle.store_queues.proofs.Laws.{append-leaves}
-use Rattle.store_queues.proofs.append.Statement.{statement}
+use Rattle.store_queues.proofs.{Counts.count-small, Counts.waiting-small, Counts.mask-stays, Counts.mask-set, Counts.some-zero, Counts.some-one, Laws.append-leaves, append.Statement.statement}
 use Rattle.store_queues.proofs.append.Tie as tie
 
 abbrev start : tie.After-mask → tie.Start

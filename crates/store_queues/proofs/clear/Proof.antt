@@ -1,7 +1,6 @@
 -- Where nothing is queued nothing has to be done.
 use borrow.Author.Needs.{needs}
-use Rattle.store_queues.proofs.Laws.{clear-already}
-use Rattle.store_queues.proofs.clear.Statement.{statement}
+use Rattle.store_queues.proofs.{Laws.clear-already, clear.Statement.statement}
 use Rattle.store_queues.proofs.clear.Tie as tie
 
 returns : tie.Need-returns

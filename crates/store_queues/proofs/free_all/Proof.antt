@@ -1,10 +1,8 @@
 -- The entries passed are their own indices in the row.
 use Rattle.numbers.proofs.Basics.{_≡_, refl, _∙_, _-_, _*_, _≤_, zero-add, arith, length, paste, paste-zero, needs}
 use Rattle.numbers.proofs.Laws.{paste-more}
-use Rattle.store_queues.specs.Slots.{slotCount}
-use Rattle.store_queues.specs.Queues.{upFrom}
-use Rattle.store_queues.proofs.Laws.{length-up, up-at}
-use Rattle.store_queues.proofs.free_all.Statement.{statement}
+use Rattle.store_queues.specs.{Slots.slotCount, Queues.upFrom}
+use Rattle.store_queues.proofs.{Laws.length-up, Laws.up-at, free_all.Statement.statement}
 use Rattle.store_queues.proofs.free_all.Tie as tie
 
 abbrev Inv-loop : tie.InvT-loop

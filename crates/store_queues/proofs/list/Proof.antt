@@ -1,8 +1,7 @@
 -- The records of the first i queues stand at the start of out.
 use Rattle.numbers.proofs.Basics.{_≡_, flatten, _+_, _-_, _*_, _≤_, arith, length, take, getD, paste, needs}
 use Rattle.store_queues.specs.Queues.{each, queues, sum}
-use Rattle.store_queues.proofs.Laws.{count-fits, queue-fits, queues-turn, list-leaves}
-use Rattle.store_queues.proofs.list.Statement.{statement}
+use Rattle.store_queues.proofs.{Laws.count-fits, Laws.queue-fits, Laws.queues-turn, Laws.list-leaves, list.Statement.statement}
 use Rattle.store_queues.proofs.list.Tie as tie
 
 abbrev Inv-loop : tie.InvT-loop

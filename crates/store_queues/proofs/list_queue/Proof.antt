@@ -2,8 +2,7 @@
 use Rattle.numbers.proofs.Basics.{_≡_, refl, sym, _∙_, [], flatten, _-_, _*_, _≤_, arith, length, take, getD, paste}
 use Rattle.numbers.proofs.Basics.{paste-zero, take-all, needs}
 use Rattle.store_queues.specs.Queues.{row, listed}
-use Rattle.store_queues.proofs.Laws.{length-named, named-at, list-turn}
-use Rattle.store_queues.proofs.list_queue.Statement.{statement}
+use Rattle.store_queues.proofs.{Laws.length-named, Laws.named-at, Laws.list-turn, list_queue.Statement.statement}
 use Rattle.store_queues.proofs.list_queue.Tie as tie
 
 abbrev Inv-loop : tie.InvT-loop

@@ -1,8 +1,7 @@
 -- The entries from lo up to i are those from lo + 1.
 use Rattle.numbers.proofs.Basics.{_≡_, refl, _+_, _-_, _≤_, arith, length, drop, paste, needs}
 use Rattle.numbers.proofs.Laws.{paste-none}
-use Rattle.store_queues.proofs.Slots.{down-turn}
-use Rattle.store_queues.proofs.move_down.Statement.{statement}
+use Rattle.store_queues.proofs.{Slots.down-turn, move_down.Statement.statement}
 use Rattle.store_queues.proofs.move_down.Tie as tie
 
 abbrev Inv-loop : tie.InvT-loop

@@ -1,7 +1,6 @@
 -- The mask is a byte.
 use Rattle.numbers.proofs.Basics.{arith, needs}
-use Rattle.store_queues.proofs.Counts.{waiting-small}
-use Rattle.store_queues.proofs.nonempty.Statement.{statement}
+use Rattle.store_queues.proofs.{Counts.waiting-small, nonempty.Statement.statement}
 use Rattle.store_queues.proofs.nonempty.Tie as tie
 
 pub nonempty-spec : {M : Type 1} → statement M

@@ -1,7 +1,6 @@
 -- The record in the slot that the queue's row names.
 use Rattle.numbers.proofs.Basics.{sym, _∙_, arith, needs}
-use Rattle.store_queues.proofs.Laws.{count-fits, queue-record}
-use Rattle.store_queues.proofs.read.Statement.{statement}
+use Rattle.store_queues.proofs.{Laws.count-fits, Laws.queue-record, read.Statement.statement}
 use Rattle.store_queues.proofs.read.Tie as tie
 
 slot-of-requires : tie.Need-slot-of-requires

@@ -1,10 +1,7 @@
 -- The row closes up, the slot is the last of the free ones, and the counts follow.
 use Rattle.numbers.proofs.Basics.{ℕ, _-_, _/_, _^_, _≤_, arith, getD, needs}
-use Rattle.store_queues.specs.Slots.{slotCount}
-use Rattle.store_queues.specs.Queues.{waiting}
-use Rattle.store_queues.proofs.Counts.{count-small, mask-stays, mask-set, some-zero, some-one, bit-there}
-use Rattle.store_queues.proofs.Laws.{remove-leaves}
-use Rattle.store_queues.proofs.remove.Statement.{statement}
+use Rattle.store_queues.specs.{Slots.slotCount, Queues.waiting}
+use Rattle.store_queues.proofs.{Counts.count-small, Counts.mask-stays, Counts.mask-set, Counts.some-zero, Counts.some-one, Counts.bit-there, Laws.remove-leaves, remove.Statement.statement}
 use Rattle.store_queues.proofs.remove.Tie as tie
 
 abbrev start : tie.After-move-down → tie.Start

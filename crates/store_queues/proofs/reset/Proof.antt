@@ -1,7 +1,6 @@
 -- The free slots are all, and the counts 0.
 use Rattle.numbers.proofs.Basics.{refl, needs}
-use Rattle.store_queues.proofs.Laws.{reset-leaves}
-use Rattle.store_queues.proofs.reset.Statement.{statement}
+use Rattle.store_queues.proofs.{Laws.reset-leaves, reset.Statement.statement}
 use Rattle.store_queues.proofs.reset.Tie as tie
 
 returns : tie.Need-returns

@@ -1,7 +1,6 @@
 -- The record lies in its slot, and the bytes of the others are as they were.
 use Rattle.numbers.proofs.Basics.{_≡_, _*_, _≤_, length, needs}
-use Rattle.store_queues.proofs.Slots.{slot-same, slot-other}
-use Rattle.store_queues.proofs.write_slot.Statement.{statement}
+use Rattle.store_queues.proofs.{Slots.slot-same, Slots.slot-other, write_slot.Statement.statement}
 use Rattle.store_queues.proofs.write_slot.Tie as tie
 
 returns : tie.Need-returns

@@ -2,13 +2,10 @@
 use Rattle.numbers.proofs.Basics.{_≡_, refl, sym, ap, _∙_, Bool, true, false, ⊎-elim, [], _+_, _-_, _≤_, _<_, arith}
 use Rattle.numbers.proofs.Basics.{length, take, drop, getD, ltb-true, ltb-false, needs}
 use Rattle.rules.specs.Bytes.{choose}
-use Rattle.store_queues.specs.Slots.{slotCount}
-use Rattle.store_queues.specs.Queues.{queues}
+use Rattle.store_queues.specs.{Slots.slotCount, Queues.queues}
 use Rattle.store_queues.proofs.Laws.{count-fits, length-queues, length-queue, queue-record}
-use Rattle.store_search.specs.declared.Found.the-variants.{At, None}
-use Rattle.store_search.specs.Search.{wanted, searchQueue, searchQueues}
-use Rattle.store_search.proofs.Laws.{later, search-over, search-queue, search-end, search-record, cleared, handed-out}
-use Rattle.store_search.proofs.find.Statement.{statement}
+use Rattle.store_search.specs.{declared.Found.the-variants.At, declared.Found.the-variants.None, Search.wanted, Search.searchQueue, Search.searchQueues}
+use Rattle.store_search.proofs.{Laws.later, Laws.search-over, Laws.search-queue, Laws.search-end, Laws.search-record, Laws.cleared, Laws.handed-out, find.Statement.statement}
 use Rattle.store_search.proofs.find.Tie as tie
 
 abbrev Inv-loop : tie.InvT-loop

@@ -1,7 +1,6 @@
 -- One word of the slot is the subchannel's id and number.
 use Rattle.numbers.proofs.Basics.{ap, ℕ, _+_, _*_, needs}
-use Rattle.store_search.proofs.Laws.{is-for-at}
-use Rattle.store_search.proofs.is_for.Statement.{statement}
+use Rattle.store_search.proofs.{Laws.is-for-at, is_for.Statement.statement}
 use Rattle.store_search.proofs.is_for.Tie as tie
 
 returns : tie.Need-returns

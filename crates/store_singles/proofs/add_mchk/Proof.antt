@@ -1,10 +1,8 @@
 -- The first machine check is saved; a second one is merged.
-use Rattle.numbers.proofs.Basics.{_≡_, arith, length, needs}
+use Rattle.numbers.proofs.{Basics._≡_, Basics.arith, Basics.length, Basics.needs, Laws.part-before}
 use Rattle.rules.specs.Bytes.{byte, part}
-use Rattle.numbers.proofs.Laws.{part-before}
 use Rattle.store_singles.specs.Singles.{serviceOf, mchkOf}
-use Rattle.store_singles.proofs.Laws.{absent, stored, second-mchk, second-service}
-use Rattle.store_singles.proofs.add_mchk.Statement.{statement}
+use Rattle.store_singles.proofs.{Laws.absent, Laws.stored, Laws.second-mchk, Laws.second-service, add_mchk.Statement.statement}
 use Rattle.store_singles.proofs.add_mchk.Tie as tie
 
 returns : tie.Need-returns

@@ -1,10 +1,8 @@
 -- The first service record is saved; a second one changes nothing.
-use Rattle.numbers.proofs.Basics.{refl, arith, needs}
+use Rattle.numbers.proofs.{Basics.refl, Basics.arith, Basics.needs, Laws.drop-past}
 use Rattle.rules.specs.Bytes.{byte, part}
-use Rattle.numbers.proofs.Laws.{drop-past}
 use Rattle.store_singles.specs.Singles.{serviceOf, mchkOf}
-use Rattle.store_singles.proofs.Laws.{absent, there, stored}
-use Rattle.store_singles.proofs.add_service.Statement.{statement}
+use Rattle.store_singles.proofs.{Laws.absent, Laws.there, Laws.stored, add_service.Statement.statement}
 use Rattle.store_singles.proofs.add_service.Tie as tie
 
 returns : tie.Need-returns

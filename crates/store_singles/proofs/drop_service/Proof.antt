@@ -1,8 +1,7 @@
 -- The flag at 144 is 0; the machine check stays.
 use Rattle.numbers.proofs.Basics.{arith, needs}
 use Rattle.store_singles.specs.Singles.{serviceOf, mchkOf}
-use Rattle.store_singles.proofs.Laws.{dropped}
-use Rattle.store_singles.proofs.drop_service.Statement.{statement}
+use Rattle.store_singles.proofs.{Laws.dropped, drop_service.Statement.statement}
 use Rattle.store_singles.proofs.drop_service.Tie as tie
 
 pub drop-service-spec : {M : Type 1} → statement M

@@ -1,7 +1,6 @@
 -- The first i of the 16 bytes are merged.
 use Rattle.numbers.proofs.Basics.{_≡_, refl, _-_, _≤_, arith, length, length-set, paste, paste-zero, needs}
-use Rattle.store_singles.proofs.Laws.{ors, merge-turn, merge-all}
-use Rattle.store_singles.proofs.merge.Statement.{statement}
+use Rattle.store_singles.proofs.{Laws.ors, Laws.merge-turn, Laws.merge-all, merge.Statement.statement}
 use Rattle.store_singles.proofs.merge.Tie as tie
 
 abbrev Inv-loop : tie.InvT-loop

@@ -1,5 +1,5 @@
 -- `flic_make`: what it shares with `flic_play_list` is in Fresh.antt. In between `start` is called, and the capability is stored.
-use Rattle.flic.proofs.Walk.{_≡_, refl, ap, subst, ℕ, Bool, [], _∷_, List, length, URA, fullShare, named, tyBool, Val, vbool, vptr, SProp, ent, emp, via, id⊢, ftrue, fat, Memory, Routine, Heap, Env, Calls, Loops, WpFn, Atoms, Fun, Given, Sq, runs, atRet, ‵, ⋆, _$_, _∵_, !, qed, move, keep, drop, rewrite, fjoin, suffices, frame, done, look, store, init, stop, hop, fld, from, load, of-opd, and-then, no-more, assigns, land, enter, alloc1, alloc0, params1, pass1, pass0, FmC, owns, Is, bool-vals, bool-tells, RefT, ptr-vals, mut-tells, Room, slice-vals, mut-slice-tells, plain, only, owned, nothing, onEntry, tripleOf, Contract, Triple, cited, says, Stays, stay-ref, stay-slice, walkOf, goes-ref, goes-slice, Walks, ends-at, walked, yes, givenOf, tablesOf, bool, stay-dropped, goes-dropped, fst∗}
+use Rattle.flic.proofs.Walk.{_≡_, refl, ap, subst, ℕ, Bool, [], _∷_, List, length, URA, fullShare, named, tyBool, Val, vbool, vptr, SProp, ent, emp, via, id⊢, ftrue, fat, Memory, Routine, Heap, Env, Calls, Loops, WpFn, Atoms, Fun, Given, Sq, runs, atRet, ‵, ⋆, _$_, _∵_, !, qed, move, keep, drop, rewrite, fjoin, suffices, frame, done, look, store, init, stop, hop, fld, from, load, of-opd, and-then, no-more, assigns, land, enter, alloc1, alloc0, params1, pass1, pass0, FmC, owns, Is, bool-vals, bool-tells, RefT, ptr-vals, mut-tells, Room, slice-vals, mut-slice-tells, plain, only, owned, nothing, onEntry, tripleOf, Contract, Triple, cited, says, Stays, stay-ref, stay-slice, walkOf, goes-ref, goes-slice, ends-at, yes, givenOf, tablesOf, bool, stay-dropped, goes-dropped, fst∗}
 use Rattle.lent_table.proofs.{Ends.concludes, Record.StoreDevice, Calls.Restore, Locals.Content, Locals.blank, Locals.holds, Locals.locals, Called.asks-nothing}
 use denote.Struct.Laws as LL
 use mathlib.Core.Path.{sym, _∙_}
@@ -92,19 +92,14 @@ module _ {M : Type 1} (𝓤 : URA M) (H : Heap 𝓤) (A : Atoms 𝓤) (W : Given
       keep ! (32 ∷ 33 ∷ 34 ∷ 35 ∷ 36 ∷ 37 ∷ 30 ∷ 31 ∷ 28 ∷ 29 ∷ 26 ∷ 27 ∷ 24 ∷ 25 ∷ 22 ∷ 23 ∷ 20 ∷ 21 ∷ 18 ∷ 19 ∷ 16 ∷ 17 ∷ 14 ∷ 15 ∷ 12 ∷ 13 ∷ 10 ∷ 11 ∷ 8 ∷ 9 ∷ 6 ∷ 7 ∷ 4 ∷ 5 ∷ 2 ∷ 3 ∷ 0 ∷ 1 ∷ []) $
       starts 𝓤 H A W mem′ run a room tyBool (vbool ais) Post C′ Λ fm known [] l₀ l₁ l₂ l₃ l₄ l₅ l₆ l₇ l₈ l₉ l₁₀ l₁₁ l₁₂ l₁₃ l₁₄ l₁₅ (λ w g. exits (a .c) (a .d) (a .t) (refused 14) (wrong-makes paperLimits ais (a .c) (a .d) (a .t) (λ e. w (e ∙ paper-sized .places))) refl g) f.Code.Mir.t-8 (λ right. calls-it C′ Λ fm known known-start l₀ l₁ l₂ l₃ l₄ l₅ l₆ l₇ l₈ l₉ l₁₀ l₁₁ l₁₂ l₁₃ l₁₄ l₁₅ (right ∙ sym (paper-sized .places)))))))))))))))))))
 
-module _ {M : Type 1} (𝓤 : URA M) (H : Heap 𝓤) (A : Atoms 𝓤) (W : Given 𝓤 H A) (mem′ : Memory → SProp 𝓤) (run : Routine → Fun 𝓤) where
-  walks : (C′ : Calls 𝓤 H) (Λ : Loops 𝓤 H) → FmC 𝓤 H (W .laws) C′ → Known 𝓤 H A mem′ run C′ → Triple 𝓤 (C′ start.Symbol.name) (Start 𝓤 H A mem′ run) → Walks 𝓤 H A f.ended stayed (WpFn 𝓤 H C′ Λ f.Code.function) (f.clauses 𝓤 H A mem′ run)
-  walks C′ Λ fm known k = walked 𝓤 H A f.ended stayed (f.clauses 𝓤 H A mem′ run) (WpFn 𝓤 H C′ Λ f.Code.function) (λ κs. (ptr-vals, (ptr-vals, (slice-vals, (bool-vals, tt)))))
-      (λ κs. (mut-tells (named 0) (κs .0) C.the-row, (mut-tells (named 1) (κs .1 .0) D.the-row, (mut-slice-tells (named 2) (κs .1 .1 .0) P.the-row, (bool-tells, tt)))))
-      (λ κs qs bounds a _ are. via 𝓤 _ (fst∗ 𝓤 _ (emp 𝓤)) (walk 𝓤 H A W mem′ run (refs (κs .0) (κs .1 .0) (κs .1 .1 .0) (qs .0) (qs .1 .0) (qs .1 .1 .0) (a .0) (a .1 .0) (a .1 .1 .0)) (a .1 .1 .1 .0) (are .1 .1 .0 .0 .1) C′ Λ fm known k))
-
 pub flic-make-spec : {M : Type 1} → f.Statement.statement M
 unfolding f.Code.routine tablesOf
 flic-make-spec 𝓤 H 𝓜 𝓖 𝓡 =
     concludes 𝓤 H 𝓜 𝓖 𝓡 f.ended stayed (f.clauses 𝓤 H (𝓖 .A) (𝓜 .mem) (𝓡 .run)) f.Code.env f.Key.name f.Code.function (f.Code.unfolded 𝓤 H 𝓜 𝓡)
     (goes-ref 𝓤 H (𝓖 .A) (givenOf 𝓤 H 𝓜 𝓖) 3 0 tt (plain (λ _. C.the-row)), (goes-ref 𝓤 H (𝓖 .A) (givenOf 𝓤 H 𝓜 𝓖) 3 1 tt (plain (λ _. D.the-row)), (goes-slice 𝓤 H (𝓖 .A) (givenOf 𝓤 H 𝓜 𝓖) 3 2 tt (plain (λ _. P.the-row)), (goes-dropped 𝓤 H (𝓖 .A) (givenOf 𝓤 H 𝓜 𝓖) 3 (plain (λ _. bool)) yes (λ κs x f. refl), tt))))
-    (λ fm. walks 𝓤 H (𝓖 .A) (givenOf 𝓤 H 𝓜 𝓖) (𝓜 .mem) (𝓡 .run) _ _ fm (record {
+    (λ κs. (ptr-vals, (ptr-vals, (slice-vals, (bool-vals, tt))))) (λ κs. (mut-tells (named 0) (κs .0) C.the-row, (mut-tells (named 1) (κs .1 .0) D.the-row, (mut-slice-tells (named 2) (κs .1 .1 .0) P.the-row, (bool-tells, tt)))))
+    (λ fm κs qs bounds a _ are. via 𝓤 _ (fst∗ 𝓤 _ (emp 𝓤)) (walk 𝓤 H (𝓖 .A) (givenOf 𝓤 H 𝓜 𝓖) (𝓜 .mem) (𝓡 .run) (refs (κs .0) (κs .1 .0) (κs .1 .1 .0) (qs .0) (qs .1 .0) (qs .1 .1 .0) (a .0) (a .1 .0) (a .1 .1 .0)) (a .1 .1 .1 .0) (are .1 .1 .0 .0 .1) _ _ fm (record {
       refuse = cited 𝓤 H (Refuse 𝓤 H (𝓖 .A) (𝓜 .mem) (𝓡 .run)) 𝓜 𝓡 f.Code.env refuse.Symbol.name refuse.Symbol.routine f.Code.calls-answers·refuse (refuse.Met.met 𝓤 H 𝓜 𝓖 𝓡);
       store-device = cited 𝓤 H (StoreDevice 𝓤 H (𝓖 .A) (𝓜 .mem) (𝓡 .run)) 𝓜 𝓡 f.Code.env store-device.Symbol.name store-device.Symbol.routine f.Code.calls-lent-table·store-device (store-device.Met.met 𝓤 H 𝓜 𝓖 𝓡);
       restore = cited 𝓤 H (Restore 𝓤 H (𝓖 .A) (𝓜 .mem) (𝓡 .run)) 𝓜 𝓡 f.Code.env restore.Symbol.name restore.Symbol.routine f.Code.calls-lent-table·restore (restore.Met.met 𝓤 H 𝓜 𝓖 𝓡);
-    }) (cited 𝓤 H (Start 𝓤 H (𝓖 .A) (𝓜 .mem) (𝓡 .run)) 𝓜 𝓡 f.Code.env start.Symbol.name start.Symbol.routine f.Code.calls-calls·start (start.Met.met 𝓤 H 𝓜 𝓖 𝓡)))
+    }) (cited 𝓤 H (Start 𝓤 H (𝓖 .A) (𝓜 .mem) (𝓡 .run)) 𝓜 𝓡 f.Code.env start.Symbol.name start.Symbol.routine f.Code.calls-calls·start (start.Met.met 𝓤 H 𝓜 𝓖 𝓡))))

@@ -1,5 +1,5 @@
 -- `flic_play_list`: what it shares with `flic_make` is in Fresh.antt. In between `play_list` is called, with the list.
-use Rattle.flic.proofs.Walk.{_≡_, refl, ap, subst, ℕ, Bool, true, by, lit, bin, store, hop, fld, of-opd, assigns, first, skips, branches, exec, returns-within, whole, sub, look-in, anyQ, afterSeq, Wp, atReturn, [], _∷_, List, length, URA, fullShare, named, w8, tyInt, tyRef, imm, Val, vbool, vptr, SProp, ent, id⊢, GName, Lft, Share, Fml, ftrue, fsep, flft, fat, Memory, Routine, Heap, Env, Calls, Loops, WpFn, Atoms, Fun, Given, Item, Sq, runs, atRet, ‵, ⋆, _⊛_, _$_, _∵_, !, qed, move, keep, drop, split, join, rewrite, fsplit, fjoin, suffices, frame, done, look, init, stop, from, load, and-then, no-more, land, enter, alloc1, alloc0, params1, pass1, pass0, FmC, owns, Is, bool-makes, u8, RefT, ptr-vals, mut-tells, sliceVal, sliceTy, ShrSlice, Room, slice-vals, mut-slice-tells, shr-slice-tells, plain, only, owned, nothing, onEntry, tripleOf, Contract, Triple, cited, says, Stays, stay-ref, stay-slice, walkOf, goes-ref, goes-slice, Walks, ends-at, walked, yes, givenOf, tablesOf, bool, needs, stay-dropped, goes-dropped, u64, w64, vint, uint-makes}
+use Rattle.flic.proofs.Walk.{_≡_, refl, ap, subst, ℕ, Bool, true, by, lit, bin, store, hop, fld, of-opd, assigns, first, skips, branches, exec, returns-within, whole, sub, look-in, anyQ, afterSeq, Wp, atReturn, [], _∷_, List, length, URA, fullShare, named, w8, tyInt, tyRef, imm, Val, vbool, vptr, SProp, ent, id⊢, GName, Lft, Share, Fml, ftrue, fsep, flft, fat, Memory, Routine, Heap, Env, Calls, Loops, WpFn, Atoms, Fun, Given, Item, Sq, runs, atRet, ‵, ⋆, _⊛_, _$_, _∵_, !, qed, move, keep, drop, split, join, rewrite, fsplit, fjoin, suffices, frame, done, look, init, stop, from, load, and-then, no-more, land, enter, alloc1, alloc0, params1, pass1, pass0, FmC, owns, Is, bool-makes, u8, RefT, ptr-vals, mut-tells, sliceVal, sliceTy, ShrSlice, Room, slice-vals, mut-slice-tells, shr-slice-tells, plain, only, owned, nothing, onEntry, tripleOf, Contract, Triple, cited, says, Stays, stay-ref, stay-slice, walkOf, goes-ref, goes-slice, ends-at, yes, givenOf, tablesOf, bool, needs, stay-dropped, goes-dropped, u64, w64, vint, uint-makes}
 use Rattle.lent_table.proofs.{Ends.concludes, Record.StoreDevice, Calls.Restore, Count.taken}
 use Rattle.numbers.proofs.Basics.{eqb, eqb-true, eqb-false, arith}
 use denote.Struct.Laws as LL
@@ -144,20 +144,15 @@ module _ {M : Type 1} (𝓤 : URA M) (H : Heap 𝓤) (A : Atoms 𝓤) (W : Given
       starts 𝓤 H A W mem′ run a room (sliceTy (tyRef (named 3) imm (tyInt w8))) sp Post C′ Λ fm known (‵ (flft κp qp) ∷ ‵ OwnP ∷ []) l₀ l₁ l₂ l₃ l₄ l₅ l₆ l₇ l₈ l₉ l₁₀ l₁₁ l₁₂ l₁₃ l₁₄ l₁₅
       (λ w g. wrong-exits (wrong-length (a .c) _ w) g) f.Code.Mir.t-8 (λ right gc gd. calls-it C′ Λ fm known known-play l₀ l₁ l₂ l₃ l₄ l₅ l₆ l₇ l₈ l₉ l₁₀ l₁₁ l₁₂ l₁₃ l₁₄ l₁₅ (right-length (a .c) _ right) gd gc)))))))))))))))))
 
-module _ {M : Type 1} (𝓤 : URA M) (H : Heap 𝓤) (A : Atoms 𝓤) (W : Given 𝓤 H A) (mem′ : Memory → SProp 𝓤) (run : Routine → Fun 𝓤) where
-  walks : (C′ : Calls 𝓤 H) (Λ : Loops 𝓤 H) → FmC 𝓤 H (W .laws) C′ → Known 𝓤 H A mem′ run C′ → Triple 𝓤 (C′ play-list.Symbol.name) (PlayList 𝓤 H A mem′ run) → Walks 𝓤 H A f.ended stayed (WpFn 𝓤 H C′ Λ f.Code.function) (f.clauses 𝓤 H A mem′ run)
-  walks C′ Λ fm known k = walked 𝓤 H A f.ended stayed (f.clauses 𝓤 H A mem′ run) (WpFn 𝓤 H C′ Λ f.Code.function) (λ κs. (ptr-vals, (ptr-vals, (slice-vals, (slice-vals, tt)))))
-      (λ κs. (mut-tells (named 0) (κs .0) C.the-row, (mut-tells (named 1) (κs .1 .0) D.the-row, (mut-slice-tells (named 2) (κs .1 .1 .0) P.the-row, (shr-slice-tells (named 3) (κs .1 .1 .1 .0) u8, tt)))))
-      (λ κs qs bounds a _ are. needs 𝓤 (length (a .1 .1 .0 .now) ≡ limitsOf (a .0 .now) .places → Valid (a .0 .now) (a .1 .0 .now) (a .1 .1 .0 .now)) _ (λ valid. walk 𝓤 H A W mem′ run (refs (κs .0) (κs .1 .0) (κs .1 .1 .0) (qs .0) (qs .1 .0) (qs .1 .1 .0) (a .0) (a .1 .0) (a .1 .1 .0)) (κs .1 .1 .1 .0) (qs .1 .1 .1 .0)
-      (a .1 .1 .1 .0 .ptr .0) (a .1 .1 .1 .0 .ptr .1) (a .1 .1 .1 .0 .name) (a .1 .1 .1 .0 .now) (are .1 .1 .0 .0 .1) (are .1 .1 .1 .0 .0 .1) valid C′ Λ fm known k))
-
 pub flic-play-list-spec : {M : Type 1} → f.Statement.statement M
 unfolding f.Code.routine tablesOf
 flic-play-list-spec 𝓤 H 𝓜 𝓖 𝓡 =
     concludes 𝓤 H 𝓜 𝓖 𝓡 f.ended stayed (f.clauses 𝓤 H (𝓖 .A) (𝓜 .mem) (𝓡 .run)) f.Code.env f.Key.name f.Code.function (f.Code.unfolded 𝓤 H 𝓜 𝓡)
     (goes-ref 𝓤 H (𝓖 .A) (givenOf 𝓤 H 𝓜 𝓖) 4 0 tt (plain (λ _. C.the-row)), (goes-ref 𝓤 H (𝓖 .A) (givenOf 𝓤 H 𝓜 𝓖) 4 1 tt (plain (λ _. D.the-row)), (goes-slice 𝓤 H (𝓖 .A) (givenOf 𝓤 H 𝓜 𝓖) 4 2 tt (plain (λ _. P.the-row)), (goes-dropped 𝓤 H (𝓖 .A) (givenOf 𝓤 H 𝓜 𝓖) 4 (shrSliceOf (3 ∷ []) tt (plain (λ _. u8))) yes (λ κs x f. refl), tt))))
-    (λ fm. walks 𝓤 H (𝓖 .A) (givenOf 𝓤 H 𝓜 𝓖) (𝓜 .mem) (𝓡 .run) _ _ fm (record {
+    (λ κs. (ptr-vals, (ptr-vals, (slice-vals, (slice-vals, tt))))) (λ κs. (mut-tells (named 0) (κs .0) C.the-row, (mut-tells (named 1) (κs .1 .0) D.the-row, (mut-slice-tells (named 2) (κs .1 .1 .0) P.the-row, (shr-slice-tells (named 3) (κs .1 .1 .1 .0) u8, tt)))))
+    (λ fm κs qs bounds a _ are. needs 𝓤 (length (a .1 .1 .0 .now) ≡ limitsOf (a .0 .now) .places → Valid (a .0 .now) (a .1 .0 .now) (a .1 .1 .0 .now)) _ (λ valid. walk 𝓤 H (𝓖 .A) (givenOf 𝓤 H 𝓜 𝓖) (𝓜 .mem) (𝓡 .run) (refs (κs .0) (κs .1 .0) (κs .1 .1 .0) (qs .0) (qs .1 .0) (qs .1 .1 .0) (a .0) (a .1 .0) (a .1 .1 .0)) (κs .1 .1 .1 .0) (qs .1 .1 .1 .0)
+    (a .1 .1 .1 .0 .ptr .0) (a .1 .1 .1 .0 .ptr .1) (a .1 .1 .1 .0 .name) (a .1 .1 .1 .0 .now) (are .1 .1 .0 .0 .1) (are .1 .1 .1 .0 .0 .1) valid _ _ fm (record {
       refuse = cited 𝓤 H (Refuse 𝓤 H (𝓖 .A) (𝓜 .mem) (𝓡 .run)) 𝓜 𝓡 f.Code.env refuse.Symbol.name refuse.Symbol.routine f.Code.calls-answers·refuse (refuse.Met.met 𝓤 H 𝓜 𝓖 𝓡);
       store-device = cited 𝓤 H (StoreDevice 𝓤 H (𝓖 .A) (𝓜 .mem) (𝓡 .run)) 𝓜 𝓡 f.Code.env store-device.Symbol.name store-device.Symbol.routine f.Code.calls-lent-table·store-device (store-device.Met.met 𝓤 H 𝓜 𝓖 𝓡);
       restore = cited 𝓤 H (Restore 𝓤 H (𝓖 .A) (𝓜 .mem) (𝓡 .run)) 𝓜 𝓡 f.Code.env restore.Symbol.name restore.Symbol.routine f.Code.calls-lent-table·restore (restore.Met.met 𝓤 H 𝓜 𝓖 𝓡);
-    }) (cited 𝓤 H (PlayList 𝓤 H (𝓖 .A) (𝓜 .mem) (𝓡 .run)) 𝓜 𝓡 f.Code.env play-list.Symbol.name play-list.Symbol.routine f.Code.calls-list-play·play-list (play-list.Met.met 𝓤 H 𝓜 𝓖 𝓡)))
+    }) (cited 𝓤 H (PlayList 𝓤 H (𝓖 .A) (𝓜 .mem) (𝓡 .run)) 𝓜 𝓡 f.Code.env play-list.Symbol.name play-list.Symbol.routine f.Code.calls-list-play·play-list (play-list.Met.met 𝓤 H 𝓜 𝓖 𝓡))))

@@ -1,6 +1,6 @@
 -- `flic_set`: the table's length is looked at first. Then the table, the device record and the controller are opened, the group decides which function is called, and all is
 -- closed at the exit. In between the walk holds their memory.
-use Rattle.flic.proofs.Walk.{_≡_, refl, sym, ap, subst, ℕ, _<_, _^_, Bool, true, false, [], _∷_, List, length, getD, URA, fullShare, named, erased, w8, w64, tyInt, tyBool, tyUnit, tyRef, imm, mut, Val, vunit, vint, vbool, vptr, SProp, ent, id⊢, GName, Lft, Share, Fml, ftrue, fsep, flft, fat, Memory, Routine, Heap, Env, Calls, Loops, WpFn, Atoms, Fun, givenOf, tablesOf, Given, Item, Sq, runs, atRet, ‵, ⋆, _⊛_, _$_, _∵_, !, qed, by, move, keep, drop, split, join, rewrite, fsplit, fjoin, suffices, frame, done, look, store, init, stop, hop, fld, from, load, lit, addr, of-opd, bin, and-then, no-more, assigns, land, enter, alloc1, alloc0, params1, pass1, pass0, agg, whole, sub, look-in, FmC, owns, Is, pointee, bool-makes, uint-vals, uint-tells, uint-makes, u8, u64, RefT, ptr-vals, mut-tells, sliceVal, sliceTy, ShrSlice, Room, slice-vals, mut-slice-tells, shr-slice-tells, plain, only, owned, nothing, onEntry, tripleOf, Contract, Triple, cited, says, Stays, stay-ref, stay-slice, walkOf, goes-ref, goes-slice, Walks, ends-at, walked, yes, _+_, _∙_, w32, tyArray, u32, bool, needs, stay-dropped, goes-dropped, Wp, afterSeq, atReturn, anyQ, first, skips, branches, exec, returns-within}
+use Rattle.flic.proofs.Walk.{_≡_, refl, sym, ap, subst, ℕ, _<_, _^_, Bool, true, false, [], _∷_, List, length, getD, URA, fullShare, named, erased, w8, w64, tyInt, tyBool, tyUnit, tyRef, imm, mut, Val, vunit, vint, vbool, vptr, SProp, ent, id⊢, GName, Lft, Share, Fml, ftrue, fsep, flft, fat, Memory, Routine, Heap, Env, Calls, Loops, WpFn, Atoms, Fun, givenOf, tablesOf, Given, Item, Sq, runs, atRet, ‵, ⋆, _⊛_, _$_, _∵_, !, qed, by, move, keep, drop, split, join, rewrite, fsplit, fjoin, suffices, frame, done, look, store, init, stop, hop, fld, from, load, lit, addr, of-opd, bin, and-then, no-more, assigns, land, enter, alloc1, alloc0, params1, pass1, pass0, agg, whole, sub, look-in, FmC, owns, Is, pointee, bool-makes, uint-vals, uint-tells, uint-makes, u8, u64, RefT, ptr-vals, mut-tells, sliceVal, sliceTy, ShrSlice, Room, slice-vals, mut-slice-tells, shr-slice-tells, plain, only, owned, nothing, onEntry, tripleOf, Contract, Triple, cited, says, Stays, stay-ref, stay-slice, walkOf, goes-ref, goes-slice, ends-at, yes, _+_, _∙_, w32, tyArray, u32, bool, needs, stay-dropped, goes-dropped, Wp, afterSeq, atReturn, anyQ, first, skips, branches, exec, returns-within}
 use Rattle.lent_table.proofs.{Ends.concludes, Count.afters, Count.taken, Places.FitsId, Places.fit-id, Places.typed-id, Places.makes-id, Record.ReadDevice, Record.NoteInjection, Record.reads-device, Record.notes-injection, Calls.LookUp, Calls.looks-up}
 use types.Kit.{post}
 use prog.Wp.{returns as returnsᴼ}
@@ -432,19 +432,14 @@ module _ {M : Type 1} (𝓤 : URA M) (H : Heap 𝓤) (A : Atoms 𝓤) (W : Given
       pass1 ! (init ! 72 refl (tt, tt)) $ pass1 ! (init ! 70 refl (tt, tt)) $ pass1 ! (init ! 68 refl (tt, (tt, (record { fits = room .0 }, tt)))) $ pass1 ! (init ! 66 refl (tt, record { fits = group-fits })) $ pass1 ! (init ! 64 refl (tt, record { fits = attr-fits })) $ pass1 ! (init ! 62 refl (tt, (tt, (record { fits = room-p .0 }, tt)))) $ pass0 ! $
       keep ! (76 ∷ 77 ∷ 78 ∷ 79 ∷ 80 ∷ 81 ∷ 82 ∷ 83 ∷ 74 ∷ 75 ∷ 72 ∷ 73 ∷ 70 ∷ 71 ∷ 68 ∷ 69 ∷ 66 ∷ 67 ∷ 64 ∷ 65 ∷ 62 ∷ 63 ∷ 60 ∷ 61 ∷ 58 ∷ 59 ∷ 56 ∷ 57 ∷ 54 ∷ 55 ∷ 52 ∷ 53 ∷ 50 ∷ 51 ∷ 48 ∷ 49 ∷ 46 ∷ 47 ∷ 44 ∷ 45 ∷ 42 ∷ 43 ∷ 40 ∷ 41 ∷ 38 ∷ 39 ∷ 36 ∷ 37 ∷ 34 ∷ 35 ∷ 32 ∷ 33 ∷ 30 ∷ 31 ∷ 28 ∷ 29 ∷ 26 ∷ 27 ∷ 24 ∷ 25 ∷ 22 ∷ 23 ∷ 20 ∷ 21 ∷ 18 ∷ 19 ∷ 16 ∷ 17 ∷ 14 ∷ 15 ∷ 12 ∷ 13 ∷ 10 ∷ 11 ∷ 8 ∷ 9 ∷ 6 ∷ 7 ∷ 4 ∷ 5 ∷ 2 ∷ 3 ∷ 0 ∷ 1 ∷ []) $ starts-it C′ Λ fm known l₀ l₁ l₂ l₃ l₄ l₅ l₆ l₇ l₈ l₉ l₁₀ l₁₁ l₁₂ l₁₃ l₁₄ l₁₅ l₁₆ l₁₇ l₁₈ l₁₉ l₂₀ l₂₁ l₂₂ l₂₃ l₂₄ l₂₅ l₂₆ l₂₇ l₂₈ l₂₉ l₃₀ l₃₁ l₃₂ l₃₃ l₃₄ l₃₅ l₃₆ l₃₇))))))))))))))))))))))))))))))))))))))
 
-module _ {M : Type 1} (𝓤 : URA M) (H : Heap 𝓤) (A : Atoms 𝓤) (W : Given 𝓤 H A) (mem′ : Memory → SProp 𝓤) (run : Routine → Fun 𝓤) where
-  walks : (C′ : Calls 𝓤 H) (Λ : Loops 𝓤 H) → FmC 𝓤 H (W .laws) C′ → Known 𝓤 H A mem′ run C′ → Walks 𝓤 H A f.ended stayed (WpFn 𝓤 H C′ Λ f.Code.function) (f.clauses 𝓤 H A mem′ run)
-  walks C′ Λ fm known = walked 𝓤 H A f.ended stayed (f.clauses 𝓤 H A mem′ run) (WpFn 𝓤 H C′ Λ f.Code.function) (λ κs. (ptr-vals, (ptr-vals, (slice-vals, (uint-vals w32, (uint-vals w64, (slice-vals, tt)))))))
-      (λ κs. (mut-tells (named 0) (κs .0) C.the-row, (mut-tells (named 1) (κs .1 .0) D.the-row, (mut-slice-tells (named 2) (κs .1 .1 .0) P.the-row, (uint-tells w32, (uint-tells w64, (shr-slice-tells (named 3) (κs .1 .1 .1 .0) u8, tt)))))))
-      (λ κs qs bounds a _ are. needs 𝓤 (length (a .1 .1 .0 .now) ≡ limitsOf (a .0 .now) .places → Valid (a .0 .now) (a .1 .0 .now) (a .1 .1 .0 .now)) _ (λ valid. walk 𝓤 H A W mem′ run (refs (κs .0) (κs .1 .0) (κs .1 .1 .0) (qs .0) (qs .1 .0) (qs .1 .1 .0) (a .0) (a .1 .0) (a .1 .1 .0)) (κs .1 .1 .1 .0) (qs .1 .1 .1 .0)
-      (a .1 .1 .1 .1 .1 .0 .ptr .0) (a .1 .1 .1 .1 .1 .0 .ptr .1) (a .1 .1 .1 .1 .1 .0 .name) (a .1 .1 .1 .0) (a .1 .1 .1 .1 .0) (a .1 .1 .1 .1 .1 .0 .now) (are .1 .1 .0 .0 .1) (are .1 .1 .1 .0 .1) (are .1 .1 .1 .1 .0 .1) (are .1 .1 .1 .1 .1 .0 .0 .1) valid C′ Λ fm known))
-
 pub flic-set-spec : {M : Type 1} → f.Statement.statement M
 unfolding f.Code.routine tablesOf
 flic-set-spec 𝓤 H 𝓜 𝓖 𝓡 =
     concludes 𝓤 H 𝓜 𝓖 𝓡 f.ended stayed (f.clauses 𝓤 H (𝓖 .A) (𝓜 .mem) (𝓡 .run)) f.Code.env f.Key.name f.Code.function (f.Code.unfolded 𝓤 H 𝓜 𝓡)
     (goes-ref 𝓤 H (𝓖 .A) (givenOf 𝓤 H 𝓜 𝓖) 4 0 tt (plain (λ _. C.the-row)), (goes-ref 𝓤 H (𝓖 .A) (givenOf 𝓤 H 𝓜 𝓖) 4 1 tt (plain (λ _. D.the-row)), (goes-slice 𝓤 H (𝓖 .A) (givenOf 𝓤 H 𝓜 𝓖) 4 2 tt (plain (λ _. P.the-row)), (goes-dropped 𝓤 H (𝓖 .A) (givenOf 𝓤 H 𝓜 𝓖) 4 (plain (λ _. u32)) yes (λ κs x f. refl), (goes-dropped 𝓤 H (𝓖 .A) (givenOf 𝓤 H 𝓜 𝓖) 4 (plain (λ _. u64)) yes (λ κs x f. refl), (goes-dropped 𝓤 H (𝓖 .A) (givenOf 𝓤 H 𝓜 𝓖) 4 (shrSliceOf (3 ∷ []) tt (plain (λ _. u8))) yes (λ κs x f. refl), tt))))))
-    (λ fm. walks 𝓤 H (𝓖 .A) (givenOf 𝓤 H 𝓜 𝓖) (𝓜 .mem) (𝓡 .run) _ _ fm (record {
+    (λ κs. (ptr-vals, (ptr-vals, (slice-vals, (uint-vals w32, (uint-vals w64, (slice-vals, tt))))))) (λ κs. (mut-tells (named 0) (κs .0) C.the-row, (mut-tells (named 1) (κs .1 .0) D.the-row, (mut-slice-tells (named 2) (κs .1 .1 .0) P.the-row, (uint-tells w32, (uint-tells w64, (shr-slice-tells (named 3) (κs .1 .1 .1 .0) u8, tt)))))))
+    (λ fm κs qs bounds a _ are. needs 𝓤 (length (a .1 .1 .0 .now) ≡ limitsOf (a .0 .now) .places → Valid (a .0 .now) (a .1 .0 .now) (a .1 .1 .0 .now)) _ (λ valid. walk 𝓤 H (𝓖 .A) (givenOf 𝓤 H 𝓜 𝓖) (𝓜 .mem) (𝓡 .run) (refs (κs .0) (κs .1 .0) (κs .1 .1 .0) (qs .0) (qs .1 .0) (qs .1 .1 .0) (a .0) (a .1 .0) (a .1 .1 .0)) (κs .1 .1 .1 .0) (qs .1 .1 .1 .0)
+    (a .1 .1 .1 .1 .1 .0 .ptr .0) (a .1 .1 .1 .1 .1 .0 .ptr .1) (a .1 .1 .1 .1 .1 .0 .name) (a .1 .1 .1 .0) (a .1 .1 .1 .1 .0) (a .1 .1 .1 .1 .1 .0 .now) (are .1 .1 .0 .0 .1) (are .1 .1 .1 .0 .1) (are .1 .1 .1 .1 .0 .1) (are .1 .1 .1 .1 .1 .0 .0 .1) valid _ _ fm (record {
       refuse = cited 𝓤 H (Refuse 𝓤 H (𝓖 .A) (𝓜 .mem) (𝓡 .run)) 𝓜 𝓡 f.Code.env refuse.Symbol.name refuse.Symbol.routine f.Code.calls-answers·refuse (refuse.Met.met 𝓤 H 𝓜 𝓖 𝓡);
       enqueue = cited 𝓤 H (Enqueue 𝓤 H (𝓖 .A) (𝓜 .mem) (𝓡 .run)) 𝓜 𝓡 f.Code.env enqueue.Symbol.name enqueue.Symbol.routine f.Code.calls-record-add·enqueue-irqs (enqueue.Met.met 𝓤 H 𝓜 𝓖 𝓡);
       by-fields = cited 𝓤 H (ByFields 𝓤 H (𝓖 .A) (𝓜 .mem) (𝓡 .run)) 𝓜 𝓡 f.Code.env by-fields.Symbol.name by-fields.Symbol.routine f.Code.calls-answers·by-fields (by-fields.Met.met 𝓤 H 𝓜 𝓖 𝓡);
@@ -457,4 +452,4 @@ flic-set-spec 𝓤 H 𝓜 𝓖 𝓡 =
       on-place = cited 𝓤 H (OnPlace 𝓤 H (𝓖 .A) (𝓜 .mem) (𝓡 .run)) 𝓜 𝓡 f.Code.env on-place.Symbol.name on-place.Symbol.routine f.Code.calls-adapter-requests·on-place (on-place.Met.met 𝓤 H 𝓜 𝓖 𝓡);
       set-place = cited 𝓤 H (SetPlace 𝓤 H (𝓖 .A) (𝓜 .mem) (𝓡 .run)) 𝓜 𝓡 f.Code.env set-place.Symbol.name set-place.Symbol.routine f.Code.calls-lent-requests·set-place (set-place.Met.met 𝓤 H 𝓜 𝓖 𝓡);
       set-modes = cited 𝓤 H (SetModes 𝓤 H (𝓖 .A) (𝓜 .mem) (𝓡 .run)) 𝓜 𝓡 f.Code.env set-modes.Symbol.name set-modes.Symbol.routine f.Code.calls-lent-requests·set-modes (set-modes.Met.met 𝓤 H 𝓜 𝓖 𝓡);
-    }))
+    })))

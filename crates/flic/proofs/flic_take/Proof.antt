@@ -1,5 +1,5 @@
 -- `flic_take`: the controller is opened at entry and closed at the exit; its four arrays, the slots shared, are lent to `take`, and the bytes are passed on.
-use Rattle.flic.proofs.Walk.{_≡_, refl, ℕ, _<_, _^_, Bool, [], _∷_, List, length, URA, fullShare, imm, named, erased, w8, w64, tyInt, tyBool, tyRef, mut, Val, vint, vbool, vptr, SProp, ent, id⊢, feq, GName, Lft, Share, Fml, ftrue, fsep, flft, fobs, fbor, Memory, Routine, Heap, Env, Calls, Loops, WpFn, Atoms, Fun, givenOf, tablesOf, Given, Item, Sq, runs, atRet, ‵, ⋆, _⊛_, _$_, _∵_, !, qed, by, move, keep, drop, split, join, fsplit, fsplit3, fjoin, fjoin3, feqL, feqI, suffices, frame, done, look, init, stop, hop, fld, from, load, addr, and-then, no-more, assigns, land, returns, enter, alloc1, alloc0, params1, pass1, pass0, agg, whole, sub, look-in, Body, FmC, owns, Is, mem, pointee, bool-vals, bool-tells, bool-makes, uint-vals, uint-tells, uint-makes, u8, RefT, MutRef, ptr-vals, mut-tells, finally, sliceVal, sliceTy, MutSlice, Room, slice-vals, mut-slice-tells, plain, owned, nothing, onEntry, tripleOf, Contract, Triple, cited, says, Stays, stay-ref, walkOf, goes-ref, Walks, ends-at, walked, yes, _+_, tyArray, bool, needs, stay-dropped, goes-dropped, gave-slice, goes-gave-slice}
+use Rattle.flic.proofs.Walk.{_≡_, refl, ℕ, _<_, _^_, Bool, [], _∷_, List, length, URA, fullShare, imm, named, erased, w8, w64, tyInt, tyBool, tyRef, mut, Val, vint, vbool, vptr, SProp, ent, id⊢, feq, GName, Lft, Share, Fml, ftrue, fsep, flft, fobs, fbor, Memory, Routine, Heap, Env, Calls, Loops, WpFn, Atoms, Fun, givenOf, tablesOf, Given, Item, Sq, runs, atRet, ‵, ⋆, _⊛_, _$_, _∵_, !, qed, by, move, keep, drop, split, join, fsplit, fsplit3, fjoin, fjoin3, feqL, feqI, suffices, frame, done, look, init, stop, hop, fld, from, load, addr, and-then, no-more, assigns, land, returns, enter, alloc1, alloc0, params1, pass1, pass0, agg, whole, sub, look-in, Body, FmC, owns, Is, mem, pointee, bool-vals, bool-tells, bool-makes, uint-vals, uint-tells, uint-makes, u8, RefT, MutRef, ptr-vals, mut-tells, finally, sliceVal, sliceTy, MutSlice, Room, slice-vals, mut-slice-tells, plain, owned, nothing, onEntry, tripleOf, Contract, Triple, cited, says, Stays, stay-ref, walkOf, goes-ref, ends-at, yes, _+_, tyArray, bool, needs, stay-dropped, goes-dropped, gave-slice, goes-gave-slice}
 use Rattle.lent_table.proofs.{Ends.concludes, Locals.Content, Locals.blank, Locals.holds, Locals.since, Locals.locals, Locals.frees-all, Locals.swaps}
 use denote.Struct.Laws as LL
 use Rattle.answers.specs.{declared.Answer.Answer, Answers.saw}
@@ -130,16 +130,11 @@ module _ {M : Type 1} (𝓤 : URA M) (H : Heap 𝓤) (A : Atoms 𝓤) (W : Given
       pass1 ! (init ! 20 refl (tt, tt)) $ pass1 ! (init ! 18 refl (tt, record { fits = fits })) $ pass1 ! (init ! 16 refl (tt, tt)) $ pass1 ! (init ! 14 refl (tt, tt)) $ pass1 ! (init ! 12 refl (tt, (tt, (record { fits = room .0 }, tt)))) $ pass0 ! $
       keep ! (24 ∷ 25 ∷ 26 ∷ 27 ∷ 22 ∷ 23 ∷ 20 ∷ 21 ∷ 18 ∷ 19 ∷ 16 ∷ 17 ∷ 14 ∷ 15 ∷ 12 ∷ 13 ∷ 10 ∷ 11 ∷ 8 ∷ 9 ∷ 6 ∷ 7 ∷ 4 ∷ 5 ∷ 2 ∷ 3 ∷ 0 ∷ 1 ∷ []) $ opens-it C′ Λ fm known l₀ l₁ l₂ l₃ l₄ l₅ l₆ l₇ l₈ l₉ l₁₀ l₁₁))))))))))))
 
-module _ {M : Type 1} (𝓤 : URA M) (H : Heap 𝓤) (A : Atoms 𝓤) (W : Given 𝓤 H A) (mem′ : Memory → SProp 𝓤) (run : Routine → Fun 𝓤) where
-  walks : (C′ : Calls 𝓤 H) (Λ : Loops 𝓤 H) → FmC 𝓤 H (W .laws) C′ → Triple 𝓤 (C′ take.Symbol.name) (Take 𝓤 H A mem′ run) → Walks 𝓤 H A f.ended stayed (WpFn 𝓤 H C′ Λ f.Code.function) (f.clauses 𝓤 H A mem′ run)
-  walks C′ Λ fm known = walked 𝓤 H A f.ended stayed (f.clauses 𝓤 H A mem′ run) (WpFn 𝓤 H C′ Λ f.Code.function) (λ κs. (ptr-vals, (uint-vals w8, (bool-vals, (bool-vals, (slice-vals, tt))))))
-      (λ κs. (mut-tells (named 0) (κs .0) C.the-row, (uint-tells w8, (bool-tells, (bool-tells, (mut-slice-tells (named 1) (κs .1 .0) u8, tt))))))
-      (λ κs qs bounds a _ are. needs 𝓤 (Ready (a .0 .now)) _ (λ ready. walk 𝓤 H A W mem′ run (κs .0) (κs .1 .0) (qs .0) (qs .1 .0) (a .0 .ptr .0) (a .0 .ptr .1) (a .1 .1 .1 .1 .0 .ptr .0) (a .1 .1 .1 .1 .0 .ptr .1)
-      (a .0 .name) (a .1 .1 .1 .1 .0 .name) (a .0 .now) (a .1 .0) (a .1 .1 .0) (a .1 .1 .1 .0) (a .1 .1 .1 .1 .0 .now) (are .1 .0 .1) (are .1 .1 .1 .1 .0 .0 .1) ready C′ Λ fm known))
-
 pub flic-take-spec : {M : Type 1} → f.Statement.statement M
 unfolding f.Code.routine tablesOf
 flic-take-spec 𝓤 H 𝓜 𝓖 𝓡 =
     concludes 𝓤 H 𝓜 𝓖 𝓡 f.ended stayed (f.clauses 𝓤 H (𝓖 .A) (𝓜 .mem) (𝓡 .run)) f.Code.env f.Key.name f.Code.function (f.Code.unfolded 𝓤 H 𝓜 𝓡)
     (goes-ref 𝓤 H (𝓖 .A) (givenOf 𝓤 H 𝓜 𝓖) 2 0 tt (plain (λ _. C.the-row)), (goes-dropped 𝓤 H (𝓖 .A) (givenOf 𝓤 H 𝓜 𝓖) 2 (plain (λ _. u8)) yes (λ κs x f. refl), (goes-dropped 𝓤 H (𝓖 .A) (givenOf 𝓤 H 𝓜 𝓖) 2 (plain (λ _. bool)) yes (λ κs x f. refl), (goes-dropped 𝓤 H (𝓖 .A) (givenOf 𝓤 H 𝓜 𝓖) 2 (plain (λ _. bool)) yes (λ κs x f. refl), (goes-gave-slice 𝓤 H (𝓖 .A) (givenOf 𝓤 H 𝓜 𝓖) 2 1 tt (plain (λ _. u8)), tt)))))
-    (λ fm. walks 𝓤 H (𝓖 .A) (givenOf 𝓤 H 𝓜 𝓖) (𝓜 .mem) (𝓡 .run) _ _ fm (cited 𝓤 H (Take 𝓤 H (𝓖 .A) (𝓜 .mem) (𝓡 .run)) 𝓜 𝓡 f.Code.env take.Symbol.name take.Symbol.routine f.Code.calls-record-take·take (take.Met.met 𝓤 H 𝓜 𝓖 𝓡)))
+    (λ κs. (ptr-vals, (uint-vals w8, (bool-vals, (bool-vals, (slice-vals, tt)))))) (λ κs. (mut-tells (named 0) (κs .0) C.the-row, (uint-tells w8, (bool-tells, (bool-tells, (mut-slice-tells (named 1) (κs .1 .0) u8, tt))))))
+    (λ fm κs qs bounds a _ are. needs 𝓤 (Ready (a .0 .now)) _ (λ ready. walk 𝓤 H (𝓖 .A) (givenOf 𝓤 H 𝓜 𝓖) (𝓜 .mem) (𝓡 .run) (κs .0) (κs .1 .0) (qs .0) (qs .1 .0) (a .0 .ptr .0) (a .0 .ptr .1) (a .1 .1 .1 .1 .0 .ptr .0) (a .1 .1 .1 .1 .0 .ptr .1)
+    (a .0 .name) (a .1 .1 .1 .1 .0 .name) (a .0 .now) (a .1 .0) (a .1 .1 .0) (a .1 .1 .1 .0) (a .1 .1 .1 .1 .0 .now) (are .1 .0 .1) (are .1 .1 .1 .1 .0 .0 .1) ready _ _ fm (cited 𝓤 H (Take 𝓤 H (𝓖 .A) (𝓜 .mem) (𝓡 .run)) 𝓜 𝓡 f.Code.env take.Symbol.name take.Symbol.routine f.Code.calls-record-take·take (take.Met.met 𝓤 H 𝓜 𝓖 𝓡))))

@@ -1,5 +1,5 @@
 -- `change_modes`: the record is opened, the mode function of the group is called, and the record is closed.
-use Rattle.lent_table.proofs.Walk.{_≡_, refl, sym, ap, subst, ℕ, _<_, _≤_, _^_, Bool, true, false, [], _∷_, List, length, URA, fullShare, named, erased, w8, w32, tyInt, tyBool, tyUnit, tyRef, imm, mut, Val, vunit, vint, vbool, vptr, SProp, ent, id⊢, GName, Lft, Share, Fml, ftrue, fsep, flft, fobs, fobor, fauth, fat, Memory, Routine, Heap, Env, Calls, Loops, Wp, WpFn, afterSeq, atReturn, Atoms, Fun, givenOf, tablesOf, Given, Item, Sq, runs, anyQ, atRet, ‵, ⋆, _⊛_, _$_, _∵_, !, qed, by, move, keep, drop, split, join, rewrite, fsplit, fsplit3, fjoin, fjoin3, feqI, suffices, frame, done, look, store, init, stop, hop, fld, from, load, lit, unit-lit, addr, of-opd, bin, and-then, no-more, assigns, first, skips, branches, exec, land, returns, returns-within, enter, alloc1, alloc0, params1, pass1, pass0, whole, sub, look-in, Body, FmC, owns, Is, shows, mem, cellAt, pointee, uint-vals, uint-tells, u8, u32, RefT, MutRef, ptr-vals, mut-tells, sliceVal, sliceTy, ShrSlice, Room, slice-vals, shr-slice-tells, plain, only, opens, closes, owned, peeks, nothing, spelt, onEntry, tripleOf, Contract, Triple, cited, needs, says, Stays, stay-ref, stay-dropped, walkOf, goes-ref, goes-dropped, Walks, ends-at, walked, yes}
+use Rattle.lent_table.proofs.Walk.{_≡_, refl, sym, ap, subst, ℕ, _<_, _≤_, _^_, Bool, true, false, [], _∷_, List, length, URA, fullShare, named, erased, w8, w32, tyInt, tyBool, tyUnit, tyRef, imm, mut, Val, vunit, vint, vbool, vptr, SProp, ent, id⊢, GName, Lft, Share, Fml, ftrue, fsep, flft, fobs, fobor, fauth, fat, Memory, Routine, Heap, Env, Calls, Loops, Wp, WpFn, afterSeq, atReturn, Atoms, Fun, givenOf, tablesOf, Given, Item, Sq, runs, anyQ, atRet, ‵, ⋆, _⊛_, _$_, _∵_, !, qed, by, move, keep, drop, split, join, rewrite, fsplit, fsplit3, fjoin, fjoin3, feqI, suffices, frame, done, look, store, init, stop, hop, fld, from, load, lit, unit-lit, addr, of-opd, bin, and-then, no-more, assigns, first, skips, branches, exec, land, returns, returns-within, enter, alloc1, alloc0, params1, pass1, pass0, whole, sub, look-in, Body, FmC, owns, Is, shows, mem, cellAt, pointee, uint-vals, uint-tells, u8, u32, RefT, MutRef, ptr-vals, mut-tells, sliceVal, sliceTy, ShrSlice, Room, slice-vals, shr-slice-tells, plain, only, opens, closes, owned, peeks, nothing, spelt, onEntry, tripleOf, Contract, Triple, cited, needs, says, Stays, stay-ref, stay-dropped, walkOf, goes-ref, goes-dropped, ends-at, yes}
 use Rattle.lent_table.proofs.{Ends.concludes, Count.after, Count.taken, Gives.at-list, Modes.FitsDevice, Modes.Had, Record.SetMode, Record.SetMasks, Record.SetFlag, Record.sets-mode, Record.sets-masks, Record.sets-flag}
 use Rattle.numbers.proofs.Basics.{eqb, _∙_, eqb-true, eqb-false}
 use denote.Struct.Laws as LL
@@ -213,22 +213,17 @@ module _ {M : Type 1} (𝓤 : URA M) (H : Heap 𝓤) (A : Atoms 𝓤) (W : Given
       keep ! (26 ∷ 27 ∷ 28 ∷ 29 ∷ 30 ∷ 24 ∷ 25 ∷ 22 ∷ 23 ∷ 20 ∷ 21 ∷ 18 ∷ 19 ∷ 16 ∷ 17 ∷ 14 ∷ 15 ∷ 12 ∷ 13 ∷ 10 ∷ 11 ∷ 8 ∷ 9 ∷ 6 ∷ 7 ∷ 4 ∷ 5 ∷ 2 ∷ 3 ∷ 0 ∷ 1 ∷ []) $
       starts C Λ fm known l₀ l₁ l₂ l₃ l₄ l₅ l₆ l₇ l₈ l₉ l₁₀ l₁₁ l₁₂)))))))))))))
 
-module _ {M : Type 1} (𝓤 : URA M) (H : Heap 𝓤) (A : Atoms 𝓤) (W : Given 𝓤 H A) (mem′ : Memory → SProp 𝓤) (run : Routine → Fun 𝓤) where
-  walks : (C : Calls 𝓤 H) (Λ : Loops 𝓤 H) → FmC 𝓤 H (W .laws) C → Known 𝓤 H A mem′ run C → Walks 𝓤 H A f.ended stayed (WpFn 𝓤 H C Λ f.Code.function) (f.clauses 𝓤 H A mem′ run)
-  walks C Λ fm known = walked 𝓤 H A f.ended stayed (f.clauses 𝓤 H A mem′ run) (WpFn 𝓤 H C Λ f.Code.function)
-      (λ κs. (ptr-vals, (uint-vals w32, (slice-vals, tt)))) (λ κs. (mut-tells (named 0) (κs .0) D.the-row, (uint-tells w32, (shr-slice-tells (named 1) (κs .1 .0) u8, tt))))
-      (λ κs qs bounds a _ are. needs 𝓤 (ModesAsked (a .1 .0) (a .1 .1 .0 .now)) _ (λ asked. walk 𝓤 H A W mem′ run (κs .0) (κs .1 .0) (qs .0) (qs .1 .0) (a .0 .ptr .0) (a .0 .ptr .1) (a .0 .name) (a .0 .now) (a .1 .0)
-      (a .1 .1 .0 .ptr .0) (a .1 .1 .0 .ptr .1) (a .1 .1 .0 .name) (a .1 .1 .0 .now) (are .1 .0 .1) (are .1 .1 .0 .0 .1) asked C Λ fm known))
-
 pub change-modes-spec : {M : Type 1} → f.Statement.statement M
 unfolding f.Code.routine tablesOf
 change-modes-spec 𝓤 H 𝓜 𝓖 𝓡 =
     concludes 𝓤 H 𝓜 𝓖 𝓡 f.ended stayed (f.clauses 𝓤 H (𝓖 .A) (𝓜 .mem) (𝓡 .run)) f.Code.env f.Key.name f.Code.function (f.Code.unfolded 𝓤 H 𝓜 𝓡)
     (goes-ref 𝓤 H (𝓖 .A) (givenOf 𝓤 H 𝓜 𝓖) 2 0 tt (plain (λ _. D.the-row)), (goes-dropped 𝓤 H (𝓖 .A) (givenOf 𝓤 H 𝓜 𝓖) 2 (plain (λ _. u32)) yes (λ κs x f. refl), (goes-dropped 𝓤 H (𝓖 .A) (givenOf 𝓤 H 𝓜 𝓖) 2 (shrSliceOf (1 ∷ []) tt (plain (λ _. u8))) yes (λ κs x f. refl), tt)))
-    (λ fm. walks 𝓤 H (𝓖 .A) (givenOf 𝓤 H 𝓜 𝓖) (𝓜 .mem) (𝓡 .run) _ _ fm (record {
+    (λ κs. (ptr-vals, (uint-vals w32, (slice-vals, tt)))) (λ κs. (mut-tells (named 0) (κs .0) D.the-row, (uint-tells w32, (shr-slice-tells (named 1) (κs .1 .0) u8, tt))))
+    (λ fm κs qs bounds a _ are. needs 𝓤 (ModesAsked (a .1 .0) (a .1 .1 .0 .now)) _ (λ asked. walk 𝓤 H (𝓖 .A) (givenOf 𝓤 H 𝓜 𝓖) (𝓜 .mem) (𝓡 .run) (κs .0) (κs .1 .0) (qs .0) (qs .1 .0) (a .0 .ptr .0) (a .0 .ptr .1) (a .0 .name) (a .0 .now) (a .1 .0)
+    (a .1 .1 .0 .ptr .0) (a .1 .1 .0 .ptr .1) (a .1 .1 .0 .name) (a .1 .1 .0 .now) (are .1 .0 .1) (are .1 .1 .0 .0 .1) asked _ _ fm (record {
       mode-in = cited 𝓤 H (ModeIn 𝓤 H (𝓖 .A) (𝓜 .mem) (𝓡 .run)) 𝓜 𝓡 f.Code.env mode-in.Symbol.name mode-in.Symbol.routine f.Code.calls-adapter-requests·mode-in (mode-in.Met.met 𝓤 H 𝓜 𝓖 𝓡);
       masks-in = cited 𝓤 H (MasksIn 𝓤 H (𝓖 .A) (𝓜 .mem) (𝓡 .run)) 𝓜 𝓡 f.Code.env masks-in.Symbol.name masks-in.Symbol.routine f.Code.calls-adapter-requests·masks-in (masks-in.Met.met 𝓤 H 𝓜 𝓖 𝓡);
       set-mode = cited 𝓤 H (SetMode 𝓤 H (𝓖 .A) (𝓜 .mem) (𝓡 .run)) 𝓜 𝓡 f.Code.env set-mode.Symbol.name set-mode.Symbol.routine f.Code.calls-lent-table·set-mode (set-mode.Met.met 𝓤 H 𝓜 𝓖 𝓡);
       set-masks = cited 𝓤 H (SetMasks 𝓤 H (𝓖 .A) (𝓜 .mem) (𝓡 .run)) 𝓜 𝓡 f.Code.env set-masks.Symbol.name set-masks.Symbol.routine f.Code.calls-lent-table·set-masks (set-masks.Met.met 𝓤 H 𝓜 𝓖 𝓡);
       set-flag = cited 𝓤 H (SetFlag 𝓤 H (𝓖 .A) (𝓜 .mem) (𝓡 .run)) 𝓜 𝓡 f.Code.env set-flag.Symbol.name set-flag.Symbol.routine f.Code.calls-lent-table·set-flag (set-flag.Met.met 𝓤 H 𝓜 𝓖 𝓡);
-    }))
+    })))

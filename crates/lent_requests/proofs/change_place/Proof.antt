@@ -1,5 +1,5 @@
 -- `change_place`: the table is opened, `register` or `mask` is called, and the table is closed.
-use Rattle.lent_table.proofs.Walk.{_≡_, refl, sym, ap, subst, ℕ, _<_, _^_, true, false, [], _∷_, List, length, getD, set, length-set, URA, fullShare, named, erased, w32, tyInt, tyBool, tyUnit, tyRef, mut, Val, vunit, vint, vbool, vptr, SProp, ent, emp, via, fst∗, GName, Lft, Share, ftrue, flft, fobs, fobor, fauth, Memory, Routine, Heap, Env, Calls, Loops, Wp, WpFn, afterSeq, atReturn, Atoms, Fun, givenOf, tablesOf, Given, Item, Sq, runs, anyQ, atRet, ‵, ⋆, _⊛_, _$_, _∵_, !, qed, by, move, keep, drop, split, join, fsplit, fjoin, feqI, suffices, frame, done, look, init, stop, hop, fld, from, load, lit, unit-lit, addr, of-opd, bin, and-then, no-more, assigns, first, skips, branches, exec, land, returns, returns-within, enter, alloc1, alloc0, params1, pass1, pass0, agg, whole, sub, look-in, FmC, owns, pointee, uint-vals, uint-tells, u32, RefT, sliceVal, sliceTy, MutSlice, Room, heres, codedHoleys, Held, row, at-slice, slice-vals, mut-slice-tells, pureI, plain, nothing, opens-slice, closes-slice, onEntry, Triple, cited, says, Stays, stay-slice, stay-dropped, walkOf, goes-slice, goes-dropped, Walks, ends-at, walked, yes}
+use Rattle.lent_table.proofs.Walk.{_≡_, refl, sym, ap, subst, ℕ, _<_, _^_, true, false, [], _∷_, List, length, getD, set, length-set, URA, fullShare, named, erased, w32, tyInt, tyBool, tyUnit, tyRef, mut, Val, vunit, vint, vbool, vptr, SProp, ent, emp, via, fst∗, GName, Lft, Share, ftrue, flft, fobs, fobor, fauth, Memory, Routine, Heap, Env, Calls, Loops, Wp, WpFn, afterSeq, atReturn, Atoms, Fun, givenOf, tablesOf, Given, Item, Sq, runs, anyQ, atRet, ‵, ⋆, _⊛_, _$_, _∵_, !, qed, by, move, keep, drop, split, join, fsplit, fjoin, feqI, suffices, frame, done, look, init, stop, hop, fld, from, load, lit, unit-lit, addr, of-opd, bin, and-then, no-more, assigns, first, skips, branches, exec, land, returns, returns-within, enter, alloc1, alloc0, params1, pass1, pass0, agg, whole, sub, look-in, FmC, owns, pointee, uint-vals, uint-tells, u32, RefT, sliceVal, sliceTy, MutSlice, Room, heres, codedHoleys, Held, row, at-slice, slice-vals, mut-slice-tells, pureI, plain, nothing, opens-slice, closes-slice, onEntry, Triple, cited, says, Stays, stay-slice, stay-dropped, walkOf, goes-slice, goes-dropped, ends-at, yes}
 use Rattle.lent_table.proofs.{Ends.concludes, Count.taken, Places.R, Places.slice-of, Places.low, Places.Fits, Places.FitsId, Places.typed, Places.typed-id, Slot.Have, Calls.Register, Calls.Mask, Calls.registers, Calls.masks}
 use lib.Dec.{eqb}
 use denote.Struct.Laws as LL
@@ -103,17 +103,10 @@ module _ {M : Type 1} (𝓤 : URA M) (H : Heap 𝓤) (A : Atoms 𝓤) (W : Given
       keep ! (24 ∷ 25 ∷ 26 ∷ 22 ∷ 23 ∷ 20 ∷ 21 ∷ 18 ∷ 19 ∷ 16 ∷ 17 ∷ 14 ∷ 15 ∷ 12 ∷ 13 ∷ 10 ∷ 11 ∷ 8 ∷ 9 ∷ 6 ∷ 7 ∷ 4 ∷ 5 ∷ 2 ∷ 3 ∷ 0 ∷ 1 ∷ []) $
       starts C Λ fm register mask l₀ l₁ l₂ l₃ l₄ l₅ l₆ l₇ l₈ l₉ l₁₀ l₁₁))))))))))))
 
-module _ {M : Type 1} (𝓤 : URA M) (H : Heap 𝓤) (A : Atoms 𝓤) (W : Given 𝓤 H A) (mem′ : Memory → SProp 𝓤) (run : Routine → Fun 𝓤) where
-  walks : (C : Calls 𝓤 H) (Λ : Loops 𝓤 H) → FmC 𝓤 H (W .laws) C → Triple 𝓤 (C register.Symbol.name) (Register 𝓤 H A mem′ run) → Triple 𝓤 (C mask.Symbol.name) (Mask 𝓤 H A mem′ run)
-      → Walks 𝓤 H A f.ended stayed (WpFn 𝓤 H C Λ f.Code.function) (f.clauses 𝓤 H A mem′ run)
-  walks C Λ fm register mask = walked 𝓤 H A f.ended stayed (f.clauses 𝓤 H A mem′ run) (WpFn 𝓤 H C Λ f.Code.function)
-      (λ κs. (slice-vals, (LL.vals I.the-type I.Laws.the-laws, (uint-vals w32, (LL.vals P.the-type P.Laws.the-laws, tt))))) (λ κs. (mut-slice-tells (named 0) (κs .0) R, (LL.tells I.the-type I.Laws.the-laws, (uint-tells w32, (LL.tells P.the-type P.Laws.the-laws, tt)))))
-      (λ κs qs bounds a _ are. via 𝓤 _ (fst∗ 𝓤 _ (emp 𝓤)) (walk 𝓤 H A W mem′ run (κs .0) (qs .0) (a .0 .ptr .0) (a .0 .ptr .1) (a .0 .name) (a .0 .now) (a .1 .0) (a .1 .1 .0) (a .1 .1 .1 .0) (are .0 .0 .1) (are .1 .0) (are .1 .1 .0 .1) (are .1 .1 .1 .0) C Λ fm register mask))
-
 pub change-place-spec : {M : Type 1} → f.Statement.statement M
 unfolding f.Code.routine tablesOf
 change-place-spec 𝓤 H 𝓜 𝓖 𝓡 =
     concludes 𝓤 H 𝓜 𝓖 𝓡 f.ended stayed (f.clauses 𝓤 H (𝓖 .A) (𝓜 .mem) (𝓡 .run)) f.Code.env f.Key.name f.Code.function (f.Code.unfolded 𝓤 H 𝓜 𝓡)
     (goes-slice 𝓤 H (𝓖 .A) (givenOf 𝓤 H 𝓜 𝓖) 1 0 tt (plain (λ _. R)), (goes-dropped 𝓤 H (𝓖 .A) (givenOf 𝓤 H 𝓜 𝓖) 1 (plain (λ _. I.the-row)) yes (λ κs x f. refl), (goes-dropped 𝓤 H (𝓖 .A) (givenOf 𝓤 H 𝓜 𝓖) 1 (plain (λ _. u32)) yes (λ κs x f. refl), (goes-dropped 𝓤 H (𝓖 .A) (givenOf 𝓤 H 𝓜 𝓖) 1 (plain (λ _. R)) yes (λ κs x f. refl), tt))))
-    (λ fm. walks 𝓤 H (𝓖 .A) (givenOf 𝓤 H 𝓜 𝓖) (𝓜 .mem) (𝓡 .run) _ _ fm (cited 𝓤 H (Register 𝓤 H (𝓖 .A) (𝓜 .mem) (𝓡 .run)) 𝓜 𝓡 f.Code.env register.Symbol.name register.Symbol.routine f.Code.calls-lent-table·register (register.Met.met 𝓤 H 𝓜 𝓖 𝓡))
-    (cited 𝓤 H (Mask 𝓤 H (𝓖 .A) (𝓜 .mem) (𝓡 .run)) 𝓜 𝓡 f.Code.env mask.Symbol.name mask.Symbol.routine f.Code.calls-lent-table·mask (mask.Met.met 𝓤 H 𝓜 𝓖 𝓡)))
+    (λ κs. (slice-vals, (LL.vals I.the-type I.Laws.the-laws, (uint-vals w32, (LL.vals P.the-type P.Laws.the-laws, tt))))) (λ κs. (mut-slice-tells (named 0) (κs .0) R, (LL.tells I.the-type I.Laws.the-laws, (uint-tells w32, (LL.tells P.the-type P.Laws.the-laws, tt)))))
+    (λ fm κs qs bounds a _ are. via 𝓤 _ (fst∗ 𝓤 _ (emp 𝓤)) (walk 𝓤 H (𝓖 .A) (givenOf 𝓤 H 𝓜 𝓖) (𝓜 .mem) (𝓡 .run) (κs .0) (qs .0) (a .0 .ptr .0) (a .0 .ptr .1) (a .0 .name) (a .0 .now) (a .1 .0) (a .1 .1 .0) (a .1 .1 .1 .0) (are .0 .0 .1) (are .1 .0) (are .1 .1 .0 .1) (are .1 .1 .1 .0) _ _ fm (cited 𝓤 H (Register 𝓤 H (𝓖 .A) (𝓜 .mem) (𝓡 .run)) 𝓜 𝓡 f.Code.env register.Symbol.name register.Symbol.routine f.Code.calls-lent-table·register (register.Met.met 𝓤 H 𝓜 𝓖 𝓡)) (cited 𝓤 H (Mask 𝓤 H (𝓖 .A) (𝓜 .mem) (𝓡 .run)) 𝓜 𝓡 f.Code.env mask.Symbol.name mask.Symbol.routine f.Code.calls-lent-table·mask (mask.Met.met 𝓤 H 𝓜 𝓖 𝓡))))

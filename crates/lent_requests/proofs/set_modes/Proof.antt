@@ -1,5 +1,5 @@
 -- `set_modes`: the code decides; where it is 0 the record is opened, `change_modes` is called, and the record is closed.
-use Rattle.lent_table.proofs.Walk.{_≡_, refl, sym, ap, subst, ℕ, _<_, _^_, Bool, true, false, [], _∷_, List, length, set, URA, fullShare, named, erased, w8, w32, w64, tyInt, tyBool, tyUnit, tyRef, imm, mut, Val, vunit, vint, vbool, vptr, SProp, ent, id⊢, GName, Lft, Share, Fml, ftrue, fsep, flft, fobs, fobor, fauth, fat, Memory, Routine, Heap, Env, Calls, Loops, Wp, WpFn, afterSeq, atReturn, Atoms, sem, Fun, givenOf, tablesOf, Given, Item, Sq, runs, anyQ, atRet, ‵, ⋆, _⊛_, _$_, _∵_, !, qed, by, move, keep, drop, split, join, rewrite, fsplit, fsplit3, fjoin, fjoin3, feqI, suffices, frame, done, look, init, stop, hop, from, load, lit, addr, bin, and-then, no-more, assigns, first, skips, branches, exec, land, returns, returns-within, enter, alloc1, alloc0, params1, pass1, pass0, Body, FmC, owns, Is, shows, mem, cellAt, pointee, bool-vals, bool-tells, bool-makes, uint-vals, uint-tells, uint-makes, uint-lawful, u8, u32, u64, bool, unit, RefT, MutRef, ptr-vals, mut-tells, sliceVal, sliceTy, ShrSlice, Room, slice-vals, shr-slice-tells, plain, only, opens, closes, owned, peeks, nothing, spelt, onEntry, tripleOf, Contract, Triple, cited, needs, says, Stays, stay-ref, stay-dropped, walkOf, goes-ref, goes-dropped, Walks, ends-at, walked, yes}
+use Rattle.lent_table.proofs.Walk.{_≡_, refl, sym, ap, subst, ℕ, _<_, _^_, Bool, true, false, [], _∷_, List, length, set, URA, fullShare, named, erased, w8, w32, w64, tyInt, tyBool, tyUnit, tyRef, imm, mut, Val, vunit, vint, vbool, vptr, SProp, ent, id⊢, GName, Lft, Share, Fml, ftrue, fsep, flft, fobs, fobor, fauth, fat, Memory, Routine, Heap, Env, Calls, Loops, Wp, WpFn, afterSeq, atReturn, Atoms, sem, Fun, givenOf, tablesOf, Given, Item, Sq, runs, anyQ, atRet, ‵, ⋆, _⊛_, _$_, _∵_, !, qed, by, move, keep, drop, split, join, rewrite, fsplit, fsplit3, fjoin, fjoin3, feqI, suffices, frame, done, look, init, stop, hop, from, load, lit, addr, bin, and-then, no-more, assigns, first, skips, branches, exec, land, returns, returns-within, enter, alloc1, alloc0, params1, pass1, pass0, Body, FmC, owns, Is, shows, mem, cellAt, pointee, bool-vals, bool-tells, bool-makes, uint-vals, uint-tells, uint-makes, uint-lawful, u8, u32, u64, bool, unit, RefT, MutRef, ptr-vals, mut-tells, sliceVal, sliceTy, ShrSlice, Room, slice-vals, shr-slice-tells, plain, only, opens, closes, owned, peeks, nothing, spelt, onEntry, tripleOf, Contract, Triple, cited, needs, says, Stays, stay-ref, stay-dropped, walkOf, goes-ref, goes-dropped, ends-at, yes}
 use Rattle.lent_table.proofs.{Ends.concludes, Count.taken, Gives.at-list, Gives.LentCell, Modes.FitsDevice, Modes.Had}
 use Rattle.numbers.proofs.Basics.{eqb, not, eqb-true, eqb-false}
 use denote.Struct.Laws as LL
@@ -154,21 +154,16 @@ module _ {M : Type 1} (𝓤 : URA M) (H : Heap 𝓤) (A : Atoms 𝓤) (W : Given
       keep ! (20 ∷ 21 ∷ 22 ∷ 23 ∷ 24 ∷ 18 ∷ 19 ∷ 16 ∷ 17 ∷ 14 ∷ 15 ∷ 12 ∷ 13 ∷ 10 ∷ 11 ∷ 8 ∷ 9 ∷ 6 ∷ 7 ∷ 4 ∷ 5 ∷ 2 ∷ 3 ∷ 0 ∷ 1 ∷ []) $
       starts C Λ fm known l₀ l₁ l₂ l₃ l₄ l₅ l₆ l₇ l₈ l₉))))))))))
 
-module _ {M : Type 1} (𝓤 : URA M) (H : Heap 𝓤) (A : Atoms 𝓤) (W : Given 𝓤 H A) (mem′ : Memory → SProp 𝓤) (run : Routine → Fun 𝓤) where
-  walks : (C : Calls 𝓤 H) (Λ : Loops 𝓤 H) → FmC 𝓤 H (W .laws) C → Known 𝓤 H A mem′ run C → Walks 𝓤 H A f.ended stayed (WpFn 𝓤 H C Λ f.Code.function) (f.clauses 𝓤 H A mem′ run)
-  walks C Λ fm known = walked 𝓤 H A f.ended stayed (f.clauses 𝓤 H A mem′ run) (WpFn 𝓤 H C Λ f.Code.function)
-      (λ κs. (ptr-vals, (bool-vals, (uint-vals w32, (uint-vals w64, (slice-vals, tt)))))) (λ κs. (mut-tells (named 0) (κs .0) D.the-row, (bool-tells, (uint-tells w32, (uint-tells w64, (shr-slice-tells (named 1) (κs .1 .0) u8, tt))))))
-      (λ κs qs bounds a _ are. needs 𝓤 (Others (a .1 .1 .0)) _ (λ other. walk 𝓤 H A W mem′ run (κs .0) (κs .1 .0) (qs .0) (qs .1 .0) (a .0 .ptr .0) (a .0 .ptr .1) (a .0 .name) (a .0 .now) (a .1 .0) (a .1 .1 .0) (a .1 .1 .1 .0)
-      (a .1 .1 .1 .1 .0 .ptr .0) (a .1 .1 .1 .1 .0 .ptr .1) (a .1 .1 .1 .1 .0 .name) (a .1 .1 .1 .1 .0 .now) (are .1 .1 .0 .1) (are .1 .1 .1 .0 .1) (are .1 .1 .1 .1 .0 .0 .1) other C Λ fm known))
-
 pub set-modes-spec : {M : Type 1} → f.Statement.statement M
 unfolding f.Code.routine tablesOf
 set-modes-spec 𝓤 H 𝓜 𝓖 𝓡 =
     concludes 𝓤 H 𝓜 𝓖 𝓡 f.ended stayed (f.clauses 𝓤 H (𝓖 .A) (𝓜 .mem) (𝓡 .run)) f.Code.env f.Key.name f.Code.function (f.Code.unfolded 𝓤 H 𝓜 𝓡)
     (goes-ref 𝓤 H (𝓖 .A) (givenOf 𝓤 H 𝓜 𝓖) 2 0 tt (plain (λ _. D.the-row)), (goes-dropped 𝓤 H (𝓖 .A) (givenOf 𝓤 H 𝓜 𝓖) 2 (plain (λ _. bool)) yes (λ κs x f. refl), (goes-dropped 𝓤 H (𝓖 .A) (givenOf 𝓤 H 𝓜 𝓖) 2 (plain (λ _. u32)) yes (λ κs x f. refl), (goes-dropped 𝓤 H (𝓖 .A) (givenOf 𝓤 H 𝓜 𝓖) 2 (plain (λ _. u64)) yes (λ κs x f. refl), (goes-dropped 𝓤 H (𝓖 .A) (givenOf 𝓤 H 𝓜 𝓖) 2 (shrSliceOf (1 ∷ []) tt (plain (λ _. u8))) yes (λ κs x f. refl), tt)))))
-    (λ fm. walks 𝓤 H (𝓖 .A) (givenOf 𝓤 H 𝓜 𝓖) (𝓜 .mem) (𝓡 .run) _ _ fm (record {
+    (λ κs. (ptr-vals, (bool-vals, (uint-vals w32, (uint-vals w64, (slice-vals, tt)))))) (λ κs. (mut-tells (named 0) (κs .0) D.the-row, (bool-tells, (uint-tells w32, (uint-tells w64, (shr-slice-tells (named 1) (κs .1 .0) u8, tt))))))
+    (λ fm κs qs bounds a _ are. needs 𝓤 (Others (a .1 .1 .0)) _ (λ other. walk 𝓤 H (𝓖 .A) (givenOf 𝓤 H 𝓜 𝓖) (𝓜 .mem) (𝓡 .run) (κs .0) (κs .1 .0) (qs .0) (qs .1 .0) (a .0 .ptr .0) (a .0 .ptr .1) (a .0 .name) (a .0 .now) (a .1 .0) (a .1 .1 .0) (a .1 .1 .1 .0)
+    (a .1 .1 .1 .1 .0 .ptr .0) (a .1 .1 .1 .1 .0 .ptr .1) (a .1 .1 .1 .1 .0 .name) (a .1 .1 .1 .1 .0 .now) (are .1 .1 .0 .1) (are .1 .1 .1 .0 .1) (are .1 .1 .1 .1 .0 .0 .1) other _ _ fm (record {
       modes-code = cited 𝓤 H (ModesCode 𝓤 H (𝓖 .A) (𝓜 .mem) (𝓡 .run)) 𝓜 𝓡 f.Code.env modes-code.Symbol.name modes-code.Symbol.routine f.Code.calls-adapter-requests·modes-code (modes-code.Met.met 𝓤 H 𝓜 𝓖 𝓡);
       change-modes = cited 𝓤 H (ChangeModes 𝓤 H (𝓖 .A) (𝓜 .mem) (𝓡 .run)) 𝓜 𝓡 f.Code.env change-modes.Symbol.name change-modes.Symbol.routine f.Code.calls-lent-requests·change-modes (change-modes.Met.met 𝓤 H 𝓜 𝓖 𝓡);
       refuse = cited 𝓤 H (Refuse 𝓤 H (𝓖 .A) (𝓜 .mem) (𝓡 .run)) 𝓜 𝓡 f.Code.env refuse.Symbol.name refuse.Symbol.routine f.Code.calls-answers·refuse (refuse.Met.met 𝓤 H 𝓜 𝓖 𝓡);
       accept = cited 𝓤 H (Accept 𝓤 H (𝓖 .A) (𝓜 .mem) (𝓡 .run)) 𝓜 𝓡 f.Code.env accept.Symbol.name accept.Symbol.routine f.Code.calls-answers·accept (accept.Met.met 𝓤 H 𝓜 𝓖 𝓡);
-    }))
+    })))

@@ -1,5 +1,5 @@
 -- `set_place`: the table is opened, the place of the payload's id is looked up, and the code decides; where it is 0 `change_place` is called. Then the table is closed.
-use Rattle.lent_table.proofs.Walk.{_≡_, refl, sym, ap, subst, ℕ, _<_, _^_, true, false, [], _∷_, List, length, getD, set, URA, fullShare, named, erased, w8, w32, w64, tyInt, tyBool, tyUnit, tyRef, imm, mut, Val, vunit, vint, vbool, vptr, SProp, ent, sep, id⊢, GName, Lft, Share, Fml, ftrue, fsep, flft, fobs, fobor, fauth, fat, Memory, Routine, Heap, Env, Calls, Loops, Wp, WpFn, afterSeq, atReturn, Atoms, sem, Fun, givenOf, tablesOf, Given, Item, Sq, runs, anyQ, atRet, ‵, ⋆, _⊛_, _$_, _∵_, !, qed, by, move, keep, drop, split, join, rewrite, fsplit, fjoin, suffices, frame, done, look, init, stop, hop, fld, from, load, lit, addr, bin, and-then, no-more, assigns, first, skips, branches, exec, land, returns, returns-within, enter, alloc1, alloc0, params1, pass1, pass0, agg, whole, sub, look-in, FmC, owns, Is, pointee, uint-vals, uint-tells, uint-makes, uint-lawful, u8, u32, u64, RefT, sliceVal, sliceTy, MutSlice, ShrSlice, Room, heres, codedHoleys, at-slice, slice-vals, mut-slice-tells, shr-slice-tells, pureI, Held, row, opens-slice, closes-slice, plain, only, owned, nothing, onEntry, tripleOf, Contract, Triple, cited, needs, says, Stays, stay-slice, stay-dropped, walkOf, goes-slice, goes-dropped, Walks, ends-at, walked, yes}
+use Rattle.lent_table.proofs.Walk.{_≡_, refl, sym, ap, subst, ℕ, _<_, _^_, true, false, [], _∷_, List, length, getD, set, URA, fullShare, named, erased, w8, w32, w64, tyInt, tyBool, tyUnit, tyRef, imm, mut, Val, vunit, vint, vbool, vptr, SProp, ent, sep, id⊢, GName, Lft, Share, Fml, ftrue, fsep, flft, fobs, fobor, fauth, fat, Memory, Routine, Heap, Env, Calls, Loops, Wp, WpFn, afterSeq, atReturn, Atoms, sem, Fun, givenOf, tablesOf, Given, Item, Sq, runs, anyQ, atRet, ‵, ⋆, _⊛_, _$_, _∵_, !, qed, by, move, keep, drop, split, join, rewrite, fsplit, fjoin, suffices, frame, done, look, init, stop, hop, fld, from, load, lit, addr, bin, and-then, no-more, assigns, first, skips, branches, exec, land, returns, returns-within, enter, alloc1, alloc0, params1, pass1, pass0, agg, whole, sub, look-in, FmC, owns, Is, pointee, uint-vals, uint-tells, uint-makes, uint-lawful, u8, u32, u64, RefT, sliceVal, sliceTy, MutSlice, ShrSlice, Room, heres, codedHoleys, at-slice, slice-vals, mut-slice-tells, shr-slice-tells, pureI, Held, row, opens-slice, closes-slice, plain, only, owned, nothing, onEntry, tripleOf, Contract, Triple, cited, needs, says, Stays, stay-slice, stay-dropped, walkOf, goes-slice, goes-dropped, ends-at, yes}
 use Rattle.lent_table.proofs.{Ends.concludes, Count.taken, Gives.at-list, Gives.changes-row, Gives.Lent, Slot.Have, Calls.LookUp, Calls.looks-up, Called.asks-nothing}
 use Rattle.numbers.proofs.Basics.{eqb, not, _∙_, eqb-true, eqb-false, arith}
 use denote.Struct.Laws as LL
@@ -231,19 +231,14 @@ module _ {M : Type 1} (𝓤 : URA M) (H : Heap 𝓤) (A : Atoms 𝓤) (W : Given
       keep ! (30 ∷ 31 ∷ 32 ∷ 33 ∷ 34 ∷ 28 ∷ 29 ∷ 26 ∷ 27 ∷ 24 ∷ 25 ∷ 22 ∷ 23 ∷ 20 ∷ 21 ∷ 18 ∷ 19 ∷ 16 ∷ 17 ∷ 14 ∷ 15 ∷ 12 ∷ 13 ∷ 10 ∷ 11 ∷ 8 ∷ 9 ∷ 6 ∷ 7 ∷ 4 ∷ 5 ∷ 2 ∷ 3 ∷ 0 ∷ 1 ∷ []) $
       starts C Λ fm known l₀ l₁ l₂ l₃ l₄ l₅ l₆ l₇ l₈ l₉ l₁₀ l₁₁ l₁₂ l₁₃ l₁₄)))))))))))))))
 
-module _ {M : Type 1} (𝓤 : URA M) (H : Heap 𝓤) (A : Atoms 𝓤) (W : Given 𝓤 H A) (mem′ : Memory → SProp 𝓤) (run : Routine → Fun 𝓤) where
-  walks : (C : Calls 𝓤 H) (Λ : Loops 𝓤 H) → FmC 𝓤 H (W .laws) C → Known 𝓤 H A mem′ run C → Walks 𝓤 H A f.ended stayed (WpFn 𝓤 H C Λ f.Code.function) (f.clauses 𝓤 H A mem′ run)
-  walks C Λ fm known = walked 𝓤 H A f.ended stayed (f.clauses 𝓤 H A mem′ run) (WpFn 𝓤 H C Λ f.Code.function)
-      (λ κs. (slice-vals, (uint-vals w32, (uint-vals w64, (slice-vals, tt))))) (λ κs. (mut-slice-tells (named 0) (κs .0) R, (uint-tells w32, (uint-tells w64, (shr-slice-tells (named 1) (κs .1 .0) u8, tt)))))
-      (λ κs qs bounds a _ are. needs 𝓤 (onPlace (a .1 .0) ≡ true) _ (λ on. walk 𝓤 H A W mem′ run (κs .0) (κs .1 .0) (qs .0) (qs .1 .0) (a .0 .ptr .0) (a .0 .ptr .1) (a .0 .name) (a .0 .now) (a .1 .0) (a .1 .1 .0)
-      (a .1 .1 .1 .0 .ptr .0) (a .1 .1 .1 .0 .ptr .1) (a .1 .1 .1 .0 .name) (a .1 .1 .1 .0 .now) (are .0 .0 .1) (are .1 .0 .1) (are .1 .1 .0 .1) (are .1 .1 .1 .0 .0 .1) on C Λ fm known))
-
 pub set-place-spec : {M : Type 1} → f.Statement.statement M
 unfolding f.Code.routine tablesOf
 set-place-spec 𝓤 H 𝓜 𝓖 𝓡 =
     concludes 𝓤 H 𝓜 𝓖 𝓡 f.ended stayed (f.clauses 𝓤 H (𝓖 .A) (𝓜 .mem) (𝓡 .run)) f.Code.env f.Key.name f.Code.function (f.Code.unfolded 𝓤 H 𝓜 𝓡)
     (goes-slice 𝓤 H (𝓖 .A) (givenOf 𝓤 H 𝓜 𝓖) 2 0 tt (plain (λ _. R)), (goes-dropped 𝓤 H (𝓖 .A) (givenOf 𝓤 H 𝓜 𝓖) 2 (plain (λ _. u32)) yes (λ κs x f. refl), (goes-dropped 𝓤 H (𝓖 .A) (givenOf 𝓤 H 𝓜 𝓖) 2 (plain (λ _. u64)) yes (λ κs x f. refl), (goes-dropped 𝓤 H (𝓖 .A) (givenOf 𝓤 H 𝓜 𝓖) 2 (shrSliceOf (1 ∷ []) tt (plain (λ _. u8))) yes (λ κs x f. refl), tt))))
-    (λ fm. walks 𝓤 H (𝓖 .A) (givenOf 𝓤 H 𝓜 𝓖) (𝓜 .mem) (𝓡 .run) _ _ fm (record {
+    (λ κs. (slice-vals, (uint-vals w32, (uint-vals w64, (slice-vals, tt))))) (λ κs. (mut-slice-tells (named 0) (κs .0) R, (uint-tells w32, (uint-tells w64, (shr-slice-tells (named 1) (κs .1 .0) u8, tt)))))
+    (λ fm κs qs bounds a _ are. needs 𝓤 (onPlace (a .1 .0) ≡ true) _ (λ on. walk 𝓤 H (𝓖 .A) (givenOf 𝓤 H 𝓜 𝓖) (𝓜 .mem) (𝓡 .run) (κs .0) (κs .1 .0) (qs .0) (qs .1 .0) (a .0 .ptr .0) (a .0 .ptr .1) (a .0 .name) (a .0 .now) (a .1 .0) (a .1 .1 .0)
+    (a .1 .1 .1 .0 .ptr .0) (a .1 .1 .1 .0 .ptr .1) (a .1 .1 .1 .0 .name) (a .1 .1 .1 .0 .now) (are .0 .0 .1) (are .1 .0 .1) (are .1 .1 .0 .1) (are .1 .1 .1 .0 .0 .1) on _ _ fm (record {
       payload-id = cited 𝓤 H (PayloadId 𝓤 H (𝓖 .A) (𝓜 .mem) (𝓡 .run)) 𝓜 𝓡 f.Code.env payload-id.Symbol.name payload-id.Symbol.routine f.Code.calls-adapter-requests·payload-id (payload-id.Met.met 𝓤 H 𝓜 𝓖 𝓡);
       look-up = cited 𝓤 H (LookUp 𝓤 H (𝓖 .A) (𝓜 .mem) (𝓡 .run)) 𝓜 𝓡 f.Code.env look-up.Symbol.name look-up.Symbol.routine f.Code.calls-lent-table·look-up (look-up.Met.met 𝓤 H 𝓜 𝓖 𝓡);
       place-code = cited 𝓤 H (PlaceCode 𝓤 H (𝓖 .A) (𝓜 .mem) (𝓡 .run)) 𝓜 𝓡 f.Code.env place-code.Symbol.name place-code.Symbol.routine f.Code.calls-adapter-requests·place-code (place-code.Met.met 𝓤 H 𝓜 𝓖 𝓡);
@@ -251,4 +246,4 @@ set-place-spec 𝓤 H 𝓜 𝓖 𝓡 =
       change-place = cited 𝓤 H (ChangePlace 𝓤 H (𝓖 .A) (𝓜 .mem) (𝓡 .run)) 𝓜 𝓡 f.Code.env change-place.Symbol.name change-place.Symbol.routine f.Code.calls-lent-requests·change-place (change-place.Met.met 𝓤 H 𝓜 𝓖 𝓡);
       refuse = cited 𝓤 H (Refuse 𝓤 H (𝓖 .A) (𝓜 .mem) (𝓡 .run)) 𝓜 𝓡 f.Code.env refuse.Symbol.name refuse.Symbol.routine f.Code.calls-answers·refuse (refuse.Met.met 𝓤 H 𝓜 𝓖 𝓡);
       accept = cited 𝓤 H (Accept 𝓤 H (𝓖 .A) (𝓜 .mem) (𝓡 .run)) 𝓜 𝓡 f.Code.env accept.Symbol.name accept.Symbol.routine f.Code.calls-answers·accept (accept.Met.met 𝓤 H 𝓜 𝓖 𝓡);
-    }))
+    })))

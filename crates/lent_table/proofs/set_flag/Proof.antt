@@ -1,5 +1,5 @@
 -- `set_flag`: the page-fault flag, by `lent_table::apf_set`. As in Modes.antt, with one parameter beside the record.
-use Rattle.lent_table.proofs.Walk.{_≡_, refl, ap, subst, ℕ, Bool, [], _∷_, List, URA, fullShare, named, tyBool, tyUnit, tyRef, mut, Val, vunit, vbool, vptr, SProp, ent, emp, via, fst∗, id⊢, GName, Lft, Share, ftrue, fsep, flft, fobs, fobor, fauth, fat, Memory, Routine, Heap, Env, Calls, Loops, WpFn, Atoms, Fun, givenOf, tablesOf, Given, Item, Sq, runs, atRet, ‵, ⋆, _⊛_, _$_, _∵_, !, qed, by, move, keep, drop, split, join, rewrite, fsplit, fsplit3, fjoin, fjoin3, feqI, suffices, frame, done, look, look-raw, store-raw, init, stop, hop, from, load, unit-lit, of-opd, and-then, no-more, assigns, land, returns, enter, alloc1, alloc0, params1, pass1, pass0, Body, FmC, owns, Is, shows, mem, cellAt, pointee, bool-vals, bool-tells, bool-makes, bool, RefT, MutRef, ptr-vals, mut-tells, plain, only, opens, closes, owned, peeks, nothing, spelt, onEntry, tripleOf, Contract, Triple, cited, says, Stays, stay-ref, stay-dropped, walkOf, goes-ref, goes-dropped, Walks, ends-at, walked, yes}
+use Rattle.lent_table.proofs.Walk.{_≡_, refl, ap, subst, ℕ, Bool, [], _∷_, List, URA, fullShare, named, tyBool, tyUnit, tyRef, mut, Val, vunit, vbool, vptr, SProp, ent, emp, via, fst∗, id⊢, GName, Lft, Share, ftrue, fsep, flft, fobs, fobor, fauth, fat, Memory, Routine, Heap, Env, Calls, Loops, WpFn, Atoms, Fun, givenOf, tablesOf, Given, Item, Sq, runs, atRet, ‵, ⋆, _⊛_, _$_, _∵_, !, qed, by, move, keep, drop, split, join, rewrite, fsplit, fsplit3, fjoin, fjoin3, feqI, suffices, frame, done, look, look-raw, store-raw, init, stop, hop, from, load, unit-lit, of-opd, and-then, no-more, assigns, land, returns, enter, alloc1, alloc0, params1, pass1, pass0, Body, FmC, owns, Is, shows, mem, cellAt, pointee, bool-vals, bool-tells, bool-makes, bool, RefT, MutRef, ptr-vals, mut-tells, plain, only, opens, closes, owned, peeks, nothing, spelt, onEntry, tripleOf, Contract, Triple, cited, says, Stays, stay-ref, stay-dropped, walkOf, goes-ref, goes-dropped, ends-at, yes}
 use denote.Struct.Laws as LL
 use Rattle.adapters.specs.declared.Device.{Device}
 use Rattle.adapters.proofs.Device as D
@@ -81,16 +81,10 @@ module _ {M : Type 1} (𝓤 : URA M) (H : Heap 𝓤) (A : Atoms 𝓤) (W : Given
       pass1 ! (init ! 6 refl (tt, tt)) $ pass1 ! (init ! 4 refl (tt, tt)) $ pass0 ! $
       keep ! (10 ∷ 11 ∷ 12 ∷ 8 ∷ 9 ∷ 6 ∷ 7 ∷ 4 ∷ 5 ∷ 2 ∷ 3 ∷ 0 ∷ 1 ∷ []) $ changes C Λ l₀ l₁ l₂ l₃ l₄ fm known)))))
 
-module _ {M : Type 1} (𝓤 : URA M) (H : Heap 𝓤) (A : Atoms 𝓤) (W : Given 𝓤 H A) (mem′ : Memory → SProp 𝓤) (run : Routine → Fun 𝓤) where
-  walks : (C : Calls 𝓤 H) (Λ : Loops 𝓤 H) → FmC 𝓤 H (W .laws) C → Triple 𝓤 (C by-value.Symbol.name) (ByValue 𝓤 H A mem′ run) → Walks 𝓤 H A f.ended stayed (WpFn 𝓤 H C Λ f.Code.function) (f.clauses 𝓤 H A mem′ run)
-  walks C Λ fm known = walked 𝓤 H A f.ended stayed (f.clauses 𝓤 H A mem′ run) (WpFn 𝓤 H C Λ f.Code.function)
-      (λ κs. (ptr-vals, (bool-vals, tt))) (λ κs. (mut-tells (named 0) (κs .0) D.the-row, (bool-tells, tt)))
-      (λ κs qs bounds a _ are. via 𝓤 _ (fst∗ 𝓤 _ (emp 𝓤)) (walk 𝓤 H A W mem′ run (κs .0) (qs .0) (a .0 .ptr .0) (a .0 .ptr .1) (a .0 .name) (a .0 .now) (a .1 .0) C Λ fm known))
-
 pub set-flag-spec : {M : Type 1} → f.Statement.statement M
 unfolding f.Code.routine tablesOf
 set-flag-spec 𝓤 H 𝓜 𝓖 𝓡 =
     concludes 𝓤 H 𝓜 𝓖 𝓡 f.ended stayed (f.clauses 𝓤 H (𝓖 .A) (𝓜 .mem) (𝓡 .run)) f.Code.env f.Key.name f.Code.function (f.Code.unfolded 𝓤 H 𝓜 𝓡)
     (goes-ref 𝓤 H (𝓖 .A) (givenOf 𝓤 H 𝓜 𝓖) 1 0 tt (plain (λ _. D.the-row)), (goes-dropped 𝓤 H (𝓖 .A) (givenOf 𝓤 H 𝓜 𝓖) 1 (plain (λ _. bool)) yes (λ κs x f. refl), tt))
-    (λ fm. walks 𝓤 H (𝓖 .A) (givenOf 𝓤 H 𝓜 𝓖) (𝓜 .mem) (𝓡 .run) _ _ fm
-    (cited 𝓤 H (ByValue 𝓤 H (𝓖 .A) (𝓜 .mem) (𝓡 .run)) 𝓜 𝓡 f.Code.env by-value.Symbol.name by-value.Symbol.routine f.Code.calls-adapters·apf-set (by-value.Met.met 𝓤 H 𝓜 𝓖 𝓡)))
+    (λ κs. (ptr-vals, (bool-vals, tt))) (λ κs. (mut-tells (named 0) (κs .0) D.the-row, (bool-tells, tt)))
+    (λ fm κs qs bounds a _ are. via 𝓤 _ (fst∗ 𝓤 _ (emp 𝓤)) (walk 𝓤 H (𝓖 .A) (givenOf 𝓤 H 𝓜 𝓖) (𝓜 .mem) (𝓡 .run) (κs .0) (qs .0) (a .0 .ptr .0) (a .0 .ptr .1) (a .0 .name) (a .0 .now) (a .1 .0) _ _ fm (cited 𝓤 H (ByValue 𝓤 H (𝓖 .A) (𝓜 .mem) (𝓡 .run)) 𝓜 𝓡 f.Code.env by-value.Symbol.name by-value.Symbol.routine f.Code.calls-adapters·apf-set (by-value.Met.met 𝓤 H 𝓜 𝓖 𝓡))))

@@ -1,5 +1,5 @@
 -- `store_device`: the borrow is opened, the whole record is stored, and the borrow is closed at it.
-use Rattle.lent_table.proofs.Walk.{refl, ℕ, [], _∷_, List, URA, fullShare, named, Val, vunit, vptr, SProp, ent, sep, emp, via, fst∗, GName, Lft, Share, ftrue, flft, fobs, fbor, Memory, Routine, Heap, Calls, Loops, WpFn, Atoms, Fun, givenOf, tablesOf, Given, post, ‵, _⊛_, _$_, _∵_, !, qed, by, move, keep, drop, split, join, fsplit, fsplit3, fjoin, fjoin3, feqI, suffices, frame, done, look, store-raw, init, forget, stop, hop, from, load, unit-lit, of-opd, assigns, returns, enter, alloc1, alloc0, params1, pass1, pass0, free1, free0, Body, owns, Is, shows, mem, RefT, MutRef, ptr-vals, mut-tells, plain, opens, closes, owned, nothing, spelt, onEntry, says, Stays, stay-ref, stay-none, walkOf, goes-none, goes-ref, Walks, ends-at, walked, yes}
+use Rattle.lent_table.proofs.Walk.{refl, ℕ, [], _∷_, List, URA, fullShare, named, Val, vunit, vptr, SProp, ent, sep, emp, via, fst∗, GName, Lft, Share, ftrue, flft, fobs, fbor, Memory, Routine, Heap, Calls, Loops, WpFn, Atoms, Fun, givenOf, tablesOf, Given, post, ‵, _⊛_, _$_, _∵_, !, qed, by, move, keep, drop, split, join, fsplit, fsplit3, fjoin, fjoin3, feqI, suffices, frame, done, look, store-raw, init, forget, stop, hop, from, load, unit-lit, of-opd, assigns, returns, enter, alloc1, alloc0, params1, pass1, pass0, free1, free0, Body, owns, Is, shows, mem, RefT, MutRef, ptr-vals, mut-tells, plain, opens, closes, owned, nothing, spelt, onEntry, says, Stays, stay-ref, stay-none, walkOf, goes-none, goes-ref, ends-at, yes}
 use Rattle.lent_table.proofs.Ends.{concludes}
 use denote.Struct.Laws as LL
 use Rattle.adapters.specs.declared.Device.{Device}
@@ -45,15 +45,10 @@ module _ {M : Type 1} (𝓤 : URA M) (H : Heap 𝓤) (A : Atoms 𝓤) (W : Given
         returns ! (look ! 7 refl) $ forget ! 3 refl $ forget ! 5 refl $ forget ! 7 refl $ move ! (7 ∷ 8 ∷ []) $ free1 ! $ move ! (5 ∷ 6 ∷ []) $ free1 ! $ move ! (3 ∷ 4 ∷ []) $ free1 ! $ free0 ! $
         keep ! (0 ∷ 1 ∷ 2 ∷ []) $ by ! (exits g)))))
 
-module _ {M : Type 1} (𝓤 : URA M) (H : Heap 𝓤) (A : Atoms 𝓤) (W : Given 𝓤 H A) (at-mem : Memory → SProp 𝓤) (run : Routine → Fun 𝓤) where
-  walks : (C : Calls 𝓤 H) (Λ : Loops 𝓤 H) → Walks 𝓤 H A f.ended stayed (WpFn 𝓤 H C Λ f.Code.function) (f.clauses 𝓤 H A at-mem run)
-  walks C Λ = walked 𝓤 H A f.ended stayed (f.clauses 𝓤 H A at-mem run) (WpFn 𝓤 H C Λ f.Code.function)
-      (λ κs. (ptr-vals, (LL.vals D.the-type D.Laws.the-laws, tt))) (λ κs. (mut-tells (named 0) (κs .0) D.the-row, (LL.tells D.the-type D.Laws.the-laws, tt)))
-      (λ κs qs bounds a _ are. via 𝓤 _ (fst∗ 𝓤 _ (emp 𝓤)) (walk 𝓤 H A W at-mem run (κs .0) (qs .0) (a .0 .ptr .0) (a .0 .ptr .1) (a .0 .name) (a .0 .now) (a .1 .0) C Λ (are .1 .0)))
-
 pub store-device-spec : {M : Type 1} → f.Statement.statement M
 unfolding f.Code.routine tablesOf
 store-device-spec 𝓤 H 𝓜 𝓖 𝓡 =
     concludes 𝓤 H 𝓜 𝓖 𝓡 f.ended stayed (f.clauses 𝓤 H (𝓖 .A) (𝓜 .mem) (𝓡 .run)) f.Code.env f.Key.name f.Code.function (f.Code.unfolded 𝓤 H 𝓜 𝓡)
     (goes-ref 𝓤 H (𝓖 .A) (givenOf 𝓤 H 𝓜 𝓖) 1 0 tt (plain (λ _. D.the-row)), (goes-none 𝓤 H (𝓖 .A) (givenOf 𝓤 H 𝓜 𝓖) 1 (λ _. D.the-row) yes (λ κs x f. refl), tt))
-    (λ fm. walks 𝓤 H (𝓖 .A) (givenOf 𝓤 H 𝓜 𝓖) (𝓜 .mem) (𝓡 .run) _ _)
+    (λ κs. (ptr-vals, (LL.vals D.the-type D.Laws.the-laws, tt))) (λ κs. (mut-tells (named 0) (κs .0) D.the-row, (LL.tells D.the-type D.Laws.the-laws, tt)))
+    (λ _ κs qs bounds a _ are. via 𝓤 _ (fst∗ 𝓤 _ (emp 𝓤)) (walk 𝓤 H (𝓖 .A) (givenOf 𝓤 H 𝓜 𝓖) (𝓜 .mem) (𝓡 .run) (κs .0) (qs .0) (a .0 .ptr .0) (a .0 .ptr .1) (a .0 .name) (a .0 .now) (a .1 .0) _ _ (are .1 .0)))

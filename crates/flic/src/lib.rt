@@ -9,12 +9,12 @@ use adapters::Place;
 use answers::Answer;
 use answers::EFAULT;
 use calls::Controller;
-use lent_table::IDS;
 use numbers::AIRQ_INJECT;
 use numbers::AdapterId;
 use numbers::CLEAR_IO_IRQ;
 use numbers::CLEAR_IRQS;
 use numbers::ENQUEUE;
+use numbers::IDS;
 use numbers::PLACES;
 use numbers::ROOM;
 

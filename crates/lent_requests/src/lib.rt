@@ -11,12 +11,12 @@ ghost use Rattle.lent_requests.specs.Requests.{ModesSet, PlaceSet};
 use adapters::Device;
 use adapters::Place;
 use answers::Answer;
-use lent_table::IDS;
 use numbers::ADAPTER_REGISTER;
 use numbers::AISM;
 use numbers::AISM_ALL;
 use numbers::APF_ENABLE;
 use numbers::AdapterId;
+use numbers::IDS;
 
 // The device record after an accepted request about it.
 pub fn change_modes(d: &mut Device, group: u32, payload: &[u8])

@@ -9,11 +9,9 @@ ghost use Rattle.lent_table.specs.Table.{snapTo, restored};
 use adapters::Device;
 use adapters::Place;
 use numbers::AdapterId;
+use numbers::IDS;
 use numbers::PLACES;
 use numbers::Subclass;
-
-// Number of places in an image.
-pub const IDS: u64 = PLACES as u64;
 
 // The place at the id. Past the table's end it reads as free.
 pub fn look_up(t: &[Place], id: AdapterId) -> Place
@@ -91,7 +89,7 @@ pub fn note_injection(d: &mut Device, ais: bool, p: Place)
 }
 
 // The places as an image; a place that is not there reads as free.
-pub fn snapshot(t: &[Place]) -> [u8; PLACES]
+pub fn snapshot(t: &[Place]) -> [u64; PLACES]
     ensures { λ r. ⌜ r ≡ snapTo (now (t .entry)) imageSize ⌝ }
 {
     let mut all = list_image::empty();
@@ -105,7 +103,7 @@ pub fn snapshot(t: &[Place]) -> [u8; PLACES]
 }
 
 // The first n places are those of the image.
-pub fn restore(t: &mut [Place], n: u64, all: [u8; PLACES])
+pub fn restore(t: &mut [Place], n: u64, all: [u64; PLACES])
     ensures { λ _. ⌜ now (t .exit) ≡ restored (now (t .entry)) all n ⌝ }
 {
     let mut i = 0;

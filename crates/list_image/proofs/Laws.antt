@@ -1,4 +1,4 @@
--- Reading and writing one byte of an image is reading and writing one of its places.
+-- Reading and writing one number of an image is reading and writing one of its places.
 use Rattle.numbers.proofs.Basics.{_≡_, refl, sym, _∙_, List, [], _∷_, map, ℕ, zero, suc, _≤_, _<_, arith, getD, set}
 use Rattle.numbers.proofs.{Basics.take, Basics.replicate, Basics.length-take, Basics.List·getD-map, Basics.List·getD-eq-default, Basics.set-out, Basics.take-set-lt, Basics.getD-take, Laws.map-set, Laws.map-take}
 use Rattle.rules.specs.{Bytes.choose, Invariant.All}

@@ -1,4 +1,4 @@
--- Packing a place and unpacking the byte.
+-- Packing a place and unpacking the number.
 use Rattle.numbers.proofs.Basics.{_≡_, refl, sym, _∙_, Bool, true, false, List, [], _∷_, map, ℕ, _+_, _*_, _/_, _%_}
 use Rattle.numbers.proofs.Basics.{_<_, _≤_, decLt, arith, eqb, lt-ltb, le-ltb, eq-eqb, ne-eqb}
 use Rattle.rules.specs.{Bytes.choose, MoveList.oneIf, Invariant.All}
@@ -6,16 +6,16 @@ use Rattle.rules.proofs.Decode.{flag-le}
 use Rattle.adapters.specs.{declared.Place.Place, Values.unused, Values.Canonical}
 use Rattle.list_image.specs.Image.{packed, unpacked}
 
--- the byte of a used place
-pub used-byte : (p : Place) → p .used ≡ true → packed p ≡ 128 + p .isc .0 % 8 * 16 + oneIf (p .maskable) * 8 + oneIf (p .swap) * 4 + oneIf (p .suppressible) * 2 + oneIf (p .masked)
+-- the number of a used place
+pub used-number : (p : Place) → p .used ≡ true → packed p ≡ 128 + p .isc .0 % 8 * 16 + oneIf (p .maskable) * 8 + oneIf (p .swap) * 4 + oneIf (p .suppressible) * 2 + oneIf (p .masked)
 unfolding packed choose
-used-byte p e = rw e
+used-number p e = rw e
 
-pub unused-byte : (p : Place) → p .used ≡ false → packed p ≡ 0
+pub unused-number : (p : Place) → p .used ≡ false → packed p ≡ 0
 unfolding packed choose
-unused-byte p e = rw e
+unused-number p e = rw e
 
--- a byte below 128 is an unused place, any other a used one
+-- a number below 128 is an unused place, any other a used one
 pub unpacked-unused : (b : ℕ) → b < 128 → unpacked b ≡ unused
 unfolding unpacked choose
 unpacked-unused b h = rw (lt-ltb b 128 h)
@@ -38,7 +38,7 @@ flag-back n false e = ne-eqb n 1 (λ h. omega arith)
 used-back : (p : Place) → p .isc .0 ≤ 7 → p .used ≡ true → unpacked (packed p) ≡ p
 used-back p small e =
     let b = packed p in
-    let is = used-byte p e in
+    let is = used-number p e in
     let a = flag-le (p .maskable) in
     let f = flag-le (p .swap) in
     let g = flag-le (p .suppressible) in
@@ -55,7 +55,7 @@ unpacked-packed p k = go (p .used) refl
   where
     go : (u : Bool) → p .used ≡ u → unpacked (packed p) ≡ p
     go true e = used-back p (k .iscSmall) e
-    go false e = rw (unused-byte p e) (unpacked-zero ∙ sym (k .unusedOne e))
+    go false e = rw (unused-number p e) (unpacked-zero ∙ sym (k .unusedOne e))
 
 pub unpacked-table : (t : List Place) → All Canonical t → map unpacked (map packed t) ≡ t
 unpacked-table [] k = refl

@@ -1,5 +1,5 @@
--- An adapter place as one byte. From the highest bit on: used, the subclass in three bits, maskable, swap,
--- suppressible, masked. An unused place is 0.
+-- An adapter place as one number of 64 bits, of which the lowest eight are in use. From the highest of these on: used,
+-- the subclass in three bits, maskable, swap, suppressible, masked. An unused place is 0.
 use Prim.Native.Nat.{ℕ, _+_, _*_, _/_, _%_}
 use mathlib.Core.Bool.{true}
 use lib.Dec.{eqb, ltb}
@@ -8,7 +8,7 @@ use Rattle.rules.specs.MoveList.{oneIf}
 use Rattle.adapters.specs.declared.Place.{Place}
 use Rattle.adapters.specs.Values.{unused}
 
--- an image has a byte for each place
+-- an image has a number for each place
 abbrev pub imageSize : ℕ
 imageSize = 64
 

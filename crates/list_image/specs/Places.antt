@@ -1,4 +1,4 @@
--- 01, 'What it holds': the adapter places that the bytes of an image stand for.
+-- 01, 'What it holds': the adapter places that the numbers of an image stand for.
 use Prim.Native.Nat.{ℕ}
 use mathlib.Core.List.{List, map}
 use Rattle.rules.specs.State as rules

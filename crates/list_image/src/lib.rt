@@ -1,6 +1,6 @@
-// Inner crate: an adapter place as one byte, and a table as an array of them.
+// Inner crate: an adapter place as one number, and a table as an array of them.
 ghost use mathlib.Core.Path.{_≡_};
-ghost use Prim.Native.Nat.{_≤_};
+ghost use Prim.Native.Nat.{_≤_, _<_};
 ghost use lib.ListN.{getD, set, take, replicate};
 ghost use Rattle.rules.specs.State.{free};
 ghost use Rattle.adapters.specs.Values.{placeOf, Canonical};
@@ -13,32 +13,30 @@ use numbers::PLACES;
 use numbers::Subclass;
 
 // The place at an id below `places`. Any other id reads as free.
-pub fn look_up(image: &[u8; PLACES], places: u64, id: AdapterId) -> Place
+pub fn look_up(image: &[u64; PLACES], places: u64, id: AdapterId) -> Place
     requires { ⌜ (places ≤ imageSize) × AllCanonical (now image) ⌝ }
     ensures { λ r. ⌜ (placeOf r ≡ getD (take places (placesOf (now (image .entry)))) (id .0) free) × Canonical r ⌝ }
 {
-    let bytes: &[u8] = image;
     if id.0 < places {
         let i = id.0 as usize;
-        return unpack(bytes[i]);
+        return unpack(image[i]);
     }
     adapters::free_place()
 }
 
 // Stores p at an id below `places`. For any other id nothing changes.
-pub fn put(image: &mut [u8; PLACES], places: u64, id: AdapterId, p: Place)
+pub fn put(image: &mut [u64; PLACES], places: u64, id: AdapterId, p: Place)
     requires { ⌜ (places ≤ imageSize) × AllCanonical (now image) × Canonical p ⌝ }
     ensures { λ _. ⌜ (take places (placesOf (now (image .exit))) ≡ set (take places (placesOf (now (image .entry)))) (id .0) (placeOf p)) × AllCanonical (now (image .exit)) ⌝ }
 {
-    let bytes: &mut [u8] = image;
     if id.0 < places {
         let i = id.0 as usize;
-        bytes[i] = pack(p);
+        image[i] = pack(p);
     }
 }
 
 // 1 where it holds, else 0.
-fn flag(on: bool) -> u8
+fn flag(on: bool) -> u64
     ensures { λ r. ⌜ (r ≡ oneIf on) × (r ≤ 1) ⌝ }
 {
     if on {
@@ -47,8 +45,8 @@ fn flag(on: bool) -> u8
     0
 }
 
-// The byte of a place.
-pub fn pack(p: Place) -> u8
+// The number of a place.
+pub fn pack(p: Place) -> u64
     ensures { λ r. ⌜ r ≡ packed p ⌝ }
 {
     if !p.used {
@@ -56,15 +54,15 @@ pub fn pack(p: Place) -> u8
     }
     let isc = p.isc;
     128
-        + isc.0 % 8 * 16
+        + numbers::subclass_byte(isc) % 8 * 16
         + flag(p.maskable) * 8
         + flag(p.swap) * 4
         + flag(p.suppressible) * 2
         + flag(p.masked)
 }
 
-// The place that a byte says.
-pub fn unpack(b: u8) -> Place
+// The place that a number says.
+pub fn unpack(b: u64) -> Place
     ensures { λ r. ⌜ r ≡ unpacked b ⌝ }
 {
     if b < 128 {
@@ -72,7 +70,7 @@ pub fn unpack(b: u8) -> Place
     }
     Place {
         used: true,
-        isc: Subclass(b / 16 % 8),
+        isc: Subclass((b / 16 % 8) as u8),
         maskable: b / 8 % 2 == 1,
         swap: b / 4 % 2 == 1,
         suppressible: b / 2 % 2 == 1,
@@ -81,30 +79,26 @@ pub fn unpack(b: u8) -> Place
 }
 
 // An image of unused places.
-pub fn empty() -> [u8; PLACES]
+pub fn empty() -> [u64; PLACES]
     ensures { λ r. ⌜ r ≡ replicate imageSize 0 ⌝ }
 {
-    [0u8; PLACES]
+    [0u64; PLACES]
 }
 
-// Stores p at an index of the image. Past the end nothing changes.
-pub fn put_place(image: &mut [u8; PLACES], i: u64, p: Place)
-    ensures { λ _. ⌜ now (image .exit) ≡ set (now (image .entry)) i (packed p) ⌝ }
+// Stores p at the id.
+pub fn put_place(image: &mut [u64; PLACES], id: AdapterId, p: Place)
+    requires { ⌜ id .0 < imageSize ⌝ }
+    ensures { λ _. ⌜ now (image .exit) ≡ set (now (image .entry)) (id .0) (packed p) ⌝ }
 {
-    let bytes: &mut [u8] = image;
-    if i < PLACES as u64 {
-        let at = i as usize;
-        bytes[at] = pack(p);
-    }
+    let i = id.0 as usize;
+    image[i] = pack(p);
 }
 
-// The place at an index; past the end it is unused.
-pub fn place_at(image: [u8; PLACES], i: u64) -> Place
-    ensures { λ r. ⌜ r ≡ unpacked (getD image i 0) ⌝ }
+// The place at the id.
+pub fn place_at(image: &[u64; PLACES], id: AdapterId) -> Place
+    requires { ⌜ id .0 < imageSize ⌝ }
+    ensures { λ r. ⌜ r ≡ unpacked (getD (now (image .entry)) (id .0) 0) ⌝ }
 {
-    if i < PLACES as u64 {
-        let at = i as usize;
-        return unpack(image[at]);
-    }
-    unpack(0)
+    let i = id.0 as usize;
+    unpack(image[i])
 }

@@ -44,7 +44,7 @@ fn apply(
     room: usize,
     ais: bool,
     device: Device,
-    image: &mut [u8; PLACES],
+    image: &mut [u64; PLACES],
     group: u32,
     attr: u64,
     payload: &[u8],
@@ -82,7 +82,7 @@ fn apply_at(
     room: usize,
     ais: bool,
     device: Device,
-    image: &mut [u8; PLACES],
+    image: &mut [u64; PLACES],
     list: &[u8],
     place: usize,
 ) -> Ran
@@ -121,7 +121,7 @@ fn apply_all(
     room: usize,
     ais: bool,
     device: Device,
-    image: &mut [u8; PLACES],
+    image: &mut [u64; PLACES],
     list: &[u8],
     count: usize,
 ) -> Ran
@@ -166,7 +166,7 @@ pub struct Played {
     pub answer: Answer,
     pub device: Device,
     pub restored: u64,
-    pub image: [u8; PLACES],
+    pub image: [u64; PLACES],
 }
 
 // A refusal of form: nothing has changed.

@@ -50,8 +50,9 @@ mostEntries = 2 * imageSize + 3
 abbrev pub mostPayload : ℕ
 mostPayload = (8 + 16) * imageSize + recordBytes * mostPending + 2
 
--- the counts of an image's entries, with their bounds and that of the records
+-- the counts of a whole image's entries, with their bounds and that of the records
 pub record Counted (image : List ℕ) (p : Parts) : Type 0 where
+  pub whole : length image ≡ imageSize
   pub registers : p .registers ≡ length (each false image)
   pub modifies : p .modifies ≡ length (each true image)
   pub fewRegisters : p .registers ≤ imageSize

@@ -1,4 +1,4 @@
-// Inner crate: writing a move list from lent memory, with the adapter places in an image of bytes.
+// Inner crate: writing a move list from lent memory, with the adapter places in an image of the table.
 ghost use mathlib.Core.Path.{_≡_};
 ghost use mathlib.Core.List.{[], List, _∷_, flatten};
 ghost use Prim.Native.Nat.{_+_, _*_, _≤_, ℕ};
@@ -20,6 +20,7 @@ use adapters::Place;
 use answers::Answer;
 use numbers::AdapterId;
 use numbers::COUNTS;
+use numbers::IDS;
 use numbers::ORDER_BYTES;
 use numbers::PLACES;
 use numbers::SINGLES_BYTES;
@@ -105,13 +106,14 @@ fn put_payload(out: &mut [u8], on: bool, at: usize, id: AdapterId, p: Place, mod
 }
 
 // How many adapters have an entry.
-pub fn count(image: [u8; PLACES], modify: bool) -> usize
-    ensures { λ r. ⌜ (r ≡ length (each modify image)) × (r ≤ imageSize) ⌝ }
+pub fn count(image: &[u64; PLACES], modify: bool) -> usize
+    requires { ⌜ length (now image) ≡ imageSize ⌝ }
+    ensures { λ r. ⌜ (r ≡ length (each modify (now (image .entry)))) × (r ≤ imageSize) ⌝ }
 {
     let mut n = 0;
     let mut i = 0;
-    while i < PLACES {
-        let on = is_written(list_image::unpack(image[i]), modify);
+    while i < IDS {
+        let on = is_written(list_image::place_at(image, AdapterId(i)), modify);
         n += list_form::flag_of(on) as usize;
         i += 1;
     }
@@ -119,17 +121,17 @@ pub fn count(image: [u8; PLACES], modify: bool) -> usize
 }
 
 // The table entries of the adapters, by rising id; the first payload begins at pay.
-pub fn put_slots(out: &mut [u8], at: usize, pay: usize, image: [u8; PLACES], modify: bool)
-    requires { ⌜ (pay ≤ 65536) × (at + tableEntryBytes * length (each modify image) ≤ length (now out)) ⌝ }
-    ensures { λ _. ⌜ now (out .exit) ≡ put (now (out .entry)) at (writtenTable pay (each modify image)) ⌝ }
+pub fn put_slots(out: &mut [u8], at: usize, pay: usize, image: &[u64; PLACES], modify: bool)
+    requires { ⌜ (length (now image) ≡ imageSize) × (pay ≤ 65536) × (at + tableEntryBytes * length (each modify (now image)) ≤ length (now out)) ⌝ }
+    ensures { λ _. ⌜ now (out .exit) ≡ put (now (out .entry)) at (writtenTable pay (each modify (now (image .entry)))) ⌝ }
 {
     let group = group_of(modify);
     let size = size_of(modify) as u64;
     let mut a = at;
     let mut p = pay;
     let mut i = 0;
-    while i < PLACES {
-        let on = is_written(list_image::unpack(image[i]), modify);
+    while i < IDS {
+        let on = is_written(list_image::place_at(image, AdapterId(i)), modify);
         put_slot(out, on, a, p as u64, group, size, 0);
         a += 24 * list_form::flag_of(on) as usize;
         p += size_if(on, modify);
@@ -138,16 +140,16 @@ pub fn put_slots(out: &mut [u8], at: usize, pay: usize, image: [u8; PLACES], mod
 }
 
 // The payloads of the adapters' entries, by rising id.
-pub fn put_adapter_payloads(out: &mut [u8], at: usize, image: [u8; PLACES], modify: bool)
-    requires { ⌜ at + sizeOf modify * length (each modify image) ≤ length (now out) ⌝ }
-    ensures { λ _. ⌜ now (out .exit) ≡ put (now (out .entry)) at (payloads (each modify image)) ⌝ }
+pub fn put_adapter_payloads(out: &mut [u8], at: usize, image: &[u64; PLACES], modify: bool)
+    requires { ⌜ (length (now image) ≡ imageSize) × (at + sizeOf modify * length (each modify (now image)) ≤ length (now out)) ⌝ }
+    ensures { λ _. ⌜ now (out .exit) ≡ put (now (out .entry)) at (payloads (each modify (now (image .entry)))) ⌝ }
 {
     let mut a = at;
     let mut i = 0;
-    while i < PLACES {
-        let p = list_image::unpack(image[i]);
+    while i < IDS {
+        let p = list_image::place_at(image, AdapterId(i));
         let on = is_written(p, modify);
-        put_payload(out, on, a, AdapterId(i as u64), p, modify);
+        put_payload(out, on, a, AdapterId(i), p, modify);
         a += size_if(on, modify);
         i += 1;
     }
@@ -208,9 +210,9 @@ fn put_others(out: &mut [u8], at: usize, pay: usize, p: Parts)
 }
 
 // The table, its first payload at start.
-fn put_table(out: &mut [u8], start: usize, image: [u8; PLACES], p: Parts)
-    requires { ⌜ Counted image p × (start ≤ payloadOffset mostEntries) × (headerBytes + tableEntryBytes * countOf p ≤ length (now out)) ⌝ }
-    ensures { λ _. ⌜ ((rs : List Record) (simm nimm : ℕ) → WholeListing rs (p .records) → now (out .exit) ≡ put (now (out .entry)) headerBytes (writtenTable start (entriesFrom image rs (p .masks) simm nimm (p .apf)))) ⌝ }
+fn put_table(out: &mut [u8], start: usize, image: &[u64; PLACES], p: Parts)
+    requires { ⌜ Counted (now image) p × (start ≤ payloadOffset mostEntries) × (headerBytes + tableEntryBytes * countOf p ≤ length (now out)) ⌝ }
+    ensures { λ _. ⌜ ((rs : List Record) (simm nimm : ℕ) → WholeListing rs (p .records) → now (out .exit) ≡ put (now (out .entry)) headerBytes (writtenTable start (entriesFrom (now (image .entry)) rs (p .masks) simm nimm (p .apf)))) ⌝ }
 {
     put_slots(out, 20, start, image, false);
     let at = 20 + 24 * p.registers;
@@ -253,12 +255,12 @@ fn put_payloads(
     counts: &[usize; COUNTS],
     singles: &[u8; SINGLES_BYTES],
     start: usize,
-    image: [u8; PLACES],
+    image: &[u64; PLACES],
     device: Device,
     p: Parts,
 )
-    requires { ⌜ Held (now order) (now counts) × Counted image p × WholeListing (listing (pendingOf (now order) (now counts) (now slots) (now singles))) (p .records) × (start ≤ payloadOffset mostEntries) × (start + bytesOf p ≤ length (now out)) ⌝ }
-    ensures { λ _. ⌜ now (out .exit) ≡ put (now (out .entry)) start (payloads (entriesFrom image (listing (before order counts slots singles)) (p .masks) (device .simm) (device .nimm) (p .apf))) ⌝ }
+    requires { ⌜ Held (now order) (now counts) × Counted (now image) p × WholeListing (listing (pendingOf (now order) (now counts) (now slots) (now singles))) (p .records) × (start ≤ payloadOffset mostEntries) × (start + bytesOf p ≤ length (now out)) ⌝ }
+    ensures { λ _. ⌜ now (out .exit) ≡ put (now (out .entry)) start (payloads (entriesFrom (now (image .entry)) (listing (before order counts slots singles)) (p .masks) (device .simm) (device .nimm) (p .apf))) ⌝ }
 {
     put_adapter_payloads(out, start, image, false);
     let mut at = start + 8 * p.registers;
@@ -277,11 +279,11 @@ pub fn write_list(
     singles: &[u8; SINGLES_BYTES],
     ais: bool,
     device: Device,
-    image: [u8; PLACES],
+    image: &[u64; PLACES],
     out: &mut [u8],
 ) -> Answer
-    requires { ⌜ Held (now order) (now counts) ⌝ }
-    ensures { λ r. ⌜ Written ais device image (before order counts slots singles) (now (out .entry)) (now (out .exit)) r ⌝ }
+    requires { ⌜ Held (now order) (now counts) × (length (now image) ≡ imageSize) ⌝ }
+    ensures { λ r. ⌜ Written ais device (now (image .entry)) (before order counts slots singles) (now (out .entry)) (now (out .exit)) r ⌝ }
 {
     let p = Parts {
         registers: count(image, false),

@@ -32,6 +32,9 @@ pub const AISM_ALL: u32 = 11;
 // How many adapter places there are.
 pub const PLACES: usize = 64;
 
+// The same as a bound of ids: an adapter's id is below it.
+pub const IDS: u64 = PLACES as u64;
+
 // How many records the nine queues hold together, at most: the slots of the lent memory.
 pub const ROOM: usize = 256;
 

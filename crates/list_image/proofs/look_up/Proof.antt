@@ -6,7 +6,7 @@ use Rattle.list_image.proofs.look_up.Tie as tie
 
 returns : tie.Need-returns
 returns c =
-    let a = c .before .before .before .before .before in
+    let a = c .before .before .before .before in
     let e = c .unpack .ensures in (
       ap placeOf e ∙ read-in (a .args .image .now) (a .args .places) (a .args .id .0) (c .before .before .if1 .taken),
       rw e (read-canonical (a .args .image .now) (a .args .places) (a .args .id .0) (a .pre .1)),
@@ -14,10 +14,10 @@ returns c =
 
 returns-2 : tie.Need-returns-2
 returns-2 c =
-    let a = c .before .before .before .before in
+    let a = c .before .before .before in
     (c .free-place .ensures .0 ∙ read-out (a .args .image .now) (a .args .places) (a .args .id .0) (c .before .if1 .left), c .free-place .ensures .1)
 
 pub look-up-spec : {M : Type 1} → statement M
 look-up-spec =
     tie.close
-    (tie.spec (λ c. search needs) (λ c κs. search needs) returns (λ c κs. search needs) returns-2)
+    (tie.spec (λ c. search needs) (λ c. search needs) (λ c κs. search needs) returns (λ c κs. search needs) returns-2)

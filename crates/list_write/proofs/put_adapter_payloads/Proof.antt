@@ -8,26 +8,26 @@ use Rattle.list_write.proofs.{Entries.put-none, Entries.eachFrom, Entri
 use Rattle.list_write.proofs.put_adapter_payloads.Tie as tie
 
 abbrev Inv-loop : tie.InvT-loop
-Inv-loop out₀ at modify image a₀ i₀ out a i =
+Inv-loop out₀ at image modify a₀ i₀ out a i =
     (i ≤ imageSize) × (length out ≡ length out₀) × (a + sizeOf modify * length (eachFrom modify i image) ≤ length out)
     × (put out₀ at (payloads (each modify image)) ≡ put out a (payloads (eachFrom modify i image)))
 
 abbrev μ-loop : tie.MeasureT-loop
-μ-loop out₀ at modify image a₀ i₀ out a i = imageSize - i
+μ-loop out₀ at image modify a₀ i₀ out a i = imageSize - i
 
 -- whether the place has an entry, and the room that is left
 on-is : (c : tie.After-is-written Inv-loop μ-loop) → let a = c .before .before .before .before .before .args in
-    c .is-written .result ≡ isWritten (a .modify) (unpacked (getD (a .t3) (c .before .before .before .loop .i) 0))
-on-is c = rw (c .before .unpack .ensures) at (c .is-written .ensures)
+    c .is-written .result ≡ isWritten (a .modify) (unpacked (getD (a .image .now) (c .before .before .before .loop .i) 0))
+on-is c = rw (c .before .place-at .ensures) at (c .is-written .ensures)
 
 room : (c : tie.After-is-written Inv-loop μ-loop) → let l = c .before .before .before .loop in let m = c .before .before .before .before .before .args .modify in
-    l .a + sizeOf m * oneIf (c .is-written .result) + sizeOf m * length (eachFrom m (l .i + 1) (c .before .before .before .before .before .args .t3)) ≤ length (l .out)
+    l .a + sizeOf m * oneIf (c .is-written .result) + sizeOf m * length (eachFrom m (l .i + 1) (c .before .before .before .before .before .args .image .now)) ≤ length (l .out)
 room c =
     let l = c .before .before .before .loop in
-    room-turn (c .before .before .before .before .before .args .modify) (l .i) (c .before .before .before .before .before .args .t3) (search needs) _ (on-is c) (l .a) _ _ (l .inv .2)
+    room-turn (c .before .before .before .before .before .args .modify) (l .i) (c .before .before .before .before .before .args .image .now) (search needs) _ (on-is c) (l .a) _ _ (l .inv .2)
 
 put-payload-requires : tie.Need-put-payload-requires Inv-loop μ-loop
-put-payload-requires c κs = (rw (c .before .before .unpack .ensures) (unpacked-isc (getD (c .before .before .before .before .before .before .args .t3) (c .before .before .before .before .loop .i) 0)), omega (arith, room (c .before)))
+put-payload-requires c κs = (rw (c .before .before .place-at .ensures) (unpacked-isc (getD (c .before .before .before .before .before .before .args .image .now) (c .before .before .before .before .loop .i) 0)), omega (arith, room (c .before)))
 
 loop-again : tie.Need-loop-again Inv-loop μ-loop
 loop-again c =
@@ -39,8 +39,8 @@ loop-again c =
       k ∙ l .inv .1,
       rw (c .size-if .ensures .0, k) (room (c .before .before .before .before .before)),
       l .inv .3 ∙ rw (c .size-if .ensures .0)
-          (payloads-turn (a .modify) (l .i) (a .t3) (search needs) on (on-is (c .before .before .before .before .before)) (l .out) _ (l .a) (l .inv .2)
-          (rw (c .before .before .before .before .before .before .unpack .ensures) at (c .before .before .before .put-payload .ensures))),
+          (payloads-turn (a .modify) (l .i) (a .image .now) (search needs) on (on-is (c .before .before .before .before .before)) (l .out) _ (l .a) (l .inv .2)
+          (rw (c .before .before .before .before .before .before .place-at .ensures) at (c .before .before .before .put-payload .ensures))),
     )
 
 returns : tie.Need-returns Inv-loop μ-loop
@@ -48,12 +48,11 @@ unfolding payloads
 returns c =
     let a = c .before .before .before .args in
     let l = c .before .loop in
-    let k : length (a .t3) ≡ imageSize = search needs in
-    sym (l .inv .3 ∙ rw (each-last (a .modify) (l .i) (a .t3) (omega arith)) (sym (put-none (l .out) (l .a))))
+    sym (l .inv .3 ∙ rw (each-last (a .modify) (l .i) (a .image .now) (omega (arith, c .before .before .before .pre .0))) (sym (put-none (l .out) (l .a))))
 
 pub put-adapter-payloads-spec : {M : Type 1} → statement M
 put-adapter-payloads-spec =
     tie.close
-    (tie.spec Inv-loop μ-loop (λ c. let s = c .before in (omega arith, refl, s .pre, refl)) (λ c. search needs)
+    (tie.spec Inv-loop μ-loop (λ c. let s = c .before in (omega arith, refl, s .pre .1, refl))
     (λ c κs. search needs) (λ c κs. search needs) put-payload-requires (λ c κs. search needs) (λ c. search needs)
     (λ c. search needs) (λ c. search needs) loop-again (λ c. c .before .loop .inv .1) returns)

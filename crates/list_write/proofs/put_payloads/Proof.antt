@@ -7,7 +7,7 @@ returns : tie.Need-returns
 returns c =
     let s = c .before .before .before .before .before .before .before .before .before .before .before .before .before .before .before .before .before .before .before .before in
     let a = s .args in
-    payloads-put (a .p) _ (a .device .simm) (a .device .nimm) (s .pre .2) (a .image) (s .pre .1) (a .start) (a .out .now) _ _ _ _ (s .pre .4)
+    payloads-put (a .p) _ (a .device .simm) (a .device .nimm) (s .pre .2) (a .image .now) (s .pre .1) (a .start) (a .out .now) _ _ _ _ (s .pre .4)
     (c .before .before .before .before .before .before .before .before .before .before .before .before .before .before .before .before .before .put-adapter-payloads .ensures) (c .before .before .before .before .before .before .before .before .before .before .before .before .put-adapter-payloads2 .ensures) (c .before .before .before .before .before .before .before .put-listing .ensures) (c .before .before .put-masks .ensures)
 
 pub put-payloads-spec : {M : Type 1} → statement M

@@ -7,23 +7,23 @@ use Rattle.list_write.proofs.{Entries.put-none, Entries.eachFrom, Entri
 use Rattle.list_write.proofs.put_slots.Tie as tie
 
 abbrev Inv-loop : tie.InvT-loop
-Inv-loop out₀ at pay modify image group size a₀ p₀ i₀ out a p i =
+Inv-loop out₀ at pay image modify group size a₀ p₀ i₀ out a p i =
     (i ≤ imageSize) × (length out ≡ length out₀) × (p ≤ pay + 16 * i) × (a + 24 * length (eachFrom modify i image) ≤ length out)
     × (put out₀ at (writtenTable pay (each modify image)) ≡ put out a (writtenTable p (eachFrom modify i image)))
 
 abbrev μ-loop : tie.MeasureT-loop
-μ-loop out₀ at pay modify image group size a₀ p₀ i₀ out a p i = imageSize - i
+μ-loop out₀ at pay image modify group size a₀ p₀ i₀ out a p i = imageSize - i
 
 -- whether the place has an entry, and the room that is left
 on-is : (c : tie.After-is-written Inv-loop μ-loop) → let a = c .before .before .before .before .before .before .before .args in
-    c .is-written .result ≡ isWritten (a .modify) (unpacked (getD (a .t4) (c .before .before .before .loop .i) 0))
-on-is c = rw (c .before .unpack .ensures) at (c .is-written .ensures)
+    c .is-written .result ≡ isWritten (a .modify) (unpacked (getD (a .image .now) (c .before .before .before .loop .i) 0))
+on-is c = rw (c .before .place-at .ensures) at (c .is-written .ensures)
 
 room : (c : tie.After-is-written Inv-loop μ-loop) → let l = c .before .before .before .loop in
-    l .a + 24 * oneIf (c .is-written .result) + 24 * length (eachFrom (c .before .before .before .before .before .before .before .args .modify) (l .i + 1) (c .before .before .before .before .before .before .before .args .t4)) ≤ length (l .out)
+    l .a + 24 * oneIf (c .is-written .result) + 24 * length (eachFrom (c .before .before .before .before .before .before .before .args .modify) (l .i + 1) (c .before .before .before .before .before .before .before .args .image .now)) ≤ length (l .out)
 room c =
     let l = c .before .before .before .loop in
-    room-turn (c .before .before .before .before .before .before .before .args .modify) (l .i) (c .before .before .before .before .before .before .before .args .t4) (search needs) _ (on-is c) (l .a) 24 _ (l .inv .3)
+    room-turn (c .before .before .before .before .before .before .before .args .modify) (l .i) (c .before .before .before .before .before .before .before .args .image .now) (search needs) _ (on-is c) (l .a) 24 _ (l .inv .3)
 
 loop-again : tie.Need-loop-again Inv-loop μ-loop
 loop-again c =
@@ -36,7 +36,7 @@ loop-again c =
       omega (arith, c .size-if .ensures .1, l .inv .2),
       rw (c .before .flag-of .ensures .0, k) (room (c .before .before .before .before .before .before)),
       l .inv .4 ∙ rw (c .before .flag-of .ensures .0, c .size-if .ensures .0)
-          (slots-turn (a .modify) (l .i) (a .t4) (search needs) on (on-is (c .before .before .before .before .before .before)) (l .out) _ (l .a) (l .p) (l .inv .3)
+          (slots-turn (a .modify) (l .i) (a .image .now) (search needs) on (on-is (c .before .before .before .before .before .before)) (l .out) _ (l .a) (l .p) (l .inv .3)
           (rw (c .before .before .before .before .before .before .before .before .before .before .before .group-of .ensures, c .before .before .before .before .before .before .before .before .before .before .size-of .ensures .0) at (c .before .before .before .before .put-slot .ensures))),
     )
 
@@ -45,13 +45,12 @@ unfolding writtenTable
 returns c =
     let a = c .before .before .before .before .before .args in
     let l = c .before .loop in
-    let k : length (a .t4) ≡ imageSize = search needs in
-    sym (l .inv .4 ∙ rw (each-last (a .modify) (l .i) (a .t4) (omega arith)) (sym (put-none (l .out) (l .a))))
+    sym (l .inv .4 ∙ rw (each-last (a .modify) (l .i) (a .image .now) (omega (arith, c .before .before .before .before .before .pre .0))) (sym (put-none (l .out) (l .a))))
 
 pub put-slots-spec : {M : Type 1} → statement M
 put-slots-spec =
     tie.close
-    (tie.spec Inv-loop μ-loop (λ c κs. search needs) (λ c κs. search needs) (λ c. search needs) (λ c. search needs)
+    (tie.spec Inv-loop μ-loop (λ c κs. search needs) (λ c κs. search needs) (λ c. search needs)
     (λ c κs. search needs) (λ c κs. search needs) (λ c κs. omega (arith, room (c .before))) (λ c κs. search needs)
     (λ c. search needs) (λ c. search needs) (λ c κs. search needs) (λ c. search needs) (λ c. search needs)
     (λ c. search needs) loop-again (λ c. c .before .loop .inv .1) returns)

@@ -12,10 +12,10 @@ returns c = λ rs simm nimm w.
     let s = r .before .before .before in
     let a = s .args in
     let k = s .pre .0 in
-    let g = table-next (a .out .now) _ _ 20 (each false (a .image)) (each true (a .image)) (a .start) (a .p .registers) (8 * a .p .registers) _ _ (sym (k .registers))
-    (registers-size (a .image) (a .p) k) (omega (arith, s .pre .2)) refl refl (r .put-slots .ensures) (m .put-slots2 .ensures) in
-    table-next (a .out .now) _ _ 20 (adapterEntries (a .image)) (otherEntries rs (a .p .masks) simm nimm (a .p .apf)) (a .start) _ _ _ _
-    (adapters-count (a .image) (a .p) k) (adapters-size (a .image) (a .p) k) (omega (arith, s .pre .2)) (omega arith) (omega arith) g (c .before .before .put-others .ensures rs simm nimm w)
+    let g = table-next (a .out .now) _ _ 20 (each false (a .image .now)) (each true (a .image .now)) (a .start) (a .p .registers) (8 * a .p .registers) _ _ (sym (k .registers))
+    (registers-size (a .image .now) (a .p) k) (omega (arith, s .pre .2)) refl refl (r .put-slots .ensures) (m .put-slots2 .ensures) in
+    table-next (a .out .now) _ _ 20 (adapterEntries (a .image .now)) (otherEntries rs (a .p .masks) simm nimm (a .p .apf)) (a .start) _ _ _ _
+    (adapters-count (a .image .now) (a .p) k) (adapters-size (a .image .now) (a .p) k) (omega (arith, s .pre .2)) (omega arith) (omega arith) g (c .before .before .put-others .ensures rs simm nimm w)
 
 pub put-table-spec : {M : Type 1} → statement M
 put-table-spec =

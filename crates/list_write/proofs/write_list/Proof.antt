@@ -25,11 +25,12 @@ abbrev pending : tie.After-has-masks → List Record
 pending c = let a = c .before .before .before .before .before .before .before .args in listing (pendingOf (a .order .now) (a .counts .now) (a .slots .now) (a .singles .now))
 
 abbrev wanted : tie.After-has-masks → List ListRequest
-wanted c = let d = c .before .before .before .before .before .before .before .args .device in entriesFrom (c .before .before .before .before .before .before .before .args .image) (pending c) (c .has-masks .result) (d .simm) (d .nimm) (d .apf)
+wanted c = let d = c .before .before .before .before .before .before .before .args .device in entriesFrom (c .before .before .before .before .before .before .before .args .image .now) (pending c) (c .has-masks .result) (d .simm) (d .nimm) (d .apf)
 
-counted : (c : tie.After-has-masks) → Counted (c .before .before .before .before .before .before .before .args .image) (parts c)
+counted : (c : tie.After-has-masks) → Counted (c .before .before .before .before .before .before .before .args .image .now) (parts c)
 counted c =
     record {
+      whole = c .before .before .before .before .before .before .before .pre .1;
       registers = c .before .before .before .before .before .count .ensures .0;
       modifies = c .before .before .before .before .count2 .ensures .0;
       fewRegisters = c .before .before .before .before .before .count .ensures .1;
@@ -43,15 +44,15 @@ whole c =
     record { count = sym (e .0); size = length-records _ (e .1) ∙ ap (λ (n : ℕ). 72 * n) (sym (e .0)) }
 
 count-is : (c : tie.After-entry-count) → length (wanted (c .before)) ≡ c .entry-count .result
-count-is c = entries-count (c .before .before .before .before .before .before .before .before .args .image) (parts (c .before)) (counted (c .before)) (pending (c .before)) _ _ (whole (c .before)) ∙ sym (c .entry-count .ensures .0)
+count-is c = entries-count (c .before .before .before .before .before .before .before .before .args .image .now) (parts (c .before)) (counted (c .before)) (pending (c .before)) _ _ (whole (c .before)) ∙ sym (c .entry-count .ensures .0)
 
 total-is : (c : tie.After-payload-bytes) → 20 + 24 * c .before .entry-count .result + c .payload-bytes .result ≡ total (wanted (c .before .before))
 total-is c =
     let d = c .before .before .before .before .before .before .before .before .before .args .device in
-    let z = entries-size (c .before .before .before .before .before .before .before .before .before .args .image) (parts (c .before .before)) (counted (c .before .before)) (pending (c .before .before)) (d .simm) (d .nimm) (whole (c .before .before)) in
+    let z = entries-size (c .before .before .before .before .before .before .before .before .before .args .image .now) (parts (c .before .before)) (counted (c .before .before)) (pending (c .before .before)) (d .simm) (d .nimm) (whole (c .before .before)) in
     rw (count-is (c .before), z, ← c .payload-bytes .ensures .0)
 
-same-entries : (c : tie.After-has-masks) (s : State) → let a = c .before .before .before .before .before .before .before .args in s .ais ≡ a .ais → s .adapters ≡ placesOf (a .image)
+same-entries : (c : tie.After-has-masks) (s : State) → let a = c .before .before .before .before .before .before .before .args in s .ais ≡ a .ais → s .adapters ≡ placesOf (a .image .now)
     → s .pending ≡ pendingOf (a .order .now) (a .counts .now) (a .slots .now) (a .singles .now) → s .device ≡ deviceOf (a .device) → wanted c ≡ listRequests s
 same-entries c s e1 e2 e3 e4 = sym (entries-are s _ _ _ (c .before .before .before .before .before .before .before .args .device) _ e1 e2 e3 e4 (c .has-masks .ensures))
 
@@ -63,7 +64,7 @@ returns c = record {
 
 put-payloads-requires : tie.Need-put-payloads-requires
 put-payloads-requires c κs =
-    (c .before .before .before .before .before .before .before .before .before .before .before .before .before .before .before .before .before .before .before .before .pre, counted (c .before .before .before .before .before .before .before .before .before .before .before .before .before), whole (c .before .before .before .before .before .before .before .before .before .before .before .before .before), omega (arith, c .before .before .before .before .before .before .before .before .before .before .before .before .entry-count .ensures .1), rw (← c .before .before .before .before .before .before .before .before .before .before .before .payload-bytes .ensures .0) (omega (arith, c .before .before .before .before .before .before .before .before .before .before .if1 .left)))
+    (c .before .before .before .before .before .before .before .before .before .before .before .before .before .before .before .before .before .before .before .before .pre .0, counted (c .before .before .before .before .before .before .before .before .before .before .before .before .before), whole (c .before .before .before .before .before .before .before .before .before .before .before .before .before), omega (arith, c .before .before .before .before .before .before .before .before .before .before .before .before .entry-count .ensures .1), rw (← c .before .before .before .before .before .before .before .before .before .before .before .payload-bytes .ensures .0) (omega (arith, c .before .before .before .before .before .before .before .before .before .before .if1 .left)))
 
 returns-2 : tie.Need-returns-2
 returns-2 c =

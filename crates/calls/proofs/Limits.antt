@@ -2,7 +2,7 @@
 use Rattle.numbers.proofs.Basics.{ℕ, _≡_, refl, sym, _∙_, subst}
 use Rattle.rules.specs.State.{paperLimits}
 use Rattle.list_image.specs.Image.{imageSize}
-use Rattle.list_play.proofs.Sized.{Sized, paper-sized}
+use Rattle.calls.proofs.Sized.{Sized, paper-sized}
 use Rattle.calls.specs.{declared.Controller.Controller, Limits.limitsOf}
 
 -- they are the paper's, for every controller; nothing else looks into the definition

@@ -1,6 +1,6 @@
 -- The cases of an injection, and which get request a group number is.
 use Rattle.numbers.proofs.Basics.{ℕ, zero, suc, _≤_, _<_, _≡_, refl, ap, sym, _∙_, subst, Bool, true, false, _&&_}
-use Rattle.numbers.proofs.Basics.{_||_, List, [], getD, ltb, leb, eqb, lt-ltb, le-ltb}
+use Rattle.numbers.proofs.Basics.{_||_, List, [], getD, take, ltb, leb, eqb, lt-ltb, le-ltb}
 use Rattle.rules.specs.{Bytes.choose, State.Limits, State.Pending, State.State, State.withPending, State.withDevice, State.addIo, State.queued, Outcome.refuse, Outcome.accept, Outcome.need_else_⨾_, Requests.underAis as rules-underAis}
 use Rattle.rules.specs.State as rules
 use Rattle.rules.specs.Requests.{holding, noRequest, airqInject, getRequest, injected, injects, adapterInterrupt, request}
@@ -9,8 +9,8 @@ use Rattle.answers.specs.{declared.Answer.Answer, Answers.Answers, Answers.answ
 use Rattle.adapters.specs.{declared.Device.Device, declared.Place.Place, declared.Injection.Injection, declared.Injection.the-variants.NoAdapter, declared.Injection.the-variants.Dropped, declared.Injection.the-variants.Full, declared.Injection.the-variants.Appended, Values.placeOf, Values.deviceOf, Values.adapterOf, Values.underAis, Values.injectionOf, Values.injectedDevice}
 use Rattle.adapters.proofs.Laws.{place-used, place-free}
 use Rattle.numbers.specs.declared.Subclass.{Subclass}
-use Rattle.store_queues.specs.Queues.{total, Held}
-use Rattle.calls.specs.{declared.Controller.Controller, Limits.limitsOf, Inner.pendingIn, Inner.Injected, Cases.answerFor}
+use Rattle.list_image.specs.Places.{placesOf}
+use Rattle.calls.specs.{Inner.Injected, Inner.limitsFrom, Inner.imageState, Inner.notedIn, Inner.SetTo, Cases.answerFor}
 
 -- the state that the values stand for is the state itself
 pub as-it-was : (s : State) (device : Device) (p : Pending) → s .pending ≡ p → s .device ≡ deviceOf device → s ≡ withDevice (deviceOf device) (withPending p s)
@@ -129,19 +129,27 @@ unfolding choose
 noted x d e = rw e
 
 -- an injection from its answer: one that leaves everything as it was, and one that was appended
-module _ (id : ℕ) (c : Controller) (d : Device) (p : Place) (r : Answer) where
-  abbrev Came : Pending → Device → Type 0
-  Came q d′ = (s : State) (b : List ℕ) → s .ais ≡ c .ais → s .pending ≡ pendingIn c → s .device ≡ deviceOf d → getD (s .adapters) id rules.free ≡ placeOf p
-      → Answers (limitsOf c) s b (request (limitsOf c) s airqInject id b) r (withDevice (deviceOf d′) (withPending q s)) b
+module _ (places room id queued : ℕ) (ais : Bool) (d : Device) (p : Place) (was : List ℕ → Pending) (r : Answer) where
+  abbrev Came : (List ℕ → Pending) → Device → Type 0
+  Came is d′ = (L : Limits) (s : State) (singles b : List ℕ) → L .places ≡ places → L .room ≡ room → s .ais ≡ ais → s .pending ≡ was singles → s .device ≡ deviceOf d → getD (s .adapters) id rules.free ≡ placeOf p
+      → Answers L s b (request L s airqInject id b) r (withDevice (deviceOf d′) (withPending (is singles) s)) b
 
   -- the answer by the case
   abbrev ByCase : Type 0
-  ByCase = id < limitsOf c .places → r ≡ answerFor (injectionOf (c .ais) d p (leb (limitsOf c .room) (total (c .counts))))
+  ByCase = id < places → r ≡ answerFor (injectionOf ais d p (leb room queued))
 
-  pub nothing-changes : (code : ℕ) → r ≡ answered code 0 → Held (c .order) (c .counts) → ByCase → Came (pendingIn c) d → Injected id c c d p r
-  nothing-changes code e h t f =
-      let n = not-noted (injectedDevice (c .ais) d p) d code e in
-      record { answer = subst (Came (pendingIn c)) n f; kept = λ k. (refl, sym n); held = h; told = t }
+  pub nothing-changes : (code : ℕ) → r ≡ answered code 0 → ByCase → Came was d → Injected places room id queued ais d p was was r
+  nothing-changes code e t f =
+      let n = not-noted (injectedDevice ais d p) d code e in
+      record { answer = subst (Came was) n f; unnoted = λ k. sym n; told = t }
 
-  pub is-noted : (c′ : Controller) → r ≡ answered 0 1 → Held (c′ .order) (c′ .counts) → ByCase → Came (pendingIn c′) (injectedDevice (c .ais) d p) → Injected id c c′ d p r
-  is-noted c′ e h t f = record { answer = subst (Came (pendingIn c′)) (noted (injectedDevice (c .ais) d p) d e) f; kept = λ k. absurd (k (ap (λ (x : Answer). x .code) e)); held = h; told = t }
+  pub is-noted : (is : List ℕ → Pending) → r ≡ answered 0 1 → ByCase → Came is (injectedDevice ais d p) → Injected places room id queued ais d p was is r
+  is-noted is e t f = record { answer = subst (Came is) (noted (injectedDevice ais d p) d e) f; unnoted = λ k. absurd (k (ap (λ (x : Answer). x .code) e)); told = t }
+
+-- an injection as a set request on an image, where the device record is d′ afterwards
+pub set-injected : {places room id queued : ℕ} {ais : Bool} {d : Device} {p : Place} {was is : List ℕ → Pending} {r : Answer} → Injected places room id queued ais d p was is r → (image : List ℕ)
+    → placeOf p ≡ getD (take places (placesOf image)) id rules.free → (d′ : Device) → notedIn ais d p r ≡ d′
+    → (singles b : List ℕ) → SetTo places room ais 10 id b image (was singles) d image (is singles) (record { answer = r; device = d′ })
+set-injected {places} {room} {id} {queued} {ais} {d} {p} {was} {is} {r} f image l d′ e singles b =
+    subst (λ (y : Device). SetTo places room ais 10 id b image (was singles) d image (is singles) (record { answer = r; device = y })) e
+    (f .answer (limitsFrom places room) (imageState ais places image (was singles) d) singles b refl refl refl refl refl (sym l))

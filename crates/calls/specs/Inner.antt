@@ -1,25 +1,24 @@
 -- What the functions here promise, on the controller's arrays and with one adapter's place by value.
 use Prim.Native.Nat.{ℕ, _<_}
 use mathlib.Core.Path.{_≡_}
-use mathlib.Core.Bool.{Bool, false}
+use mathlib.Core.Bool.{Bool}
 use mathlib.Core.List.{List}
-use lib.ListN.{getD, replicate}
+use lib.ListN.{getD, take}
 use lib.Dec.{leb, eqb}
 use Rattle.rules.specs.Bytes.{choose}
-use Rattle.rules.specs.State.{State, Pending, free, nothing, withPending, withDevice}
-use Rattle.rules.specs.Requests.{airqInject, getRequest, request}
+use Rattle.rules.specs.State.{Limits, State, Pending, free, withPending, withDevice}
+use Rattle.rules.specs.Requests.{airqInject, setRequest, getRequest, request}
 use Rattle.answers.specs.declared.Answer.{Answer}
-use Rattle.answers.specs.Answers.{Answers, answered}
+use Rattle.answers.specs.Answers.{Answers}
 use Rattle.adapters.specs.declared.Device.{Device}
 use Rattle.adapters.specs.declared.Place.{Place}
 use Rattle.adapters.specs.Values.{placeOf, deviceOf, injectionOf, injectedDevice}
-use Rattle.list_image.specs.Image.{imageSize}
+use Rattle.list_image.specs.Places.{placesOf}
 use Rattle.store.specs.Memory.{pendingOf}
 use Rattle.calls.specs.declared.Controller.{Controller}
-use Rattle.list_play.specs.declared.Played.{Played}
+use Rattle.calls.specs.declared.Ran.{Ran}
 use Rattle.calls.specs.Limits.{limitsOf}
 use Rattle.calls.specs.Cases.{answerFor}
-use Rattle.store_queues.specs.Queues.{total, Held}
 
 -- a controller from its arrays and its capability
 abbrev pub controller : (slots order counts singles : List ℕ) → Bool → Controller
@@ -29,27 +28,38 @@ controller slots order counts singles ais = record { slots = slots; order = orde
 abbrev pub pendingIn : Controller → Pending
 pendingIn c = pendingOf (c .order) (c .counts) (c .slots) (c .singles)
 
--- A fresh controller's arrays, whatever the slots hold, and what is to be stored beside them: a table of free places and
--- an empty device record.
-pub record Began (order counts singles : List ℕ) (r : Played) : Type 0 where
-  pub started : r ≡ record { answer = answered 0 0; device = record { simm = 0; nimm = 0; apf = false }; restored = imageSize; image = replicate imageSize 0 }
-  pub pending : (slots : List ℕ) → pendingOf order counts slots singles ≡ nothing
-  pub held : Held order counts
-
 -- the device record after an injection: noted where a record was appended
 abbrev pub notedIn : Bool → Device → Place → Answer → Device
 notedIn ais d p r = choose (eqb (r .count) 1) (injectedDevice ais d p) d
 
--- INJECT of an adapter id whose place is p. For an id in the table the answer is also given by the case of the injection.
-pub record Injected (id : ℕ) (c c′ : Controller) (d : Device) (p : Place) (r : Answer) : Type 0 where
-  pub answer : (s : State) (b : List ℕ) → s .ais ≡ c .ais → s .pending ≡ pendingIn c → s .device ≡ deviceOf d → getD (s .adapters) id free ≡ placeOf p
-      → Answers (limitsOf c) s b (request (limitsOf c) s airqInject id b) r (withDevice (deviceOf (notedIn (c .ais) d p r)) (withPending (pendingIn c′) s)) b
-  pub kept : (r .code ≡ 0 → ⊥) → (c′ ≡ c) × (notedIn (c .ais) d p r ≡ d)
-  pub held : Held (c′ .order) (c′ .counts)
-  pub told : id < limitsOf c .places → r ≡ answerFor (injectionOf (c .ais) d p (leb (limitsOf c .room) (total (c .counts))))
+-- INJECT of an adapter id whose place is p, where so many records are queued. `was` and `is` are what is pending before
+-- and after, by the two single records, which stay. For an id in the table the answer is also given by the case of the
+-- injection.
+pub record Injected (places room id queued : ℕ) (ais : Bool) (d : Device) (p : Place) (was is : List ℕ → Pending) (r : Answer) : Type 0 where
+  pub answer : (L : Limits) (s : State) (singles b : List ℕ) → L .places ≡ places → L .room ≡ room → s .ais ≡ ais → s .pending ≡ was singles
+      → s .device ≡ deviceOf d → getD (s .adapters) id free ≡ placeOf p
+      → Answers L s b (request L s airqInject id b) r (withDevice (deviceOf (notedIn ais d p r)) (withPending (is singles) s)) b
+  pub unnoted : (r .code ≡ 0 → ⊥) → notedIn ais d p r ≡ d
+  pub told : id < places → r ≡ answerFor (injectionOf ais d p (leb room queued))
 
 -- A get request.
 pub record Got (group attr : ℕ) (c : Controller) (d : Device) (b b′ : List ℕ) (r : Answer) : Type 0 where
   pub answer : (s : State) → s .ais ≡ c .ais → s .pending ≡ pendingIn c → s .device ≡ deviceOf d
       → Answers (limitsOf c) s b (request (limitsOf c) s (getRequest group) attr b) r s b′
   pub kept : (r .code ≡ 0 → ⊥) → b′ ≡ b
+
+-- the limits that have the numbers which the code passes on
+abbrev pub limitsFrom : (places room : ℕ) → Limits
+limitsFrom places room = record { places = places; room = room }
+
+-- a state from the capability, the first places of an image, the pending records and the device record
+abbrev pub imageState : Bool → ℕ → List ℕ → Pending → Device → State
+imageState ais places image pending device =
+    record { ais = ais; adapters = take places (placesOf image); pending = pending; device = deviceOf device }
+
+-- A set request, from the image, the pending records and the device record before it to those after it.
+abbrev pub SetTo : (places room : ℕ) → Bool → (group attr : ℕ) → (b image : List ℕ) → Pending → Device → (image′ : List ℕ) → Pending → Ran → Type 0
+SetTo places room ais group attr b image p d image′ p′ r =
+    let L = limitsFrom places room in
+    let s = imageState ais places image p d in
+    Answers L s b (request L s (setRequest group) attr b) (r .answer) (imageState ais places image′ p′ (r .device)) b

@@ -85,6 +85,13 @@ pub fn empty() -> [u64; PLACES]
     [0u64; PLACES]
 }
 
+// Makes every place of an image unused.
+pub fn clear(image: &mut [u64; PLACES])
+    ensures { λ _. ⌜ now (image .exit) ≡ replicate imageSize 0 ⌝ }
+{
+    *image = [0u64; PLACES];
+}
+
 // Stores p at the id.
 pub fn put_place(image: &mut [u64; PLACES], id: AdapterId, p: Place)
     requires { ⌜ id .0 < imageSize ⌝ }

@@ -7,7 +7,7 @@ use Rattle.store_queues.specs.Slots.{slotCount}
 use Rattle.list_image.specs.Image.{imageSize}
 
 pub record Sized (L : Limits) : Type 0 where
-  -- an image has a byte for each place
+  -- an image has a number for each place
   pub places : L .places ≡ imageSize
   -- there is a slot for each record of the nine queues
   pub room : L .room ≡ slotCount

@@ -12,7 +12,7 @@ ghost use Rattle.store.specs.Lent.{before, after, HeldAfter, Stays};
 ghost use Rattle.adapters.specs.Values.{Canonical};
 ghost use Rattle.adapter_requests.specs.States.{onPlace};
 ghost use Rattle.list_image.specs.Image.{imageSize};
-ghost use Rattle.list_image.specs.Places.{AllCanonical};
+ghost use Rattle.list_image.specs.Places.{Imaged};
 ghost use Rattle.calls.specs.Inner.{controller, Injected, Got, SetTo};
 use adapters::Device;
 use adapters::Injection;
@@ -119,7 +119,7 @@ fn inject_in(
     device: Device,
     id: AdapterId,
 ) -> Ran
-    requires { ⌜ (room ≤ slotCount) × (places ≤ imageSize) × Held (now order) (now counts) × AllCanonical (now image) ⌝ }
+    requires { ⌜ (room ≤ slotCount) × (places ≤ imageSize) × Held (now order) (now counts) × Imaged (now image) ⌝ }
     ensures { λ r. ⌜ ((singles b : List ℕ) → SetTo places room ais 10 (id .0) b (now (image .entry))
         (pendingOf (now (order .entry)) (now (counts .entry)) (now (slots .entry)) singles) device (now (image .entry))
         (pendingOf (now (order .exit)) (now (counts .exit)) (now (slots .exit)) singles) r) ⌝ }
@@ -146,10 +146,10 @@ fn set_place(
     attr: u64,
     payload: &[u8],
 ) -> Answer
-    requires { ⌜ (places ≤ imageSize) × AllCanonical (now image) × (onPlace group ≡ true) ⌝ }
+    requires { ⌜ (places ≤ imageSize) × Imaged (now image) × (onPlace group ≡ true) ⌝ }
     ensures { λ r. ⌜ ((room : ℕ) (ais : Bool) (p : Pending) (d : Device) → SetTo places room ais group attr (now (payload .entry))
         (now (image .entry)) p d (now (image .exit)) p (record { answer = r; device = d })) ⌝ }
-    ensures held { λ r. ⌜ AllCanonical (now (image .exit)) × ((r .code ≡ 0 → ⊥) → Stays image) ⌝ }
+    ensures held { λ r. ⌜ Imaged (now (image .exit)) × ((r .code ≡ 0 → ⊥) → Stays image) ⌝ }
 {
     let id = adapter_requests::payload_id(payload);
     let place = list_image::look_up(image, places, id);
@@ -197,10 +197,10 @@ pub fn set_any(
     attr: u64,
     payload: &[u8],
 ) -> Ran
-    requires { ⌜ (room ≤ slotCount) × (places ≤ imageSize) × Held (now order) (now counts) × AllCanonical (now image) ⌝ }
+    requires { ⌜ (room ≤ slotCount) × (places ≤ imageSize) × Held (now order) (now counts) × Imaged (now image) ⌝ }
     ensures { λ r. ⌜ SetTo places room ais group attr (now (payload .entry)) (now (image .entry))
         (before order counts slots singles) device (now (image .exit)) (after order counts slots singles) r ⌝ }
-    ensures held { λ _. ⌜ HeldAfter order counts × AllCanonical (now (image .exit)) ⌝ }
+    ensures held { λ _. ⌜ HeldAfter order counts × Imaged (now (image .exit)) ⌝ }
     ensures kept { λ r. ⌜ ((r .answer .code ≡ 0 → ⊥) →
         Stays slots × Stays order × Stays counts × Stays singles × Stays image × (r .device ≡ device)) ⌝ }
 {

@@ -1,6 +1,6 @@
 -- The capability of a fresh controller is the list's flag; of a list without one it decides nothing.
 use Rattle.numbers.proofs.Basics.{_≡_, refl, ap, _∙_, Bool, true, false, List, ℕ, _≤_, _<_, leb-true, leb-false}
-use Rattle.numbers.proofs.Basics.{lt-leb, eqb-true, length, leb, eqb}
+use Rattle.numbers.proofs.Basics.{lt-leb, length, leb, eqb}
 use Rattle.rules.specs.{Bytes.choose, State.State, State.Pending, State.paperLimits, State.fresh, Outcome.result, Outcome.refuse, MoveList.headerBytes, MoveList.aisFlagIn, MoveList.plays, Machine.answerOf}
 use Rattle.rules.specs.Outcome as outcome
 use Rattle.rules.proofs.Checks.{fails}
@@ -17,10 +17,10 @@ unfolding plays
 too-short ais b h = fails (leb headerBytes (length b)) 14 _ (lt-leb headerBytes (length b) h)
 
 -- the pending records of either state
-either : (t : Bool) (x y : State) (p : Pending) → (t ≡ true → x .pending ≡ p) → y .pending ≡ p → choose t x y .pending ≡ p
+either : (t : Bool) (x y : State) (p : Pending) → x .pending ≡ p → (t ≡ false → y .pending ≡ p) → choose t x y .pending ≡ p
 unfolding choose
-either true x y p h k = h refl
-either false x y p h k = k
+either true x y p h k = h
+either false x y p h k = k refl
 
 alike : (b : List ℕ) (ais t : Bool) → leb headerBytes (length b) ≡ t → (headerBytes ≤ length b → ais ≡ eqb (aisFlagIn b) 1)
     → (playedFresh b .code ≡ on ais b .code) × (playedFresh b .count ≡ on ais b .count) × (playedFresh b .next .pending ≡ on ais b .next .pending)
@@ -30,14 +30,14 @@ alike b ais false e h =
     let k = leb-false headerBytes (length b) e in
     rw (too-short (eqb (aisFlagIn b) 1) b k, too-short ais b k) (unfold result in (refl, refl, refl))
 
-pub played-is : (b : List ℕ) (ais : Bool) (a : Answer) (restored : ℕ) (next : State) (p : Pending) → (headerBytes ≤ length b → ais ≡ eqb (aisFlagIn b) 1)
-    → Answers paperLimits (fresh paperLimits ais) b (plays paperLimits (fresh paperLimits ais) b) a (choose (eqb restored 0) (fresh paperLimits ais) next) b
-    → next .pending ≡ p → (restored ≡ 0 → fresh paperLimits ais .pending ≡ p) → PlayedFresh b p a
+pub played-is : (b : List ℕ) (ais : Bool) (a : Answer) (new : Bool) (next : State) (p : Pending) → (headerBytes ≤ length b → ais ≡ eqb (aisFlagIn b) 1)
+    → Answers paperLimits (fresh paperLimits ais) b (plays paperLimits (fresh paperLimits ais) b) a (choose new next (fresh paperLimits ais)) b
+    → next .pending ≡ p → (new ≡ false → fresh paperLimits ais .pending ≡ p) → PlayedFresh b p a
 unfolding on
-played-is b ais a restored next p f e k z =
+played-is b ais a new next p f e k z =
     let s = alike b ais (leb headerBytes (length b)) refl f in
     record {
       code = s .0 ∙ ap (λ (x : outcome.Answer State). x .code) e;
       count = s .1 ∙ ap (λ (x : outcome.Answer State). x .count) e;
-      pending = s .2 ∙ ap (λ (x : outcome.Answer State). x .next .pending) e ∙ either (eqb restored 0) (fresh paperLimits ais) next p (λ t. z (eqb-true restored 0 t)) k;
+      pending = s .2 ∙ ap (λ (x : outcome.Answer State). x .next .pending) e ∙ either new next (fresh paperLimits ais) p k z;
     }

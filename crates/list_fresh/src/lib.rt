@@ -8,8 +8,8 @@ ghost use Rattle.list_fresh.specs.Fresh.{PlayedFresh};
 ghost use Rattle.store.specs.Lent.{after, HeldAfter};
 use answers::Answer;
 use numbers::COUNTS;
+use numbers::IDS;
 use numbers::ORDER_BYTES;
-use numbers::PLACES;
 use numbers::ROOM;
 use numbers::SINGLES_BYTES;
 use numbers::SLOT_BYTES;
@@ -36,13 +36,15 @@ pub fn play_fresh(
     ensures answer { λ r. ⌜ PlayedFresh (now (list .entry)) (after order counts slots singles) r ⌝ }
 {
     store::fresh(order, counts, singles);
+    let mut image = list_image::empty();
     let ais = capable(list);
     let played = list_play::play_list(
         slots,
         order,
         counts,
         singles,
-        PLACES as u64,
+        &mut image,
+        IDS,
         ROOM,
         ais,
         list,

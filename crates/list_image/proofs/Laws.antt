@@ -1,11 +1,12 @@
 -- Reading and writing one number of an image is reading and writing one of its places.
 use Rattle.numbers.proofs.Basics.{_≡_, refl, sym, _∙_, List, [], _∷_, map, ℕ, zero, suc, _≤_, _<_, arith, getD, set}
-use Rattle.numbers.proofs.{Basics.take, Basics.replicate, Basics.length-take, Basics.List·getD-map, Basics.List·getD-eq-default, Basics.set-out, Basics.take-set-lt, Basics.getD-take, Laws.map-set, Laws.map-take}
+use Rattle.numbers.proofs.{Basics.take, Basics.replicate, Basics.length-take, Basics.length-set, Basics.List·getD-map, Basics.List·getD-eq-default, Basics.set-out, Basics.take-set-lt, Basics.getD-take, Laws.map-set, Laws.map-take}
+use lib.ListN.{length-replicate}
 use Rattle.rules.specs.{Bytes.choose, Invariant.All}
 use Rattle.rules.specs.State as rules
 use Rattle.rules.proofs.Lists.{all-set, all-get, all-replicate}
 use Rattle.adapters.specs.{declared.Place.Place, Values.placeOf, Values.Canonical}
-use Rattle.list_image.specs.{Image.packed, Image.unpacked, Places.placesOf, Places.AllCanonical}
+use Rattle.list_image.specs.{Image.imageSize, Image.packed, Image.unpacked, Places.placesOf, Places.AllCanonical, Places.Imaged}
 use Rattle.list_image.proofs.Packed.{unpacked-zero, unpacked-packed}
 
 map-replicate : {A B : Type 0} (f : A → B) (n : ℕ) (a : A) → map f (replicate n a) ≡ replicate n (f a)
@@ -28,6 +29,9 @@ pub canonical-zeros : (n : ℕ) → AllCanonical (replicate n 0)
 unfolding AllCanonical
 canonical-zeros n = rw (map-replicate unpacked n 0) (all-replicate Canonical n (unpacked 0) canonical-none)
 
+pub imaged-zeros : Imaged (replicate imageSize 0)
+imaged-zeros = record { whole = length-replicate {A = ℕ} imageSize 0; canonical = canonical-zeros imageSize }
+
 -- one place read
 module _ (image : List ℕ) (places id : ℕ) where
   pub read-in : id < places → placeOf (unpacked (getD image id 0)) ≡ getD (take places (placesOf image)) id rules.free
@@ -49,9 +53,12 @@ module _ (image : List ℕ) (places id : ℕ) where
     write-in h =
         rw (map-set (λ b. placeOf (unpacked b)) image id (packed p), unpacked-packed p k) (take-set-lt places (placesOf image) id (placeOf p) h)
 
-    pub write-canonical : AllCanonical image → AllCanonical (set image id (packed p))
+    write-canonical : AllCanonical image → AllCanonical (set image id (packed p))
     unfolding AllCanonical
     write-canonical h = rw (map-set unpacked image id (packed p), unpacked-packed p k) (all-set Canonical (map unpacked image) id p h k)
+
+    pub write-imaged : Imaged image → Imaged (set image id (packed p))
+    write-imaged h = record { whole = length-set image id (packed p) ∙ h .whole; canonical = write-canonical (h .canonical) }
 
   pub write-out : (p : rules.Place) → places ≤ id → take places (placesOf image) ≡ set (take places (placesOf image)) id p
   write-out p h = sym (set-out (take places (placesOf image)) id p (rw length-take (omega arith)))

@@ -4,7 +4,7 @@ ghost use Prim.Native.Nat.{_≤_, _<_};
 ghost use lib.ListN.{getD, set, take, replicate};
 ghost use Rattle.rules.specs.State.{free};
 ghost use Rattle.adapters.specs.Values.{placeOf, Canonical};
-ghost use Rattle.list_image.specs.Places.{placesOf, AllCanonical};
+ghost use Rattle.list_image.specs.Places.{placesOf, Imaged};
 ghost use Rattle.list_image.specs.Image.{imageSize, packed, unpacked};
 ghost use Rattle.rules.specs.MoveList.{oneIf};
 use adapters::Place;
@@ -14,7 +14,7 @@ use numbers::Subclass;
 
 // The place at an id below `places`. Any other id reads as free.
 pub fn look_up(image: &[u64; PLACES], places: u64, id: AdapterId) -> Place
-    requires { ⌜ (places ≤ imageSize) × AllCanonical (now image) ⌝ }
+    requires { ⌜ (places ≤ imageSize) × Imaged (now image) ⌝ }
     ensures { λ r. ⌜ (placeOf r ≡ getD (take places (placesOf (now (image .entry)))) (id .0) free) × Canonical r ⌝ }
 {
     if id.0 < places {
@@ -26,8 +26,8 @@ pub fn look_up(image: &[u64; PLACES], places: u64, id: AdapterId) -> Place
 
 // Stores p at an id below `places`. For any other id nothing changes.
 pub fn put(image: &mut [u64; PLACES], places: u64, id: AdapterId, p: Place)
-    requires { ⌜ (places ≤ imageSize) × AllCanonical (now image) × Canonical p ⌝ }
-    ensures { λ _. ⌜ (take places (placesOf (now (image .exit))) ≡ set (take places (placesOf (now (image .entry)))) (id .0) (placeOf p)) × AllCanonical (now (image .exit)) ⌝ }
+    requires { ⌜ (places ≤ imageSize) × Imaged (now image) × Canonical p ⌝ }
+    ensures { λ _. ⌜ (take places (placesOf (now (image .exit))) ≡ set (take places (placesOf (now (image .entry)))) (id .0) (placeOf p)) × Imaged (now (image .exit)) ⌝ }
 {
     if id.0 < places {
         let i = id.0 as usize;

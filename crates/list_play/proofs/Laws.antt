@@ -1,6 +1,6 @@
 -- Laws of playing: one request on the values, and the requests of a table in turn.
-use Rattle.numbers.proofs.Basics.{ℕ, zero, suc, _+_, _-_, _≤_, _<_, _≡_, refl, ap, sym, _∙_, subst, Bool, false, List}
-use Rattle.numbers.proofs.Basics.{[], _∷_, not-suc-le-zero, le-of-suc-le-suc, add-one, arith, getD, set, take, drop}
+use Rattle.numbers.proofs.Basics.{ℕ, zero, suc, _+_, _-_, _≤_, _<_, _≡_, refl, ap, sym, _∙_, subst, Bool, true, false, List}
+use Rattle.numbers.proofs.Basics.{[], _∷_, not-suc-le-zero, le-of-suc-le-suc, add-one, arith, take, drop}
 use Rattle.numbers.proofs.Basics.{replicate, eqb, eq-eqb, ne-eqb}
 use Rattle.rules.specs.{Bytes.choose, Bytes.part, State.Limits, State.Pending, State.State, State.nothing, State.fresh, Requests.setRequest, Requests.request, MoveList.ListRequest, MoveList.TableEntry, MoveList.onward, MoveList.applies, MoveList.requestsIn, MoveList.plays, Machine.answerOf}
 use Rattle.rules.specs.State as rules
@@ -8,24 +8,17 @@ use Rattle.rules.specs.Outcome.{Outcome, refuseWith, accept, resetWith, refuse,
 use Rattle.rules.specs.Outcome as told
 use Rattle.rules.proofs.{Checks.chosen, Checks.passed, Checks.Comes, Outcomes.Known, Outcomes.known-request, Outcomes.never-zero}
 use Rattle.answers.specs.{declared.Answer.Answer, Answers.Answers, Answers.answered}
-use Rattle.adapters.specs.{declared.Device.Device, declared.Place.Place, Values.placeOf, Values.deviceOf}
-use Rattle.adapter_requests.specs.{declared.Reply.Reply, States.Replies}
-use Rattle.list_image.specs.{Places.placesOf, Image.imageSize}
+use Rattle.adapters.specs.{declared.Device.Device, Values.deviceOf}
+use Rattle.list_image.specs.Image.{imageSize}
 use Rattle.list_image.proofs.Laws.{places-none}
 use Rattle.list_form.specs.Form.{slotAt}
 use Rattle.list_form.proofs.Laws.{slotsFrom, next-slot, last-slot}
-use Rattle.list_play.specs.Play.{limitsFrom, imageState, requestIn, ranTo}
+use Rattle.calls.specs.Inner.{limitsFrom, imageState}
+use Rattle.list_play.specs.Play.{ranTo}
 
--- a reply about one place of an image, as an answer about the state that the image stands for
-pub as-state : (places room : ℕ) (ais : Bool) (device : Device) (place : Place) (id : ℕ) (image image′ b : List ℕ) (o : Limits → State → Outcome State) (p₀ p₁ : Pending) (r : Reply)
-    (a : Answer) (d : Device) → Replies places room ais device place id b o p₀ p₁ r → a ≡ r .answer → d ≡ r .device
-    → placeOf place ≡ getD (take places (placesOf image)) id rules.free
-    → take places (placesOf image′) ≡ set (take places (placesOf image)) id (placeOf (r .place))
-    → Answers (limitsFrom places room) (imageState ais places image p₀ device) b (o (limitsFrom places room) (imageState ais places image p₀ device)) a
-    (imageState ais places image′ p₁ d) b
-as-state places room ais device place id image image′ b o p₀ p₁ r a d h ea ed f g =
-    h (limitsFrom places room) (imageState ais places image p₀ device) refl refl refl refl refl (sym f)
-    ∙ (λ i. tell ((sym ea) i .code) ((sym ea) i .count) (record { ais = ais; adapters = (sym g) i; pending = p₁; device = deviceOf ((sym ed) i) }) b)
+-- the request of a table entry
+abbrev requestIn : Limits → State → List ℕ → TableEntry → Outcome State
+requestIn L s b e = request L s (setRequest (e .group)) (e .attr) (part (e .at) (e .size) b)
 
 -- the request of a table entry, by the numbers that were read of it
 pub as-slot : (L : Limits) (s t : State) (b : List ℕ) (e : TableEntry) (a : Answer) (at size group attr : ℕ) → at ≡ e .at → size ≡ e .size → group ≡ e .group
@@ -117,13 +110,13 @@ fresh-is places room ais device p h e d =
       device = deviceOf (sym d i);
     }
 
--- ---- the answer of a played list
+-- ---- the answer of a played list: its form is refused, all its requests are applied, or one of them is refused
 pub not-played : (L : Limits) (s t : State) (b : List ℕ) (code : ℕ) (a : Answer) → plays L s b ≡ refuse code → a ≡ answered code 0
-    → Answers L s b (plays L s b) a (choose (eqb 0 0) s t) b
+    → Answers L s b (plays L s b) a (choose false t s) b
 unfolding result choose
 not-played L s t b code a p e = ap (answerOf L s b) p ∙ rw e
 
-module _ (places room : ℕ) (ais : Bool) (b : List ℕ) (es : List ListRequest) (start next : State) (a : Answer) (h : 0 < places)
+module _ (places room : ℕ) (ais : Bool) (b : List ℕ) (es : List ListRequest) (start next : State) (a : Answer)
     (f : fresh (limitsFrom places room) ais ≡ start) (r : applies (limitsFrom places room) 0 start es ≡ ranTo a next) (L : Limits) (s : State)
     (e1 : L .places ≡ places) (e2 : L .room ≡ room) (e3 : s .ais ≡ ais) (p : plays L s b ≡ applies L 0 (fresh L ais) es) where
   comes-to : plays L s b ≡ ranTo a next
@@ -131,16 +124,12 @@ module _ (places room : ℕ) (ais : Bool) (b : List ℕ) (es : List ListRequest)
       p ∙ (λ i. let K : Limits = record { places = e1 i; room = e2 i } in applies K 0 (fresh K ais) es)
       ∙ ap (λ (x : State). applies (limitsFrom places room) 0 x es) f ∙ r
 
-  restored-is : (t : State) → t ≡ choose (eqb places 0) s t
-  restored-is t = sym (passed _ s t (ne-eqb places 0 (λ z. omega arith)))
+  pub played-all : a .code ≡ 0 → Answers L s b (plays L s b) a (choose true next s) b
+  unfolding result choose
+  played-all z = ap (answerOf L s b) (comes-to ∙ ran-all a next z) ∙ (λ i. tell (sym z i) (a .count) next b)
 
-  pub played-all : a .code ≡ 0 → Answers L s b (plays L s b) a (choose (eqb places 0) s next) b
-  unfolding result
-  played-all z =
-      ap (answerOf L s b) (comes-to ∙ ran-all a next z) ∙ (λ i. tell (sym z i) (a .count) (restored-is next i) b)
-
-  pub played-part : (t : State) → fresh (limitsFrom places room) ais ≡ t → (a .code ≡ 0 → ⊥) → Answers L s b (plays L s b) a (choose (eqb places 0) s t) b
-  unfolding result
+  pub played-part : (t : State) → fresh (limitsFrom places room) ais ≡ t → (a .code ≡ 0 → ⊥) → Answers L s b (plays L s b) a (choose true t s) b
+  unfolding result choose
   played-part t g n =
       ap (answerOf L s b) (comes-to ∙ ran-part a next n)
-      ∙ (λ i. tell (a .code) (a .count) (((λ j. let K : Limits = record { places = e1 j; room = e2 j } in fresh K (e3 j)) ∙ g ∙ restored-is t) i) b)
+      ∙ (λ i. tell (a .code) (a .count) (((λ j. let K : Limits = record { places = e1 j; room = e2 j } in fresh K (e3 j)) ∙ g) i) b)

@@ -9,7 +9,7 @@ returns c =
     let a = c .before .before .before .before in
     let e = c .unpack .ensures in (
       ap placeOf e ∙ read-in (a .args .image .now) (a .args .places) (a .args .id .0) (c .before .before .if1 .taken),
-      rw e (read-canonical (a .args .image .now) (a .args .places) (a .args .id .0) (a .pre .1)),
+      rw e (read-canonical (a .args .image .now) (a .args .places) (a .args .id .0) (a .pre .1 .canonical)),
     )
 
 returns-2 : tie.Need-returns-2

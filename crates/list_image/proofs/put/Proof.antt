@@ -1,7 +1,7 @@
 -- `list_image::put` meets its contract, by the test.
 use borrow.Author.Needs.{needs}
 use Rattle.adapters.specs.Values.{placeOf}
-use Rattle.list_image.proofs.{Laws.write-in, Laws.write-out, Laws.write-canonical, put.Statement.statement}
+use Rattle.list_image.proofs.{Laws.write-in, Laws.write-out, Laws.write-imaged, put.Statement.statement}
 use Rattle.list_image.proofs.put.Tie as tie
 
 returns : tie.Need-returns
@@ -10,7 +10,7 @@ returns c =
     let a = s .args in
     rw (c .pack .ensures) (
       write-in (a .image .now) (a .places) (a .id .0) (a .p) (s .pre .2) (c .before .if1 .taken),
-      write-canonical (a .image .now) (a .places) (a .id .0) (a .p) (s .pre .2) (s .pre .1),
+      write-imaged (a .image .now) (a .places) (a .id .0) (a .p) (s .pre .2) (s .pre .1),
     )
 
 returns-2 : tie.Need-returns-2

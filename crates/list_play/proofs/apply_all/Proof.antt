@@ -3,21 +3,21 @@ use Rattle.numbers.proofs.Basics.{_-_, _≤_, _≡_, sym, _∙_, arith, needs}
 use Rattle.rules.specs.MoveList.{requestsIn, applies}
 use Rattle.store_queues.specs.Queues.{Held}
 use Rattle.store.specs.Memory.{pendingOf}
-use Rattle.list_image.specs.Places.{AllCanonical}
+use Rattle.list_image.specs.Places.{Imaged}
 use Rattle.list_form.specs.Form.{slotsOf}
 use Rattle.list_form.proofs.Laws.{slotsFrom, slots-all}
-use Rattle.list_play.specs.Play.{limitsFrom, imageState}
+use Rattle.calls.specs.Inner.{limitsFrom, imageState}
 use Rattle.list_play.proofs.{Laws.applies-next, Laws.applies-stops, Laws.applies-ends, Laws.ran-all, Laws.ran-part, apply_all.Statement.statement}
 use Rattle.list_play.proofs.apply_all.Tie as tie
 
 abbrev Inv-loop : tie.InvT-loop
-Inv-loop slots₀ order₀ counts₀ singles₀ places room ais image₀ list count d₀ i₀ slots order counts singles image d i =
-    (i ≤ count) × Held order counts × AllCanonical image
+Inv-loop slots₀ order₀ counts₀ singles₀ image₀ places room ais list count d₀ i₀ slots order counts singles image d i =
+    (i ≤ count) × Held order counts × Imaged image
     × (applies (limitsFrom places room) 0 (imageState ais places image₀ (pendingOf order₀ counts₀ slots₀ singles₀) d₀) (requestsIn list (slotsOf list))
     ≡ applies (limitsFrom places room) i (imageState ais places image (pendingOf order counts slots singles) d) (requestsIn list (slotsFrom i count list)))
 
 abbrev μ-loop : tie.MeasureT-loop
-μ-loop slots₀ order₀ counts₀ singles₀ places room ais image₀ list count d₀ i₀ slots order counts singles image d i = count - i
+μ-loop slots₀ order₀ counts₀ singles₀ image₀ places room ais list count d₀ i₀ slots order counts singles image d i = count - i
 
 loop-holds : tie.Need-loop-holds Inv-loop μ-loop
 loop-holds c = let p = c .before .pre in (omega arith, p .2, p .3, rw (slots-all, p .5))

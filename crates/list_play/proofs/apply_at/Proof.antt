@@ -1,6 +1,5 @@
 -- `list_play::apply_at` meets its contract: the numbers read are the table entry's, and its payload lies within the list.
-use Rattle.numbers.proofs.Basics.{_+_, _*_, _≤_, _≡_, ap, _∙_, arith, length, needs}
-use Rattle.rules.specs.MoveList.{movable}
+use Rattle.numbers.proofs.Basics.{_+_, _*_, _≤_, _≡_, _∙_, arith, length, needs}
 use Rattle.list_form.specs.Form.{slotAt}
 use Rattle.list_form.proofs.Laws.{inside, slot-within}
 use Rattle.list_play.proofs.{Laws.as-slot, apply_at.Statement.statement}
@@ -13,24 +12,21 @@ ends-within : (c : tie.After-read-be3) → c .before .before .read-be .result + 
 ends-within c =
     omega (arith, size-is c, c .before .before .read-be .ensures .0, slot-within (c .before .before .before .before .args .list .now) (c .before .before .before .before .args .place) (c .before .before .before .before .pre .4) (c .before .before .before .before .pre .5) .0)
 
-part-apply-end : tie.Need-part-apply-end
-part-apply-end c = ends-within (c .before .before .before .before .before .before)
+part-set-any-end : tie.Need-part-set-any-end
+part-set-any-end c = ends-within (c .before .before .before .before .before .before)
 
-apply-requires : tie.Need-apply-requires
-apply-requires c κs =
-    let d = c .before .before .before .before .before .before in
-    let f = d .before .before .before .before .before in
-    let a = f .args in
-    (f .pre .0, f .pre .1, f .pre .2, f .pre .3, ap movable (d .before .before .read-be2 .ensures .0 ∙ inside (20 + 24 * a .place) 4 4 (a .list .now)) ∙ slot-within (a .list .now) (a .place) (f .pre .4) (f .pre .5) .1)
+set-any-requires : tie.Need-set-any-requires
+set-any-requires c κs = let f = c .before .before .before .before .before .before .before .before .before .before .before in (f .pre .0, f .pre .1, f .pre .2, f .pre .3)
 
 returns : tie.Need-returns
 returns c =
-    let a = c .before .before .before .before .before .before .before .before .before .before .before .before .args in
+    let r = c .before .before .before .before .before .before .before in
+    let a = r .before .before .before .before .before .args in
     let e = 20 + 24 * a .place in
     let b = a .list .now in (
-      as-slot _ _ _ b (slotAt (a .place) b) _ _ _ _ _ (c .before .before .before .before .before .before .before .before .before .before .read-be .ensures .0) (size-is (c .before .before .before .before .before .before .before .before)) (c .before .before .before .before .before .before .before .before .before .read-be2 .ensures .0 ∙ inside e 4 4 b)
-          (c .before .before .before .before .before .before .before .read-doubleword .ensures .0 ∙ inside e 16 8 b) (c .apply .ensures .0),
-      c .apply .ensures .1,
+      as-slot _ _ _ b (slotAt (a .place) b) _ _ _ _ _ (r .before .before .before .read-be .ensures .0) (size-is (r .before)) (r .before .before .read-be2 .ensures .0 ∙ inside e 4 4 b)
+          (r .read-doubleword .ensures .0 ∙ inside e 16 8 b) (c .set-any .ensures .0),
+      c .set-any .ensures .1 .0,
     )
 
 pub apply-at-spec : {M : Type 1} → statement M
@@ -38,4 +34,4 @@ apply-at-spec =
     tie.close
     (tie.spec (λ c. search needs) (λ c. search needs) (λ c κs. search needs) (λ c. search needs) (λ c κs. search needs) (λ c. search needs)
     (λ c. search needs) (λ c κs. search needs) (λ c. search needs) (λ c. search needs) (λ c κs. search needs) (λ c. search needs)
-    (λ c. search needs) part-apply-end apply-requires returns)
+    (λ c. search needs) part-set-any-end set-any-requires returns)

@@ -1,8 +1,9 @@
 -- The calls of the functions over a table, each as one step of a walk.
 --     looks-up, snapshots                  the caller holds the table's memory, `row`, as it does while its borrow is open: it is lent for a lifetime of the call and comes back
 --     looks-up-shared, snapshots-shared    the caller passes its own `&[Place]` on: it holds the token of the slice's lifetime and what the slice owns (Gives.antt's `Shared`), and keeps both
---     registers, masks, restores           row ys ∷ Γ  ⟶  row of the new table ∷ Γ
-use Rattle.lent_table.proofs.Walk.{refl, ℕ, _<_, _^_, Bool, [], _∷_, List, length, getD, set, URA, fullShare, w64, Val, vunit, vint, vbool, SProp, ent, sep, snd∗, exE, id⊢, GName, Lft, Share, ftrue, flft, Memory, Routine, Heap, Env, Calls, Loops, Atoms, sem, Fun, Given, Item, Seq, runs, lands, ‵, _⊛_, _$_, _∵_, !, qed, move, join, fjoin, frame, done, Opds, FmC, Is, Boolean, bool-makes, uint-makes, u64, sliceVal, Room, row, owned, nothing, tripleOf, Contract, Triple, ensured, lasts}
+--     registers, masks                     row ys ∷ Γ  ⟶  row of the new table ∷ Γ
+--     restores                             row ys ∷ cell of the image ∷ Γ  ⟶  row of the new table ∷ cell of the image ∷ Γ
+use Rattle.lent_table.proofs.Walk.{_≡_, refl, sym, ap, subst, ℕ, _<_, _≤_, _^_, Bool, [], _∷_, List, length, getD, set, URA, fullShare, w64, Val, vunit, vint, vbool, vptr, SProp, ent, sep, snd∗, exE, id⊢, GName, Lft, Share, ftrue, fsep, flft, fat, Memory, Routine, Heap, Env, Calls, Loops, Atoms, sem, Fun, Given, Item, Seq, runs, lands, ‵, _⊛_, _$_, _∵_, !, qed, move, drop, split, rewrite, fsplit, join, fjoin, frame, done, Opds, FmC, Is, shows, Boolean, bool-makes, uint-makes, u64, unit, only, finally, spelt, says, sliceVal, Room, row, owned, nothing, tripleOf, Contract, Triple, ensured, lasts}
 use mir.Syntax.{Place as Where, Body as Code, Opd as Operand, seq, call}
 use denote.Struct.Laws as LL
 use Rattle.numbers.specs.declared.AdapterId.{AdapterId}
@@ -10,8 +11,8 @@ use Rattle.numbers.proofs.AdapterId as I
 use Rattle.adapters.specs.{declared.Place.Place, Values.unused, Values.withMasked}
 use Rattle.adapters.proofs.Place as T
 use Rattle.lent_table.specs.Table.{snapTo, restored}
-use Rattle.lent_table.proofs.{Places.R, Places.low, Places.Fits, Places.FitsId, Places.makes, Places.makes-id, Images.Image, Images.low-image, Images.FitsImage, Images.image-tells, Images.image-makes, look_up.Symbol.name as #look-up, snapshot.Symbol.name as #snapshot, register.Symbol.name as #register, mask.Symbol.name as #mask, restore.Symbol.name as #restore}
-use Rattle.lent_table.proofs.Gives.{at-list, no-others, Gives, Shared, Lent, gives-row, gives-shared, changes-row}
+use Rattle.lent_table.proofs.{Places.R, Places.low, Places.Fits, Places.FitsId, Places.makes, Places.makes-id, Images.Image, Images.imageTy, Images.low-image, Images.FitsImage, Images.SharedImage, Images.image-tells, Images.image-makes, Rows.shares-cell, Rows.cell-shared-back, Rows.lends-row, Rows.row-back, Called.calls-told, look_up.Symbol.name as #look-up, snapshot.Symbol.name as #snapshot, register.Symbol.name as #register, mask.Symbol.name as #mask, restore.Symbol.name as #restore}
+use Rattle.lent_table.proofs.Gives.{at-list, last-list, no-others, Gives, Shared, Lent, gives-row, gives-shared, changes-row}
 use Rattle.lent_table.proofs.look_up as look-up
 use Rattle.lent_table.proofs.snapshot as snapshot
 use Rattle.lent_table.proofs.register as register
@@ -88,14 +89,6 @@ module _ {M : Type 1} (𝓤 : URA M) (H : Heap 𝓤) (A : Atoms 𝓤) (mem′ : 
           qed W (‵ (flft κ q) ∷ ‵ (Lent R ys b o κ γ) ∷ []) ∵ nothing ! $ move ! (1 ∷ 0 ∷ []) $ join ! $
           nothing ! $ owned ! Boolean (Is Boolean) (bool-makes 𝓤 H A W) a _ refl $ fjoin ! $ owned ! I.the-row (Is I.the-row) (makes-id 𝓤 H A W) id _ g $ fjoin ! $ move ! (2 ∷ 0 ∷ []) $ fjoin ! $ move ! (1 ∷ 0 ∷ []) $ join ! $ frame ! $ done !
 
-      abbrev to-restore : ℕ → List ℕ → Restore .Ghost
-      to-restore n all = (((κ, tt), (q, tt), tt, (at-list b o γ ys, (n, (all, tt))), (s ∷ [], (vint w64 n ∷ [], (low-image all ∷ [], tt)))), tt)
-
-      goes-restore : (n : ℕ) (all : List ℕ) → n < 2 ^ 64 → FitsImage all → ent 𝓤 (sep 𝓤 (A .lft κ q) (sem 𝓤 H A (Lent R ys b o κ γ))) (Restore .pre (to-restore n all))
-      goes-restore n all g ga =
-          qed W (‵ (flft κ q) ∷ ‵ (Lent R ys b o κ γ) ∷ []) ∵ nothing ! $ move ! (1 ∷ 0 ∷ []) $ join ! $
-          nothing ! $ owned ! Image (Is Image) (image-makes 𝓤 H A W) all _ ga $ fjoin ! $ owned ! u64 (Is u64) (uint-makes 𝓤 H A W w64) n _ (refl, g) $ fjoin ! $ move ! (2 ∷ 0 ∷ []) $ fjoin ! $ move ! (1 ∷ 0 ∷ []) $ join ! $ frame ! $ done !
-
 module _ {M : Type 1} {𝓤 : URA M} {H : Heap 𝓤} {A : Atoms 𝓤} {K : Type 0} {W : Given 𝓤 H A} {Γ : List (Item 𝓤)} {E : Env 𝓤 H} {C : Calls 𝓤 H} {Λ : Loops 𝓤 H} {p : types.Kit.Post 𝓤 H} {d : Where} {rest : Code} {xs : List Operand} where
   pub looks-up : K → (mem′ : Memory → SProp 𝓤) (run : Routine → Fun 𝓤) → FmC 𝓤 H (W .laws) C → Triple 𝓤 (C #look-up) (LookUp 𝓤 H A mem′ run)
       → (ys : List Place) (id : AdapterId) (b o : ℕ) → Room R (length ys) → FitsId id
@@ -141,11 +134,21 @@ module _ {M : Type 1} {𝓤 : URA M} {H : Heap 𝓤} {A : Atoms 𝓤} {K : Type 
       changes-row R ys b o t fm (Mask 𝓤 H A mem′ run) known room (λ ν δ. to-mask 𝓤 H A mem′ run W b o ys (ν ∷ []) fullShare δ id a) (λ ν δ. goes-mask 𝓤 H A mem′ run W b o ys (ν ∷ []) fullShare δ id a g)
       (set ys (id .0) (withMasked a (getD ys (id .0) unused))) no-others (λ ν δ w. id⊢ 𝓤 _) (λ ν δ. os) k
 
+  -- the image is a local of the caller's
   pub restores : K → (mem′ : Memory → SProp 𝓤) (run : Routine → Fun 𝓤) → FmC 𝓤 H (W .laws) C → Triple 𝓤 (C #restore) (Restore 𝓤 H A mem′ run)
-      → (ys : List Place) (n : ℕ) (all : List ℕ) (b o : ℕ) → Room R (length ys) → n < 2 ^ 64 → FitsImage all
-      → ((i j : Item 𝓤) → Opds K W (i ∷ j ∷ Γ) E xs (sliceVal (b, o) (length ys) ∷ vint w64 n ∷ low-image all ∷ []))
-      → Seq K W (‵ (row R fullShare (restored ys all n) b o) ∷ Γ) (lands C Λ E d vunit rest p)
-      → Seq K W (‵ (row R fullShare ys b o) ∷ Γ) (runs C Λ E (seq (call #restore xs d) rest) p)
-  restores t mem′ run fm known ys n all b o room g ga os k =
-      changes-row R ys b o t fm (Restore 𝓤 H A mem′ run) known room (λ ν δ. to-restore 𝓤 H A mem′ run W b o ys (ν ∷ []) fullShare δ n all) (λ ν δ. goes-restore 𝓤 H A mem′ run W b o ys (ν ∷ []) fullShare δ n all g ga)
-      (restored ys all n) no-others (λ ν δ w. id⊢ 𝓤 _) (λ ν δ. os) k
+      → (ys : List Place) (n : ℕ) (l : List ℕ) (b o c : ℕ) → Room R (length ys) → n < 2 ^ 64 → n ≤ imageSize → FitsImage l
+      → ((i j k : Item 𝓤) → Opds K W (i ∷ j ∷ k ∷ Γ) E xs (sliceVal (b, o) (length ys) ∷ vint w64 n ∷ vptr c 0 ∷ []))
+      → Seq K W (‵ (row R fullShare (restored ys l n) b o) ∷ ‵ (fat fullShare imageTy c 0 (low-image l)) ∷ Γ) (lands C Λ E d vunit rest p)
+      → Seq K W (‵ (row R fullShare ys b o) ∷ ‵ (fat fullShare imageTy c 0 (low-image l)) ∷ Γ) (runs C Λ E (seq (call #restore xs d) rest) p)
+  restores t mem′ run fm known ys n l b o c room g few gl os k =
+      move t (1 ∷ []) $ owned t Image (Is Image) (image-makes 𝓤 H A W) l _ gl $ move t (1 ∷ 0 ∷ []) $ shares-cell t tt Image fullShare l (low-image l ∷ []) c 0 (λ νa δa. move t (3 ∷ []) $ lends-row t tt R ys b o room (λ ν δ.
+      -- [the table's token, the table, what its lender keeps; the image's token, the image, what its lender keeps; Γ]
+      nothing t $ move t (5 ∷ 0 ∷ []) $ fjoin t $ owned t u64 (Is u64) (uint-makes 𝓤 H A W w64) n _ (refl, g) $ fjoin t $ move t (2 ∷ 0 ∷ []) $ fjoin t $ nothing t $ move t (4 ∷ 0 ∷ []) $ join t $ move t (2 ∷ 0 ∷ []) $ join t $
+      calls-told t fm (Restore 𝓤 H A mem′ run) known (((ν ∷ [], (νa ∷ [], tt)), (fullShare, (fullShare, tt)), tt, (at-list b o δ ys, (n, (at-list c 0 δa l, tt))), (sliceVal (b, o) (length ys) ∷ [], (vint w64 n ∷ [], (vptr c 0 ∷ [], tt)))), tt) unit
+      (‵ (flft (ν ∷ []) fullShare) ⊛ ‵ (flft (νa ∷ []) fullShare) ⊛ ‵ ftrue) (fsep (Lent R ys b o (ν ∷ []) δ) (fsep (u64 .own n (vint w64 n ∷ [])) (fsep (SharedImage l c 0 (νa ∷ []) δa) ftrue)))
+      {X = List Place × (Unit {0} × (Unit {0} × Unit {0}))} (λ w. fsep (last-list R δ (length ys) (w .0)) (fsep ftrue (fsep ftrue ftrue))) (λ z w. w .0 ≡ restored ys l n)
+      (qed W ((‵ (flft (ν ∷ []) fullShare) ⊛ ‵ (flft (νa ∷ []) fullShare) ⊛ ‵ ftrue) ∷ ‵ (fsep (Lent R ys b o (ν ∷ []) δ) (fsep (u64 .own n (vint w64 n ∷ [])) (fsep (SharedImage l c 0 (νa ∷ []) δa) ftrue))) ∷ []) ∵ says ! few $ done !)
+      (λ v. id⊢ 𝓤 _) (λ i. os i _ _) (λ z v w e is. split t $ move t (1 ∷ []) $ split t $ move t (1 ∷ []) $ drop t $ move t (2 ∷ []) $ fsplit t $ move t (1 ∷ []) $ drop t $ fsplit t $ move t (1 ∷ []) $ drop t $
+      -- [the last list; the image's token; the table's token; what their lenders keep; Γ]
+      rewrite t 0 (λ (zs : List Place). ‵ (finally R δ zs)) e refl $ move t (2 ∷ 3 ∷ 0 ∷ []) $ row-back t tt R (length ys) b o ν δ (restored ys l n) $ move t (1 ∷ 2 ∷ []) $ cell-shared-back t tt Image fullShare l c 0 νa (λ vs.
+      spelt t Image (Is Image) (shows 𝓤 H A Image) (λ m. low-image m ∷ []) image-tells fullShare l vs c 0 $ move t (1 ∷ []) $ drop t $ move t (1 ∷ []) $ subst (λ (u : Val). Seq K W (‵ (row R fullShare (restored ys l n) b o) ∷ ‵ (fat fullShare imageTy c 0 (low-image l)) ∷ Γ) (lands C Λ E d u rest p)) (sym (ap only is)) k))))

@@ -95,21 +95,24 @@ pub fn snapshot(t: &[Place]) -> [u64; PLACES]
     let mut all = list_image::empty();
     let mut i = 0;
     while i < IDS {
-        let p = look_up(t, AdapterId(i));
-        list_image::put_place(&mut all, i, p);
+        let id = AdapterId(i);
+        let p = look_up(t, id);
+        list_image::put_place(&mut all, id, p);
         i += 1;
     }
     all
 }
 
 // The first n places are those of the image.
-pub fn restore(t: &mut [Place], n: u64, all: [u64; PLACES])
-    ensures { λ _. ⌜ now (t .exit) ≡ restored (now (t .entry)) all n ⌝ }
+pub fn restore(t: &mut [Place], n: u64, all: &[u64; PLACES])
+    requires { ⌜ n ≤ imageSize ⌝ }
+    ensures { λ _. ⌜ now (t .exit) ≡ restored (now (t .entry)) (now (all .entry)) n ⌝ }
 {
     let mut i = 0;
     while i < n {
-        let p = list_image::place_at(all, i);
-        register(t, AdapterId(i), p);
+        let id = AdapterId(i);
+        let p = list_image::place_at(all, id);
+        register(t, id, p);
         i += 1;
     }
 }

@@ -78,7 +78,7 @@ said-of (shared s) w m δ L y = fsep ftrue (L (y .1))
 said-of (apart s) w m δ L y = L y
 
 module _ {M : Type 1} {𝓤 : URA M} {H : Heap 𝓤} {A : Atoms 𝓤} {K : Type 0} {W : Given 𝓤 H A} {Γ : List (Item 𝓤)} {G : Goal 𝓤 H} (t : K) (z : Soaks G) (w : Width) (m : ℕ) (xs : List ℕ) (g : FitsInts w m xs) (b o : ℕ) where
-  lends-array : (way : Way) {T : Item 𝓤} {O : Fml} → ((ν : ℕ) (δ : GName) → Seq K W (tok way ν T ∷ ‵ (lent way w m xs b o ν δ O) ∷ lender way w m xs b o ν δ ∷ Γ) G)
+  pub lends-array : (way : Way) {T : Item 𝓤} {O : Fml} → ((ν : ℕ) (δ : GName) → Seq K W (tok way ν T ∷ ‵ (lent way w m xs b o ν δ O) ∷ lender way w m xs b o ν δ ∷ Γ) G)
       → Seq K W (‵ (cellAt (share-of way) (Ints w m .mir) (ints w xs ∷ []) b o) ∷ T ∷ ‵ O ∷ Γ) G
   lends-array mutably k =
       owned t (Ints w m) (Is (Ints w m)) (ints-makes 𝓤 H A W w m) xs _ g $ move t (1 ∷ 0 ∷ []) $ lends-cell t z (Ints w m) xs (ints w xs ∷ []) b o (λ ν δ.
@@ -89,7 +89,7 @@ module _ {M : Type 1} {𝓤 : URA M} {H : Heap 𝓤} {A : Atoms 𝓤} {K : Type 
       move t (1 ∷ 4 ∷ []) $ fjoin t $ move t (1 ∷ 3 ∷ []) $ join t $ k ν δ)
   lends-array (apart s) k = move t (1 ∷ 2 ∷ []) $ k 0 0
 
-  array-back : (way : Way) (ν : ℕ) (δ : GName) {Y : Type 0} (L : Y → Fml) (y : Left-of way Y) {T : Item 𝓤}
+  pub array-back : (way : Way) (ν : ℕ) (δ : GName) {Y : Type 0} (L : Y → Fml) (y : Left-of way Y) {T : Item 𝓤}
       → (FitsInts w m (list-of way Y xs y) → Seq K W (‵ (cellAt (share-of way) (Ints w m .mir) (ints w (list-of way Y xs y) ∷ []) b o) ∷ T ∷ ‵ (L (rest-of way y)) ∷ Γ) G)
       → Seq K W (tok way ν T ∷ ‵ (said-of way w m δ L y) ∷ lender way w m xs b o ν δ ∷ Γ) G
   array-back mutably ν δ L y k =

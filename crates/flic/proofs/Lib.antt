@@ -12,4 +12,3 @@ pub mod Opened
 pub mod Four
 pub mod All
 pub mod Calls
-pub mod Fresh

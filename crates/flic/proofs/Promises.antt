@@ -1,9 +1,9 @@
 -- From what the inner functions promise to what the public calls promise.
 use Rattle.numbers.proofs.Basics.{ℕ, _≤_, _≡_, refl, ap, sym, _∙_, subst, Bool, true, false, List, map, arith, length}
 use Rattle.numbers.proofs.Basics.{getD, take, replicate, length-take, length-map, List·getD-map, eqb, eq-eqb, ne-eqb}
-use Rattle.numbers.proofs.Basics.{eqb-true, eqb-false}
+use Rattle.numbers.proofs.Basics.{eqb-true, eqb-false, true≢false}
 use lib.ListN.{length-replicate}
-use Rattle.rules.specs.{Bytes.choose, State.Limits, State.State, State.free, State.fresh, State.paperLimits, State.withPending, Outcome.Outcome, Outcome.refuseWith, Outcome.refuse, Outcome.need_else_⨾_, Outcome.result, Outcome.tell, Outcome.Seen, Outcome.Answer as Told, Requests.enqueue, Requests.clearIrqs, Requests.clearIoIrq, Requests.setRequest, Requests.request, Invariant.All, Invariant.Sound, Take.takes, MoveList.plays}
+use Rattle.rules.specs.{Bytes.choose, State.Limits, State.State, State.free, State.fresh, State.nothing, State.paperLimits, State.withPending, Outcome.Outcome, Outcome.refuseWith, Outcome.refuse, Outcome.need_else_⨾_, Outcome.result, Outcome.tell, Outcome.Seen, Outcome.Answer as Told, Requests.enqueue, Requests.clearIrqs, Requests.clearIoIrq, Requests.setRequest, Requests.request, Invariant.All, Invariant.Sound, Take.takes, MoveList.plays}
 use Rattle.rules.specs.Machine.{Ask, setAttr, getAttr, guestTake, writeList, playList, outcome, step, answerOf}
 use Rattle.rules.proofs.{Checks.passes, Checks.fails, Checks.chosen, Checks.passed, Lists.all-replicate, Outcomes.Known, Outcomes.Plays, Outcomes.known-outcome, Outcomes.never-zero, Reachable.kept-step, Reachable.fresh-sound}
 use Rattle.answers.specs.{declared.Answer.Answer, Answers.Answers, Answers.answered, Answers.saw}
@@ -15,12 +15,12 @@ use Rattle.lent_table.specs.Table.{snapTo, restored}
 use Rattle.lent_requests.specs.Requests.{ModesSet, PlaceSet}
 use Rattle.lent_table.proofs.Tables.{snap-all, restored-all, restored-whole}
 use Rattle.lent_requests.proofs.{Maps.map-replicate, Laws.canonical-unused}
-use Rattle.calls.specs.{declared.Controller.Controller, Limits.limitsOf, Inner.controller, Inner.pendingIn, Inner.Began, Inner.notedIn, Inner.Injected, Inner.Got}
-use Rattle.list_play.specs.{declared.Played.Played, Play.imageState}
-use Rattle.list_play.proofs.Sized.{paper-sized}
+use Rattle.calls.specs.{declared.Controller.Controller, Limits.limitsOf, Inner.controller, Inner.pendingIn, Inner.notedIn, Inner.Injected, Inner.Got}
+use Rattle.list_play.specs.{declared.Played.Played, Play.PlayedTo}
+use Rattle.calls.proofs.Sized.{paper-sized}
 use Rattle.calls.proofs.Limits.{limits-sized, limits-made, limits-kept}
 use Rattle.flic.specs.Surface.{stateOf, Valid, Steps, Made, Requested, Taken}
-use Rattle.store_queues.specs.Queues.{Held}
+use Rattle.store_queues.specs.Queues.{total, Held}
 use Rattle.store.specs.Memory.{pendingOf}
 
 -- a state that a step leads to is sound
@@ -155,24 +155,30 @@ module _ (group attr : ℕ) (c c′ : Controller) (d : Device) (t : List Place) 
         limits = limits-kept c c′;
       }
 
--- an injection: the table is as it was
-module _ (attr : ℕ) (c c′ : Controller) (d : Device) (t : List Place) (b : List ℕ) (r : Answer) (e : length t ≡ limitsOf c .places) (h : Valid c d t) (a : c′ .ais ≡ c .ais) (f : Injected attr c c′ d (getD t attr unused) r) where
+-- what `answer_inject` promises of the arrays that it is lent
+abbrev pub InjectedTo : (attr : ℕ) (c : Controller) (slots order counts : List ℕ) → Device → Place → Answer → Type 0
+InjectedTo attr c slots order counts d p r = Injected imageSize 256 attr (total (c .counts)) (c .ais) d p (pendingOf (c .order) (c .counts) (c .slots)) (pendingOf order counts slots) r
+    × (Held order counts × ((r .code ≡ 0 → ⊥) → (slots ≡ c .slots) × (order ≡ c .order) × (counts ≡ c .counts)))
+
+-- an injection: the two single records and the table are as they were
+module _ (attr : ℕ) (c : Controller) (slots order counts : List ℕ) (d : Device) (t : List Place) (b : List ℕ) (r : Answer) (e : length t ≡ limitsOf c .places) (h : Valid c d t) (f : InjectedTo attr c slots order counts d (getD t attr unused) r) where
+  abbrev injected : Controller
+  injected = controller slots order counts (c .singles) (c .ais)
+
   abbrev noted : Device
   noted = notedIn (c .ais) d (getD t attr unused) r
 
-  inject-steps : Steps (setAttr 10 attr) c c′ d noted t t b (saw r b)
+  inject-steps : Steps (setAttr 10 attr) c injected d noted t t b (saw r b)
   unfolding stateOf placeOf choose
-  inject-steps =
-      as-step 10 attr c c′ d t b r e h noted t (f .answer (stateOf c d t) b refl refl refl (List·getD-map placeOf t attr unused)
-      ∙ (λ i. tell (r .code) (r .count) (record { ais = (sym a) i; adapters = map placeOf t; pending = pendingIn c′; device = deviceOf noted }) b))
+  inject-steps = as-step 10 attr c injected d t b r e h noted t (f .0 .answer (limitsOf c) (stateOf c d t) (c .singles) b (limits-sized c .places) (limits-sized c .room) refl refl refl (List·getD-map placeOf t attr unused))
 
-  pub inject-promises : Requested (setAttr 10 attr) c c′ d noted t t b (saw r b)
+  pub inject-promises : Requested (setAttr 10 attr) c injected d noted t t b (saw r b)
   inject-promises =
       record {
         steps = inject-steps;
-        kept = λ code count o. let k = f .kept (refused-code (setAttr 10 attr) c c′ d noted t t b (saw r b) inject-steps code count o) in (k .0, k .1, refl, refl);
-        valid = λ _. record { ready = f .held; places = h .places; sound = next-sound (setAttr 10 attr) c c′ d noted t t b (saw r b) (limits-kept c c′) h inject-steps };
-        limits = limits-kept c c′;
+        kept = λ code count o. let n = refused-code (setAttr 10 attr) c injected d noted t t b (saw r b) inject-steps code count o in let k = f .1 .1 n in (same-arrays c (k .0) (k .1) (k .2) refl, f .0 .unnoted n, refl, refl);
+        valid = λ _. record { ready = f .1 .0; places = h .places; sound = next-sound (setAttr 10 attr) c injected d noted t t b (saw r b) (limits-kept c injected) h inject-steps };
+        limits = limits-kept c injected;
       }
 
 -- about an adapter's place, and about the device record: nothing else changes
@@ -227,44 +233,47 @@ take-promises subclasses external mcheck c order counts singles b b′ r f =
     record { steps = λ d t. g .answer (stateOf c d t) refl; kept = g .kept; ready = g .held; limits = limits-kept c _ }
 
 -- ---- a fresh controller, with the right table
+abbrev pub freshDevice : Device
+freshDevice = record { simm = 0; nimm = 0; apf = false }
+
 unused-free : placeOf unused ≡ free
 unfolding placeOf choose
 unused-free = refl
 
-module _ (c c′ : Controller) (d : Device) (t : List Place) (r : Played) (e : length t ≡ paperLimits .places) (f : Began (c′ .order) (c′ .counts) (c′ .singles) r) where
+module _ (c c′ : Controller) (d : Device) (t : List Place) (e : length t ≡ paperLimits .places) (h : Held (c′ .order) (c′ .counts)) (f : (slots : List ℕ) → pendingOf (c′ .order) (c′ .counts) slots (c′ .singles) ≡ nothing) where
   abbrev ais : Bool
   ais = c′ .ais
 
-  abbrev pub started : List Place
-  started = restored t (r .image) (r .restored)
+  abbrev cleared-table : List Place
+  cleared-table = restored t (replicate imageSize 0) imageSize
 
   -- a table that is restored from an image of zeros
-  table-cleared : started ≡ replicate (paperLimits .places) unused
+  table-cleared : cleared-table ≡ replicate (paperLimits .places) unused
   table-cleared =
-      (λ i. restored t (f .started i .image) (f .started i .restored)) ∙ restored-whole t (replicate imageSize 0) imageSize (e ∙ paper-sized .places) (length-replicate {A = ℕ} imageSize 0)
+      restored-whole t (replicate imageSize 0) imageSize (e ∙ paper-sized .places) (length-replicate {A = ℕ} imageSize 0)
       ∙ map-replicate unpacked imageSize 0 ∙ (λ i. replicate (sym (paper-sized .places) i) (unpacked-zero i))
 
-  started-fresh : stateOf c′ (r .device) started ≡ fresh paperLimits ais
+  made-fresh : stateOf c′ freshDevice cleared-table ≡ fresh paperLimits ais
   unfolding stateOf fresh
-  started-fresh =
+  made-fresh =
       λ i. record {
         ais = ais;
         adapters = (ap (map placeOf) table-cleared ∙ map-replicate placeOf (paperLimits .places) unused ∙ ap (replicate (paperLimits .places)) unused-free) i;
-        pending = f .pending (c′ .slots) i;
-        device = deviceOf (f .started i .device);
+        pending = f (c′ .slots) i;
+        device = deviceOf freshDevice;
       }
 
-  pub make-promises : Made paperLimits ais c c′ d (r .device) t started (r .answer)
+  pub make-promises : Made paperLimits ais c c′ d freshDevice t cleared-table (answered 0 0)
   make-promises =
       record {
         right = λ _. (
-          ap (λ (x : Played). x .answer) (f .started),
+          refl,
           limits-made c′,
-          started-fresh,
+          made-fresh,
           record {
-            ready = f .held;
+            ready = h;
             places = subst (All Canonical) (sym table-cleared) (all-replicate Canonical (paperLimits .places) unused canonical-unused);
-            sound = subst (λ (L : Limits). Sound L (stateOf c′ (r .device) started)) (sym (limits-made c′)) (subst (Sound paperLimits) (sym started-fresh) (fresh-sound paperLimits ais));
+            sound = subst (λ (L : Limits). Sound L (stateOf c′ freshDevice cleared-table)) (sym (limits-made c′)) (subst (Sound paperLimits) (sym made-fresh) (fresh-sound paperLimits ais));
           },
         );
         wrong = λ w. absurd (w e);
@@ -289,85 +298,76 @@ module _ (c : Controller) (d : Device) (t : List Place) (b b′ : List ℕ) (r :
       }
 
 -- the state that a controller's arrays and the first places of an image stand for
-abbrev playedState : (places : ℕ) → Controller → Played → State
-playedState places c r = record { ais = c .ais; adapters = map placeOf (map unpacked (take places (r .image))); pending = pendingIn c; device = deviceOf (r .device) }
+abbrev playedState : (places : ℕ) → Controller → List ℕ → Device → State
+playedState places c image d = record { ais = c .ais; adapters = map placeOf (map unpacked (take places image)); pending = pendingIn c; device = deviceOf d }
 
--- what `play_list` promises of the controller's arrays c and what they are then
-module _ (c : Controller) (slots order counts singles : List ℕ) (b : List ℕ) (r : Played) where
-  abbrev left : Controller
-  left = controller slots order counts singles (c .ais)
-
+-- what `play_list` promises of the controller's arrays c and what they are then, and of the image
+module _ (c : Controller) (slots order counts singles image : List ℕ) (b : List ℕ) (r : Played) where
   abbrev pub Replayed : Type 0
-  Replayed = ((L : Limits) (s : State) → L .places ≡ imageSize → L .room ≡ 256 → s .ais ≡ c .ais
-      → Answers L s b (plays L s b) (r .answer) (choose (eqb (r .restored) 0) s (imageState (c .ais) imageSize (r .image) (pendingIn left) (r .device))) b)
-      × ((Held order counts × AllCanonical (take imageSize (r .image))) × (((r .restored ≡ 0 → ⊥) → r .restored ≡ imageSize)
-      × (((L : Limits) (s : State) → s .ais ≡ c .ais → (code count : ℕ) → plays L s b ≡ refuseWith code count → r .restored ≡ 0)
-      × (r .restored ≡ 0 → (slots ≡ c .slots) × (order ≡ c .order) × (counts ≡ c .counts) × (singles ≡ c .singles)))))
+  Replayed = PlayedTo imageSize 256 (c .ais) b image (pendingOf order counts slots singles) r
+      × (Held order counts × (r .fresh ≡ false → (slots ≡ c .slots) × (order ≡ c .order) × (counts ≡ c .counts) × (singles ≡ c .singles)))
 
-module _ (c : Controller) (slots order counts singles : List ℕ) (d : Device) (t : List Place) (b : List ℕ) (r : Played) (e : length t ≡ limitsOf c .places) (h : Valid c d t) (f : Replayed c slots order counts singles b r) where
+module _ (c : Controller) (slots order counts singles image : List ℕ) (d : Device) (t : List Place) (b : List ℕ) (r : Played) (e : length t ≡ limitsOf c .places) (h : Valid c d t) (f : Replayed c slots order counts singles image b r) where
   abbrev c′ : Controller
   c′ = controller slots order counts singles (c .ais)
 
-  same : r .restored ≡ 0 → c′ ≡ c
-  same z = let k = f .1 .1 .1 .1 z in same-arrays c (k .0) (k .1) (k .2) (k .3)
+  same : r .fresh ≡ false → c′ ≡ c
+  same z = let k = f .1 .1 z in same-arrays c (k .0) (k .1) (k .2) (k .3)
 
   -- the machine's next state, whether the controller was made fresh or not
   next : State
-  next = choose (eqb (r .restored) 0) (stateOf c d t) (playedState (limitsOf c .places) c′ r)
+  next = choose (r .fresh) (playedState (limitsOf c .places) c′ image (r .device)) (stateOf c d t)
 
   told : step (limitsOf c) (stateOf c d t) (record { ask = playList; buffer = b; tableLength = length t })
       ≡ tell (r .answer .code) (r .answer .count) next b
   unfolding step outcome stateOf next
-  told = ap (answerOf (limitsOf c) (stateOf c d t) b) (right-table (limitsOf c) (length t) 14 _ e) ∙ f .0 (limitsOf c) (stateOf c d t) (limits-sized c .places) (limits-sized c .room) refl
-      ∙ (λ i. tell (r .answer .code) (r .answer .count) (choose (eqb (r .restored) 0) (stateOf c d t) (record { ais = c .ais; adapters = images i; pending = pendingIn c′; device = deviceOf (r .device) })) b)
+  told = ap (answerOf (limitsOf c) (stateOf c d t) b) (right-table (limitsOf c) (length t) 14 _ e) ∙ f .0 .answer (limitsOf c) (stateOf c d t) (limits-sized c .places) (limits-sized c .room) refl
+      ∙ (λ i. tell (r .answer .code) (r .answer .count) (choose (r .fresh) (record { ais = c .ais; adapters = images i; pending = pendingIn c′; device = deviceOf (r .device) }) (stateOf c d t)) b)
     where
-      images : take imageSize (placesOf (r .image)) ≡ map placeOf (map unpacked (take (limitsOf c .places) (r .image)))
-      images = places-take imageSize (r .image) ∙ ap (λ (k : ℕ). map placeOf (map unpacked (take k (r .image)))) (sym (limits-sized c .places))
+      images : take imageSize (placesOf image) ≡ map placeOf (map unpacked (take (limitsOf c .places) image))
+      images = places-take imageSize image ∙ ap (λ (k : ℕ). map placeOf (map unpacked (take k image))) (sym (limits-sized c .places))
 
   -- a refusal of form
-  form : (code count : ℕ) → outcome (limitsOf c) (stateOf c d t) playList (length t) b ≡ refuseWith code count → r .restored ≡ 0
+  form : (code count : ℕ) → outcome (limitsOf c) (stateOf c d t) playList (length t) b ≡ refuseWith code count → r .fresh ≡ false
   unfolding outcome stateOf
-  form code count o = f .1 .1 .1 .0 (limitsOf c) (stateOf c d t) refl code count (sym (right-table (limitsOf c) (length t) 14 _ e) ∙ o)
+  form code count o = f .0 .refused (limitsOf c) (stateOf c d t) refl code count (sym (right-table (limitsOf c) (length t) 14 _ e) ∙ o)
 
   -- nothing was changed
-  module _ (z : r .restored ≡ 0) where
+  module _ (z : r .fresh ≡ false) where
     same-steps : Steps playList c c′ d d t t b (saw (r .answer) b)
     unfolding next
-    same-steps =
-        told
-        ∙ (λ i. tell (r .answer .code) (r .answer .count)
-        ((chosen _ (stateOf c d t) (playedState (limitsOf c .places) c′ r) (eq-eqb (r .restored) 0 z) ∙ (λ j. stateOf ((sym (same z)) j) d t)) i) b)
+    same-steps = told ∙ (λ i. tell (r .answer .code) (r .answer .count) ((passed _ (playedState (limitsOf c .places) c′ image (r .device)) (stateOf c d t) z ∙ (λ j. stateOf ((sym (same z)) j) d t)) i) b)
 
     pub same-promises : Requested playList c c′ d d t t b (saw (r .answer) b)
     same-promises =
         record {
           steps = same-steps;
           kept = λ code count o. (same z, refl, refl, refl);
-          valid = λ _. record { ready = f .1 .0 .0; places = h .places; sound = next-sound playList c c′ d d t t b (saw (r .answer) b) (limits-kept c c′) h same-steps };
+          valid = λ _. record { ready = f .1 .0; places = h .places; sound = next-sound playList c c′ d d t t b (saw (r .answer) b) (limits-kept c c′) h same-steps };
           limits = limits-kept c c′;
         }
 
   -- made fresh: the image has all places, since the next state is sound
-  module _ (n : r .restored ≡ 0 → ⊥) where
+  module _ (n : r .fresh ≡ true) where
     abbrev after : List Place
-    after = restored t (r .image) (r .restored)
+    after = restored t image imageSize
 
-    next-played : next ≡ playedState (limitsOf c .places) c′ r
+    next-played : next ≡ playedState (limitsOf c .places) c′ image (r .device)
     unfolding next
-    next-played = passed _ _ _ (ne-eqb (r .restored) 0 n)
+    next-played = chosen _ _ _ n
 
-    long : limitsOf c .places ≤ length (r .image)
+    long : limitsOf c .places ≤ length image
     long =
         let k = subst (Sound (limitsOf c)) (ap (λ (x : Told State). x .next) told ∙ next-played) (kept-step (limitsOf c) (stateOf c d t) (h .sound) _ .sound) in
-        let l = sym (length-map (take (limitsOf c .places) (r .image)) unpacked) ∙ sym (length-map (map unpacked (take (limitsOf c .places) (r .image))) placeOf) ∙ k .table in
-        omega (arith, l, length-take (limitsOf c .places) (r .image))
+        let l = sym (length-map (take (limitsOf c .places) image) unpacked) ∙ sym (length-map (map unpacked (take (limitsOf c .places) image)) placeOf) ∙ k .table in
+        omega (arith, l, length-take (limitsOf c .places) image)
 
-    after-is : after ≡ map unpacked (take (limitsOf c .places) (r .image))
-    after-is = ap (restored t (r .image)) (f .1 .1 .0 n ∙ sym (limits-sized c .places)) ∙ restored-all t (r .image) (limitsOf c .places) e long
+    after-is : after ≡ map unpacked (take (limitsOf c .places) image)
+    after-is = ap (restored t image) (sym (limits-sized c .places)) ∙ restored-all t image (limitsOf c .places) e long
 
-    canonical : All Canonical (map unpacked (take (limitsOf c .places) (r .image)))
+    canonical : All Canonical (map unpacked (take (limitsOf c .places) image))
     unfolding AllCanonical
-    canonical = subst (λ (k : ℕ). All Canonical (map unpacked (take k (r .image)))) (sym (limits-sized c .places)) (f .1 .0 .1)
+    canonical = subst (λ (k : ℕ). All Canonical (map unpacked (take k image))) (sym (limits-sized c .places)) (f .0 .canonical)
 
     play-steps : Steps playList c c′ d (r .device) t after b (saw (r .answer) b)
     unfolding stateOf
@@ -379,9 +379,9 @@ module _ (c : Controller) (slots order counts singles : List ℕ) (d : Device) (
     play-promises =
         record {
           steps = play-steps;
-          kept = λ code count o. absurd (n (form code count o));
+          kept = λ code count o. absurd (true≢false (sym n ∙ form code count o));
           valid = λ _. record {
-            ready = f .1 .0 .0;
+            ready = f .1 .0;
             places = subst (All Canonical) (sym after-is) canonical;
             sound = next-sound playList c c′ d (r .device) t after b (saw (r .answer) b) (limits-kept c c′) h play-steps;
           };

@@ -5,5 +5,5 @@ pub use Prim.Native.Nat.{_+_}
 pub use mathlib.Core.Path.{_∙_}
 pub use mir.Syntax.{Tys, tcons, tnil, tyArray, tyStruct}
 pub use mir.Val.{Vals, vnil, vcons, vstruct}
-pub use denote.Builtin.{usize}
+pub use denote.Builtin.{usize, unit}
 pub use denote.Triple.Walked.{gave-slice, goes-gave-slice}

@@ -31,11 +31,11 @@ pub extern "C" fn flic_make(
     if t.len() != PLACES {
         return answers::refuse(EFAULT);
     }
-    let r = calls::start(&mut c.slots, &mut c.order, &mut c.counts, &mut c.singles);
+    store::fresh(&mut c.order, &mut c.counts, &mut c.singles);
     c.ais = ais;
-    lent_table::store_device(d, r.device);
-    lent_table::restore(t, r.restored, r.image);
-    r.answer
+    lent_table::store_device(d, adapters::fresh_device());
+    lent_table::clear(t);
+    answers::accept(0)
 }
 
 // A request that sets.
@@ -82,6 +82,8 @@ pub extern "C" fn flic_set(
             &mut c.slots,
             &mut c.order,
             &mut c.counts,
+            IDS,
+            ROOM,
             c.ais,
             device,
             place,
@@ -171,7 +173,7 @@ pub extern "C" fn flic_write_list(c: &Controller, d: &Device, t: &[Place], out: 
         &c.singles,
         c.ais,
         device,
-        image,
+        &image,
         out,
     )
 }
@@ -190,20 +192,22 @@ pub extern "C" fn flic_play_list(
     if t.len() != PLACES {
         return answers::refuse(EFAULT);
     }
+    let mut image = list_image::empty();
     let r = list_play::play_list(
         &mut c.slots,
         &mut c.order,
         &mut c.counts,
         &mut c.singles,
+        &mut image,
         IDS,
         ROOM,
         c.ais,
         list,
     );
-    if r.restored == 0 {
+    if !r.fresh {
         return r.answer;
     }
     lent_table::store_device(d, r.device);
-    lent_table::restore(t, r.restored, r.image);
+    lent_table::restore(t, IDS, &image);
     r.answer
 }

@@ -1,7 +1,7 @@
 -- The calls of the functions over a table, each as one step of a walk.
 --     looks-up, snapshots                  the caller holds the table's memory, `row`, as it does while its borrow is open: it is lent for a lifetime of the call and comes back
 --     looks-up-shared, snapshots-shared    the caller passes its own `&[Place]` on: it holds the token of the slice's lifetime and what the slice owns (Gives.antt's `Shared`), and keeps both
---     registers, masks                     row ys ∷ Γ  ⟶  row of the new table ∷ Γ
+--     registers, masks, clears             row ys ∷ Γ  ⟶  row of the new table ∷ Γ
 --     restores                             row ys ∷ cell of the image ∷ Γ  ⟶  row of the new table ∷ cell of the image ∷ Γ
 use Rattle.lent_table.proofs.Walk.{_≡_, refl, sym, ap, subst, ℕ, _<_, _≤_, _^_, Bool, [], _∷_, List, length, getD, set, URA, fullShare, w64, Val, vunit, vint, vbool, vptr, SProp, ent, sep, snd∗, exE, id⊢, GName, Lft, Share, ftrue, fsep, flft, fat, Memory, Routine, Heap, Env, Calls, Loops, Atoms, sem, Fun, Given, Item, Seq, runs, lands, ‵, _⊛_, _$_, _∵_, !, qed, move, drop, split, rewrite, fsplit, join, fjoin, frame, done, Opds, FmC, Is, shows, Boolean, bool-makes, uint-makes, u64, unit, only, finally, spelt, says, sliceVal, Room, row, owned, nothing, tripleOf, Contract, Triple, ensured, lasts}
 use mir.Syntax.{Place as Where, Body as Code, Opd as Operand, seq, call}
@@ -11,13 +11,15 @@ use Rattle.numbers.proofs.AdapterId as I
 use Rattle.adapters.specs.{declared.Place.Place, Values.unused, Values.withMasked}
 use Rattle.adapters.proofs.Place as T
 use Rattle.lent_table.specs.Table.{snapTo, restored}
-use Rattle.lent_table.proofs.{Places.R, Places.low, Places.Fits, Places.FitsId, Places.makes, Places.makes-id, Images.Image, Images.imageTy, Images.low-image, Images.FitsImage, Images.SharedImage, Images.image-tells, Images.image-makes, Rows.shares-cell, Rows.cell-shared-back, Rows.lends-row, Rows.row-back, Called.calls-told, look_up.Symbol.name as #look-up, snapshot.Symbol.name as #snapshot, register.Symbol.name as #register, mask.Symbol.name as #mask, restore.Symbol.name as #restore}
+use Rattle.lent_table.proofs.{Places.R, Places.low, Places.Fits, Places.FitsId, Places.makes, Places.makes-id, Images.Image, Images.imageTy, Images.low-image, Images.FitsImage, Images.SharedImage, Images.image-tells, Images.image-makes, Rows.shares-cell, Rows.cell-shared-back, Rows.lends-row, Rows.row-back, Called.calls-told, look_up.Symbol.name as #look-up, snapshot.Symbol.name as #snapshot, register.Symbol.name as #register, mask.Symbol.name as #mask, restore.Symbol.name as #restore, clear.Symbol.name as #clear}
 use Rattle.lent_table.proofs.Gives.{at-list, last-list, no-others, Gives, Shared, Lent, gives-row, gives-shared, changes-row}
 use Rattle.lent_table.proofs.look_up as look-up
 use Rattle.lent_table.proofs.snapshot as snapshot
 use Rattle.lent_table.proofs.register as register
 use Rattle.lent_table.proofs.mask as mask
 use Rattle.lent_table.proofs.restore as restore
+use Rattle.lent_table.proofs.clear as clear
+use lib.ListN.{replicate}
 use Rattle.list_image.specs.Image.{imageSize}
 
 module _ {M : Type 1} (𝓤 : URA M) (H : Heap 𝓤) (A : Atoms 𝓤) (mem′ : Memory → SProp 𝓤) (run : Routine → Fun 𝓤) where
@@ -35,6 +37,9 @@ module _ {M : Type 1} (𝓤 : URA M) (H : Heap 𝓤) (A : Atoms 𝓤) (mem′ : 
 
   abbrev pub Restore : Contract 𝓤
   Restore = tripleOf 𝓤 H A restore.signature (restore.spec 𝓤 H A mem′ run)
+
+  abbrev pub Clear : Contract 𝓤
+  Clear = tripleOf 𝓤 H A clear.signature (clear.spec 𝓤 H A mem′ run)
 
   module _ (W : Given 𝓤 H A) (b o : ℕ) (ys : List Place) where
     abbrev s : Val
@@ -89,6 +94,12 @@ module _ {M : Type 1} (𝓤 : URA M) (H : Heap 𝓤) (A : Atoms 𝓤) (mem′ : 
           qed W (‵ (flft κ q) ∷ ‵ (Lent R ys b o κ γ) ∷ []) ∵ nothing ! $ move ! (1 ∷ 0 ∷ []) $ join ! $
           nothing ! $ owned ! Boolean (Is Boolean) (bool-makes 𝓤 H A W) a _ refl $ fjoin ! $ owned ! I.the-row (Is I.the-row) (makes-id 𝓤 H A W) id _ g $ fjoin ! $ move ! (2 ∷ 0 ∷ []) $ fjoin ! $ move ! (1 ∷ 0 ∷ []) $ join ! $ frame ! $ done !
 
+      abbrev to-clear : Clear .Ghost
+      to-clear = (((κ, tt), (q, tt), tt, (at-list b o γ ys, tt), (s ∷ [], tt)), tt)
+
+      goes-clear : ent 𝓤 (sep 𝓤 (A .lft κ q) (sem 𝓤 H A (Lent R ys b o κ γ))) (Clear .pre to-clear)
+      goes-clear = qed W (‵ (flft κ q) ∷ ‵ (Lent R ys b o κ γ) ∷ []) ∵ nothing ! $ move ! (1 ∷ 0 ∷ []) $ join ! $ nothing ! $ move ! (2 ∷ 0 ∷ []) $ fjoin ! $ move ! (1 ∷ 0 ∷ []) $ join ! $ frame ! $ done !
+
 module _ {M : Type 1} {𝓤 : URA M} {H : Heap 𝓤} {A : Atoms 𝓤} {K : Type 0} {W : Given 𝓤 H A} {Γ : List (Item 𝓤)} {E : Env 𝓤 H} {C : Calls 𝓤 H} {Λ : Loops 𝓤 H} {p : types.Kit.Post 𝓤 H} {d : Where} {rest : Code} {xs : List Operand} where
   pub looks-up : K → (mem′ : Memory → SProp 𝓤) (run : Routine → Fun 𝓤) → FmC 𝓤 H (W .laws) C → Triple 𝓤 (C #look-up) (LookUp 𝓤 H A mem′ run)
       → (ys : List Place) (id : AdapterId) (b o : ℕ) → Room R (length ys) → FitsId id
@@ -133,6 +144,14 @@ module _ {M : Type 1} {𝓤 : URA M} {H : Heap 𝓤} {A : Atoms 𝓤} {K : Type 
   masks t mem′ run fm known ys id a b o room g os k =
       changes-row R ys b o t fm (Mask 𝓤 H A mem′ run) known room (λ ν δ. to-mask 𝓤 H A mem′ run W b o ys (ν ∷ []) fullShare δ id a) (λ ν δ. goes-mask 𝓤 H A mem′ run W b o ys (ν ∷ []) fullShare δ id a g)
       (set ys (id .0) (withMasked a (getD ys (id .0) unused))) no-others (λ ν δ w. id⊢ 𝓤 _) (λ ν δ. os) k
+
+  pub clears : K → (mem′ : Memory → SProp 𝓤) (run : Routine → Fun 𝓤) → FmC 𝓤 H (W .laws) C → Triple 𝓤 (C #clear) (Clear 𝓤 H A mem′ run) → (ys : List Place) (b o : ℕ) → Room R (length ys)
+      → ((i j : Item 𝓤) → Opds K W (i ∷ j ∷ Γ) E xs (sliceVal (b, o) (length ys) ∷ []))
+      → Seq K W (‵ (row R fullShare (restored ys (replicate imageSize 0) imageSize) b o) ∷ Γ) (lands C Λ E d vunit rest p)
+      → Seq K W (‵ (row R fullShare ys b o) ∷ Γ) (runs C Λ E (seq (call #clear xs d) rest) p)
+  clears t mem′ run fm known ys b o room os k =
+      changes-row R ys b o t fm (Clear 𝓤 H A mem′ run) known room (λ ν δ. to-clear 𝓤 H A mem′ run W b o ys (ν ∷ []) fullShare δ) (λ ν δ. goes-clear 𝓤 H A mem′ run W b o ys (ν ∷ []) fullShare δ)
+      (restored ys (replicate imageSize 0) imageSize) {Z = Unit {0}} (λ z. ftrue) (λ ν δ w. id⊢ 𝓤 _) (λ ν δ. os) k
 
   -- the image is a local of the caller's
   pub restores : K → (mem′ : Memory → SProp 𝓤) (run : Routine → Fun 𝓤) → FmC 𝓤 H (W .laws) C → Triple 𝓤 (C #restore) (Restore 𝓤 H A mem′ run)

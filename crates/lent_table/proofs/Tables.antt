@@ -6,6 +6,7 @@ use lib.ListN.{length-replicate}
 use lib.Seq.{ext-getD}
 use Rattle.adapters.specs.{declared.Place.Place, Values.unused}
 use Rattle.list_image.specs.Image.{imageSize, packed, unpacked}
+use Rattle.list_image.proofs.Packed.{unpacked-zero}
 use Rattle.lent_table.specs.Table.{snapTo, restored}
 
 pub one-more : (i : ℕ) → suc i ≡ i + 1
@@ -27,6 +28,15 @@ length-snap t (suc n) = length-set (snapTo t n) n _ ∙ length-snap t n
 pub restored-next : (t : List Place) (all : List ℕ) (i : ℕ) → set (restored t all i) i (unpacked (getD all i 0)) ≡ restored t all (i + 1)
 unfolding restored
 restored-next t all i = ap (restored t all) (one-more i)
+
+-- the same of an image of unused places
+getD-zeros : (n i : ℕ) → _≡_ {A = ℕ} (getD (replicate n 0) i 0) 0
+getD-zeros zero i = refl
+getD-zeros (suc n) zero = refl
+getD-zeros (suc n) (suc i) = getD-zeros n i
+
+pub cleared-next : (t : List Place) (i : ℕ) → set (restored t (replicate imageSize 0) i) i unused ≡ restored t (replicate imageSize 0) (i + 1)
+cleared-next t i = ap (set (restored t (replicate imageSize 0) i) i) (sym (ap unpacked (getD-zeros imageSize i) ∙ unpacked-zero)) ∙ restored-next t (replicate imageSize 0) i
 
 pub restored-none : (t : List Place) (all : List ℕ) → restored t all 0 ≡ t
 unfolding restored

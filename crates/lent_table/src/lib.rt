@@ -2,7 +2,7 @@
 // Few and thin functions, proved by hand.
 ghost use mathlib.Core.Path.{_≡_};
 ghost use Prim.Native.Nat.{_≤_};
-ghost use lib.ListN.{getD, set};
+ghost use lib.ListN.{getD, set, replicate};
 ghost use Rattle.adapters.specs.Values.{deviceOf, deviceFrom, unused, withMasked, modeSet, injectedDevice};
 ghost use Rattle.list_image.specs.Image.{imageSize};
 ghost use Rattle.lent_table.specs.Table.{snapTo, restored};
@@ -113,6 +113,17 @@ pub fn restore(t: &mut [Place], n: u64, all: &[u64; PLACES])
         let id = AdapterId(i);
         let p = list_image::place_at(all, id);
         register(t, id, p);
+        i += 1;
+    }
+}
+
+// Every place is free, as in a fresh controller's table.
+pub fn clear(t: &mut [Place])
+    ensures { λ _. ⌜ now (t .exit) ≡ restored (now (t .entry)) (replicate imageSize 0) imageSize ⌝ }
+{
+    let mut i = 0;
+    while i < IDS {
+        register(t, AdapterId(i), adapters::free_place());
         i += 1;
     }
 }

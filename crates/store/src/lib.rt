@@ -15,8 +15,8 @@ pub fn fresh(
     counts: &mut [usize; COUNTS],
     singles: &mut [u8; SINGLES_BYTES],
 )
-    ensures held { λ _. ⌜ HeldAfter order counts ⌝ }
-    ensures pending { λ _. ⌜ ((slots : List ℕ) → pendingOf (now (order .exit)) (now (counts .exit)) slots (now (singles .exit)) ≡ nothing) ⌝ }
+    ensures { λ _. ⌜ HeldAfter order counts × ((slots : List ℕ) →
+        pendingOf (now (order .exit)) (now (counts .exit)) slots (now (singles .exit)) ≡ nothing) ⌝ }
 {
     store_queues::reset(order, counts);
     store_singles::drop_service(singles);

@@ -1,37 +1,64 @@
--- `flic_make`: what it shares with `flic_play_list` is in Fresh.antt. In between `start` is called, and the capability is stored.
-use Rattle.flic.proofs.Walk.{_≡_, refl, ap, subst, ℕ, Bool, [], _∷_, List, length, URA, fullShare, named, tyBool, Val, vbool, vptr, SProp, ent, emp, via, id⊢, ftrue, fat, Memory, Routine, Heap, Env, Calls, Loops, WpFn, Atoms, Fun, Given, Sq, runs, atRet, ‵, ⋆, _$_, _∵_, !, qed, move, keep, drop, rewrite, fjoin, suffices, frame, done, look, store, init, stop, hop, fld, from, load, of-opd, and-then, no-more, assigns, land, enter, alloc1, alloc0, params1, pass1, pass0, FmC, owns, Is, bool-vals, bool-tells, RefT, ptr-vals, mut-tells, Room, slice-vals, mut-slice-tells, plain, only, owned, nothing, onEntry, tripleOf, Contract, Triple, cited, says, Stays, stay-ref, stay-slice, walkOf, goes-ref, goes-slice, ends-at, yes, givenOf, tablesOf, bool, stay-dropped, goes-dropped, fst∗}
-use Rattle.lent_table.proofs.{Ends.concludes, Record.StoreDevice, Calls.Restore, Locals.Content, Locals.blank, Locals.holds, Locals.locals, Called.asks-nothing}
+-- `flic_make`: the length of the table is looked at, all is opened, the arrays are made fresh, the capability, the device record and the table are stored, and all is closed.
+use Rattle.flic.proofs.Walk.{_≡_, refl, sym, ap, ℕ, _+_, Bool, false, [], _∷_, List, length, URA, fullShare, named, erased, w8, w64, tyInt, tyBool, tyUnit, tyRef, mut, Val, vunit, vint, vbool, vptr, SProp, ent, emp, via, fst∗, id⊢, ftrue, fat, Memory, Routine, Heap, Env, Calls, Loops, Wp, WpFn, afterSeq, atReturn, Atoms, Fun, givenOf, tablesOf, Given, Sq, runs, atRet, anyQ, ‵, ⋆, _$_, _∵_, !, qed, by, move, keep, drop, join, rewrite, fjoin, suffices, frame, done, look, store, init, stop, hop, fld, from, load, lit, bin, addr, of-opd, and-then, no-more, assigns, first, skips, branches, exec, land, returns, returns-within, enter, alloc1, alloc0, params1, pass1, pass0, agg, whole, sub, look-in, FmC, owns, Is, pointee, bool, bool-vals, bool-tells, RefT, sliceTy, Room, ptr-vals, mut-tells, slice-vals, mut-slice-tells, plain, only, owned, nothing, unit, onEntry, tripleOf, Contract, Triple, cited, says, Stays, stay-ref, stay-slice, stay-dropped, walkOf, goes-ref, goes-slice, goes-dropped, ends-at, yes, tyArray}
+use Rattle.lent_table.proofs.{Ends.concludes, Record.StoreDevice, Record.stores-device, Calls.Clear, Calls.clears, Called.asks-nothing, Called.calls-plain, Count.taken, Tables.length-restored}
+use Rattle.lent_table.proofs.Locals.{Content, blank, holds, since, locals, frees-all, swaps, holds-false, not-not, zero-fits, unit-typed}
+use Rattle.numbers.proofs.Basics.{not, eqb, arith, eqb-true, eqb-false, replicate, _∙_}
 use denote.Struct.Laws as LL
-use mathlib.Core.Path.{sym, _∙_}
-use Rattle.rules.specs.State.{paperLimits}
-use Rattle.list_play.proofs.Sized.{paper-sized}
+use Rattle.rules.specs.State.{paperLimits, nothing as none-pending}
+use Rattle.calls.proofs.Sized.{paper-sized}
 use Rattle.answers.specs.declared.Answer.{Answer}
 use Rattle.answers.proofs.Answer as An
 use Rattle.adapters.specs.declared.{Device.Device, Place.Place}
 use Rattle.adapters.proofs.Device as D
 use Rattle.adapters.proofs.Place as P
-use Rattle.calls.specs.{declared.Controller.Controller, Inner.controller, Inner.Began}
-use Rattle.list_play.specs.declared.Played.{Played}
+use Rattle.calls.specs.{declared.Controller.Controller, Inner.controller}
+use Rattle.list_image.specs.Image.{imageSize}
+use Rattle.lent_table.specs.Table.{restored}
+use Rattle.store.specs.Memory.{pendingOf}
+use Rattle.store_queues.specs.Queues.{Held}
 use Rattle.flic.specs.Surface.{Made}
 use Rattle.calls.proofs.Controller as C
-use Rattle.list_play.proofs.Played as St
-use Rattle.flic.proofs.{Promises.make-promises, Promises.wrong-makes, Opened.Has, Fresh.Known, Fresh.starts, Fresh.finishes}
-use Rattle.flic.proofs.All.{Refs, refs, at-ctl, at-dev, at-tab, table, Owned, Tokens, Open, Closed, takes-all, gives-all}
-use Rattle.flic.proofs.Four.{all, mutably, Loan, left-by, lent-lfts, lent-shares, lent-args, lent-vals, calls-four}
-use Rattle.flic.proofs.Fresh as Fresh
+use Rattle.flic.proofs.{Promises.freshDevice, Promises.make-promises, Promises.wrong-makes, Opened.Has}
+use Rattle.flic.proofs.All.{Refs, refs, at-ctl, at-dev, at-tab, table, Owned, Tokens, Passed, Open, Closed, takes-all, opens-all, closes-all, gives-all}
+use Rattle.flic.proofs.Four.{Ways, mutably, apart, Loan, left-by, lent-lfts, lent-shares, lent-args, lent-vals, calls-four}
 use Rattle.answers.proofs.refuse as refuse
-use Rattle.lent_requests.proofs.Answered.{refused, Refuse}
+use Rattle.answers.proofs.accept as accept
+use Rattle.lent_requests.proofs.Answered.{FitsAnswer, refused, accepted, Refuse, Accept, refuses, accepts}
+use Rattle.adapters.proofs.fresh_device as fresh-device
 use Rattle.lent_table.proofs.store_device as store-device
-use Rattle.lent_table.proofs.restore as restore
-use Rattle.calls.proofs.start as start
+use Rattle.lent_table.proofs.clear as clear
+use Rattle.store.proofs.fresh as fresh
 use Rattle.flic.proofs.flic_make as f
 
 abbrev stayed : Stays (f.ended .signature .params) (f.ended .kept)
 stayed = (stay-ref (0 ∷ []) tt (plain (λ _. C.the-row)), (stay-ref (1 ∷ []) tt (plain (λ _. D.the-row)), (stay-slice (2 ∷ []) tt (plain (λ _. P.the-row)), (stay-dropped (plain (λ _. bool)) yes, tt))))
 
+-- the slots are not lent
+abbrev ways : Ways
+ways = record { slots = apart fullShare; order = mutably; counts = mutably; singles = mutably }
+
+fresh-fits : Is D.the-row freshDevice (D.Laws.lowered freshDevice ∷ [])
+fresh-fits = LL.owes D.the-type D.Laws.the-laws freshDevice ((refl, omega arith), ((refl, omega arith), (refl, tt)))
+
+-- what `fresh` promises of the arrays
+abbrev Freshly : (order counts singles : List ℕ) → Type 0
+Freshly order counts singles = Held order counts × ((slots : List ℕ) → pendingOf order counts slots singles ≡ none-pending)
+
 module _ {M : Type 1} (𝓤 : URA M) (H : Heap 𝓤) (A : Atoms 𝓤) (mem′ : Memory → SProp 𝓤) (run : Routine → Fun 𝓤) where
-  abbrev Start : Contract 𝓤
-  Start = tripleOf 𝓤 H A start.signature (start.spec 𝓤 H A mem′ run)
+  abbrev Fresh : Contract 𝓤
+  Fresh = tripleOf 𝓤 H A fresh.signature (fresh.spec 𝓤 H A mem′ run)
+
+  abbrev FreshDevice : Contract 𝓤
+  FreshDevice = tripleOf 𝓤 H A fresh-device.signature (fresh-device.spec 𝓤 H A mem′ run)
+
+  -- what is known of the callees
+  pub record Known (C′ : Calls 𝓤 H) : Type 1 where
+    pub refuse : Triple 𝓤 (C′ refuse.Symbol.name) (Refuse 𝓤 H A mem′ run)
+    pub fresh : Triple 𝓤 (C′ fresh.Symbol.name) Fresh
+    pub fresh-device : Triple 𝓤 (C′ fresh-device.Symbol.name) FreshDevice
+    pub store-device : Triple 𝓤 (C′ store-device.Symbol.name) (StoreDevice 𝓤 H A mem′ run)
+    pub clear : Triple 𝓤 (C′ clear.Symbol.name) (Clear 𝓤 H A mem′ run)
+    pub accept : Triple 𝓤 (C′ accept.Symbol.name) (Accept 𝓤 H A mem′ run)
 
 module _ {M : Type 1} (𝓤 : URA M) (H : Heap 𝓤) (A : Atoms 𝓤) (W : Given 𝓤 H A) (mem′ : Memory → SProp 𝓤) (run : Routine → Fun 𝓤) (a : Refs) (ais : Bool) (room : Room P.the-row (length (a .t))) where
   abbrev x : RefT Controller × (RefT Device × (RefT (List Place) × (Bool × Unit {0})))
@@ -51,46 +78,98 @@ module _ {M : Type 1} (𝓤 : URA M) (H : Heap 𝓤) (A : Atoms 𝓤) (W : Given
       qed W (Closed a zs m c′ []) ∵ suffices ! _ (ends-at 𝓤 H A f.ended stayed (f.clauses 𝓤 H A mem′ run) W bound (An.Laws.lowered z) z (c′, (m, (zs, (tt, tt)))) (tt, (tt, (e, (tt, tt))))) $ says ! made $
       nothing ! $ nothing ! $ fjoin ! $ nothing ! $ move ! (2 ∷ 3 ∷ 4 ∷ 5 ∷ 6 ∷ 7 ∷ 8 ∷ 9 ∷ 10 ∷ []) $ gives-all ! a zs m c′ e room $ frame ! $ frame ! $ owned ! An.the-row (Is An.the-row) (LL.makes An.the-type An.Laws.the-plain 𝓤 H A) z _ g $ done !
 
-  -- ---- the call of `start`, which takes nothing but the arrays
-  abbrev to-start : Loan → Start 𝓤 H A mem′ run .Ghost
-  to-start n = ((lent-lfts (all mutably) n tt, lent-shares (all mutably) tt, tt, lent-args (all mutably) n (a .c) (a .bc) (a .oc) tt, lent-vals (all mutably) (a .bc) (a .oc) tt), tt)
+  -- ---- the call of `fresh`, which takes nothing but the arrays
+  abbrev to-fresh : Loan → Fresh 𝓤 H A mem′ run .Ghost
+  to-fresh n = ((lent-lfts ways n tt, lent-shares ways tt, tt, lent-args ways n (a .c) (a .bc) (a .oc) tt, lent-vals ways (a .bc) (a .oc) tt), tt)
 
-  module _ (C′ : Calls 𝓤 H) (Λ : Loops 𝓤 H) (fm : FmC 𝓤 H (W .laws) C′) (known : Known 𝓤 H A mem′ run C′) (known-start : Triple 𝓤 (C′ start.Symbol.name) (Start 𝓤 H A mem′ run)) (l₀ l₁ l₂ l₃ l₄ l₅ l₆ l₇ l₈ l₉ l₁₀ l₁₁ l₁₂ l₁₃ l₁₄ l₁₅ : ℕ) where
+  -- whether the length is wrong
+  abbrev wrong : Bool
+  wrong = not (eqb (length (a .t)) imageSize)
+
+  module _ (C′ : Calls 𝓤 H) (Λ : Loops 𝓤 H) (fm : FmC 𝓤 H (W .laws) C′) (known : Known 𝓤 H A mem′ run C′) (l₀ l₁ l₂ l₃ l₄ l₅ l₆ l₇ l₈ l₉ l₁₀ l₁₁ l₁₂ l₁₃ l₁₄ : ℕ) where
     abbrev E : Env 𝓤 H
-    E = Fresh.E 𝓤 H tyBool l₀ l₁ l₂ l₃ l₄ l₅ l₆ l₇ l₈ l₉ l₁₀ l₁₁ l₁₂ l₁₃ l₁₄ l₁₅
+    E = (An.Laws.mir, l₀) ∷ (tyRef (named 0) mut (pointee (C.the-row .written)), l₁) ∷ (tyRef (named 1) mut (pointee (D.the-row .written)), l₂) ∷ (sliceTy (tyRef (named 2) mut (pointee (P.the-row .written))), l₃) ∷ (tyBool, l₄) ∷ (tyInt w64, l₅) ∷ (tyBool, l₆) ∷ (tyUnit, l₇)
+        ∷ (tyRef erased mut (tyArray (tyInt w8) 2560), l₈) ∷ (tyRef erased mut (tyArray (tyInt w64) 11), l₉) ∷ (tyRef erased mut (tyArray (tyInt w8) 146), l₁₀) ∷ (tyRef erased mut (pointee (D.the-row .written)), l₁₁) ∷ (D.Laws.mir, l₁₂)
+        ∷ (tyRef erased mut (pointee (P.the-row .written)), l₁₃) ∷ (sliceTy (tyRef erased mut (pointee (P.the-row .written))), l₁₄) ∷ []
 
+    -- what the locals hold after n of their assignments, with the result's content
     abbrev held : Content → ℕ → List Content
-    held v₅ n = Fresh.held a (vbool ais) blank v₅ (holds (vbool (Fresh.wrong a))) n
+    held v₀ n = v₀ ∷ holds (vptr (a .bc) (a .oc)) ∷ holds (vptr (a .bd) (a .od)) ∷ holds (table a) ∷ holds (vbool ais) ∷ since 1 n (vint w64 (length (a .t))) ∷ since 2 n (vbool wrong) ∷ since 6 n vunit
+        ∷ since 3 n (vptr (a .bc) (a .oc + 18432)) ∷ since 4 n (vptr (a .bc) (a .oc + 20992)) ∷ since 5 n (vptr (a .bc) (a .oc + 21080)) ∷ since 7 n (vptr (a .bd) (a .od)) ∷ since 8 n (D.Laws.lowered freshDevice) ∷ since 9 n (vptr (a .bt) (a .ot)) ∷ since 10 n (table a) ∷ []
 
-    module _ (right : length (a .t) ≡ paperLimits .places) where
-      -- the capability is stored
-      stores-it : (z : Played) (c₁ : Controller) → Has c₁ → Is D.the-row (a .d) (D.Laws.lowered (a .d) ∷ []) → Is St.the-row z (St.Laws.lowered z ∷ []) → Began (c₁ .order) (c₁ .counts) (c₁ .singles) z
-          → Sq W (Open H a (a .t) (a .d) c₁ (locals E (held (holds (St.Laws.lowered z)) 5) [])) (runs C′ Λ E f.Code.Mir.t-9 (atRet E Post))
-      stores-it z c₁ g gd gz began =
-          let c′ = controller (c₁ .slots) (c₁ .order) (c₁ .counts) (c₁ .singles) ais in
+    abbrev Then : types.Kit.Post 𝓤 H
+    Then = anyQ (afterSeq 𝓤 H (Wp 𝓤 H C′ Λ E f.Code.Mir.t-4 (atReturn 𝓤 H E Post)) (atReturn 𝓤 H E Post))
+
+    refuses-it : eqb (length (a .t)) imageSize ≡ false → Sq W (Passed a (locals E (held blank 2) [])) (runs C′ Λ E (taken f.Code.Mir.s-3) Then)
+    refuses-it e =
+        refuses ! mem′ run fm (known .refuse) 14 (omega arith) (λ i. (and-then ! (lit ! tt) (no-more !))) (λ g.
+        land ! (from ! (stop !)) (init ! 6 refl (LL.lawful An.the-type An.Laws.the-laws 𝓤 H A W .typed (refused 14) _ g .0)) $
+        opens-all ! tt a (λ gc gd. closes-all ! tt a (a .t) (a .d) (a .c) refl gd gc $ returns-within ! Post refl (look ! 9 refl) $
+        swaps ! (Closed a (a .t) (a .d) (a .c) []) (locals E (held (holds (An.Laws.lowered (refused 14))) 2) []) $ frees-all ! E (held (holds (An.Laws.lowered (refused 14))) 2) $
+        by ! (exits (a .c) (a .d) (a .t) (refused 14) (wrong-makes paperLimits ais (a .c) (a .d) (a .t) (λ r. eqb-false (length (a .t)) imageSize e (r ∙ paper-sized .places))) refl g)))
+
+    module _ (right : length (a .t) ≡ paperLimits .places) (order counts singles : List ℕ) (made : Freshly order counts singles) where
+      abbrev c₁ : Bool → Controller
+      c₁ capability = controller (a .c .slots) order counts singles capability
+
+      abbrev zs : List Place
+      zs = restored (a .t) (replicate imageSize 0) imageSize
+
+      -- the table is made free, and all is closed
+      clears-it : Has (c₁ ais) → Is D.the-row freshDevice (D.Laws.lowered freshDevice ∷ []) → Sq W (Open H a (a .t) freshDevice (c₁ ais) (locals E (held blank 8) [])) (runs C′ Λ E f.Code.Mir.t-12 (atRet E Post))
+      clears-it gc gm =
+          let len = length-restored (a .t) (replicate imageSize 0) imageSize in
+          assigns ! (addr ! (from ! (fld ! refl (hop ! (look-in ! 23 (sub ! 0 refl (whole !))) (stop !))))) (from ! (stop !)) (init ! 43 refl (tt, tt)) $
+          assigns ! (agg ! (and-then ! (load ! (from ! (stop !)) (look ! 43 refl)) (and-then ! (load ! (from ! (fld ! refl (stop !))) (look-in ! 23 (sub ! 1 refl (whole !)))) (no-more !)))) (from ! (stop !)) (init ! 45 refl (tt, (tt, (record { fits = room .0 }, tt)))) $
+          clears ! mem′ run fm (known .clear) (a .t) (a .bt) (a .ot) room (λ _ _. (and-then ! (load ! (from ! (stop !)) (look ! 46 refl)) (no-more !))) (land ! (from ! (stop !)) (store ! 31 refl (tt, tt)) $
+          accepts ! mem′ run fm (known .accept) 0 zero-fits (λ i. (and-then ! (lit ! tt) (no-more !))) (λ g.
+          land ! (from ! (stop !)) (init ! 17 refl (LL.lawful An.the-type An.Laws.the-laws 𝓤 H A W .typed (accepted 0) _ g .0)) $
+          closes-all ! tt a zs freshDevice (c₁ ais) len gm gc $ returns ! (look ! 9 refl) $
+          swaps ! (Closed a zs freshDevice (c₁ ais) []) (locals E (held (holds (An.Laws.lowered (accepted 0))) 10) []) $ frees-all ! E (held (holds (An.Laws.lowered (accepted 0))) 10) $
+          by ! (exits (c₁ ais) freshDevice zs (accepted 0) (make-promises (a .c) (c₁ ais) (a .d) (a .t) right (made .0) (made .1)) len g)))
+
+      -- the capability and the device record are stored
+      stores-it : Has (c₁ (a .c .ais)) → Is D.the-row (a .d) (D.Laws.lowered (a .d) ∷ []) → Sq W (Open H a (a .t) (a .d) (c₁ (a .c .ais)) (locals E (held blank 6) [])) (runs C′ Λ E f.Code.Mir.t-8 (atRet E Post))
+      stores-it gc gd =
           assigns ! (of-opd ! (load ! (from ! (stop !)) (look ! 25 refl))) (from ! (hop ! (look ! 19 refl) (fld ! refl (stop !)))) (store ! 12 refl (tt, tt)) $
-          finishes 𝓤 H A W mem′ run a room tyBool (vbool ais) Post C′ Λ fm known [] l₀ l₁ l₂ l₃ l₄ l₅ l₆ l₇ l₈ l₉ l₁₀ l₁₁ l₁₂ l₁₃ l₁₄ l₁₅ z c′ (Fresh.wrong a) gd g gz (λ e is. exits c′ (z .device) _ (z .answer) (make-promises (a .c) c′ (a .d) (a .t) z right began) e is)
+          assigns ! (addr ! (from ! (hop ! (look ! 21 refl) (stop !)))) (from ! (stop !)) (init ! 39 refl (tt, tt)) $
+          calls-plain ! fm (FreshDevice 𝓤 H A mem′ run) (known .fresh-device) ((tt, tt, tt, tt, tt), tt) (qed W [] ∵ nothing ! $ nothing ! $ join ! $ frame ! $ done !) D.the-row (λ w. ftrue) (λ z w. z ≡ freshDevice) (λ v. id⊢ 𝓤 _) (λ i. no-more !) (λ z v w e is.
+          land ! (from ! (stop !)) (init ! 41 refl (LL.lawful D.the-type D.Laws.the-laws 𝓤 H A W .typed z _ is .0)) $
+          rewrite ! 41 (λ (u : Val). ‵ (fat fullShare D.Laws.mir l₁₂ 0 u)) (ap only (LL.tells D.the-type D.Laws.the-laws z (v ∷ []) is) ∙ ap D.Laws.lowered e) refl $
+          move ! (1 ∷ []) $ stores-device ! mem′ run fm (known .store-device) (a .d) freshDevice (a .bd) (a .od) gd fresh-fits (λ _ _. (and-then ! (load ! (from ! (stop !)) (look ! 40 refl)) (and-then ! (load ! (from ! (stop !)) (look ! 42 refl)) (no-more !))))
+          (λ gm. land ! (from ! (stop !)) (store ! 31 refl (tt, tt)) $ move ! (1 ∷ []) $ clears-it gc gm))
 
-      calls-it : Has (a .c) → Is D.the-row (a .d) (D.Laws.lowered (a .d) ∷ []) → Sq W (Open H a (a .t) (a .d) (a .c) (locals E (held blank 5) [])) (runs C′ Λ E f.Code.Mir.t-8 (atRet E Post))
-      calls-it gc gd =
-          nothing ! $ nothing ! $
-          -- [true; true; the table; the device record; what closes each; the arrays from 10; …]
-          move ! (10 ∷ 11 ∷ 12 ∷ 13 ∷ 0 ∷ 1 ∷ []) $
-          calls-four (all mutably) ! fm (Start 𝓤 H A mem′ run) known-start to-start (a .c) gc (a .bc) (a .oc) St.the-row (‵ ftrue) ftrue {Y = Unit {0}} (λ y. ftrue) (λ z w. Began (w .1 .0) (w .1 .1 .0) (w .1 .1 .1 .0) z) (λ n. asks-nothing 𝓤 _) (λ n v. id⊢ 𝓤 _) (λ n i.
-          (and-then ! (load ! (from ! (stop !)) (look ! 34 refl)) (and-then ! (load ! (from ! (stop !)) (look ! 36 refl)) (and-then ! (load ! (from ! (stop !)) (look ! 38 refl)) (and-then ! (load ! (from ! (stop !)) (look ! 40 refl)) (no-more !)))))) (λ z v w φ g′ is.
-          land ! (from ! (stop !)) (init ! 29 refl (LL.lawful St.the-type St.Laws.the-laws 𝓤 H A W .typed z _ is .0)) $ rewrite ! 29 (λ (u : Val). ‵ (fat fullShare St.Laws.mir l₅ 0 u)) (ap only (St.Laws.lowers .val-is z (v ∷ []) is)) refl $
-          -- [the arrays; true; the rest's last values; the table; …]
-          move ! (5 ∷ []) $ drop ! $ move ! (4 ∷ []) $ drop ! $ move ! (4 ∷ 5 ∷ 6 ∷ 7 ∷ 8 ∷ 9 ∷ 10 ∷ 11 ∷ 0 ∷ 1 ∷ 2 ∷ 3 ∷ []) $
-          stores-it z (left-by (all mutably) (Unit {0}) (a .c) w) g′ gd (subst (Is St.the-row z) (St.Laws.lowers .val-is z (v ∷ []) is) is) φ)
+    calls-it : length (a .t) ≡ paperLimits .places → Has (a .c) → Is D.the-row (a .d) (D.Laws.lowered (a .d) ∷ []) → Sq W (Open H a (a .t) (a .d) (a .c) (locals E (held blank 5) [])) (runs C′ Λ E f.Code.Mir.t-7 (atRet E Post))
+    calls-it right gc gd =
+        nothing ! $ nothing ! $
+        -- [true; true; the table; the device record; what closes each; the arrays from 10; …]
+        move ! (10 ∷ 11 ∷ 12 ∷ 13 ∷ 0 ∷ 1 ∷ []) $
+        calls-four ways ! fm (Fresh 𝓤 H A mem′ run) (known .fresh) to-fresh (a .c) gc (a .bc) (a .oc) unit (‵ ftrue) ftrue {Y = Unit {0}} (λ y. ftrue) (λ z w. Freshly (w .0) (w .1 .0) (w .1 .1 .0)) (λ n. asks-nothing 𝓤 _) (λ n v. id⊢ 𝓤 _) (λ n i.
+        (and-then ! (load ! (from ! (stop !)) (look ! 34 refl)) (and-then ! (load ! (from ! (stop !)) (look ! 36 refl)) (and-then ! (load ! (from ! (stop !)) (look ! 38 refl)) (no-more !))))) (λ z v w φ g′ is.
+        land ! (from ! (stop !)) (init ! 33 refl (unit-typed is)) $ rewrite ! 33 (λ (u : Val). ‵ (fat fullShare tyUnit l₇ 0 u)) (ap only is) refl $
+        -- [the arrays; true; the rest's last values; the table; …]
+        move ! (5 ∷ []) $ drop ! $ move ! (4 ∷ []) $ drop ! $ move ! (4 ∷ 5 ∷ 6 ∷ 7 ∷ 8 ∷ 9 ∷ 10 ∷ 11 ∷ 0 ∷ 1 ∷ 2 ∷ 3 ∷ []) $ stores-it right (w .0) (w .1 .0) (w .1 .1 .0) φ g′ gd)
 
-  walk : (C′ : Calls 𝓤 H) (Λ : Loops 𝓤 H) (fm : FmC 𝓤 H (W .laws) C′) → Known 𝓤 H A mem′ run C′ → Triple 𝓤 (C′ start.Symbol.name) (Start 𝓤 H A mem′ run) → ent 𝓤 (onEntry 𝓤 H A f.signature (bound .0 .0) (bound .0 .1) x at) (WpFn 𝓤 H C′ Λ f.Code.function (vptr (a .bc) (a .oc) ∷ vptr (a .bd) (a .od) ∷ table a ∷ vbool ais ∷ []) Post)
-  walk C′ Λ fm known known-start =
+    -- the length is looked at, all is opened, and the operands of the first call are taken
+    starts : Sq W (Passed a (locals E (held blank 0) [])) (runs C′ Λ E f.Code.Mir.t-1 (atRet E Post))
+    starts =
+        assigns ! (of-opd ! (load ! (from ! (fld ! refl (stop !))) (look-in ! 12 (sub ! 1 refl (whole !))))) (from ! (stop !)) (init ! 16 refl (tt, record { fits = room .0 })) $
+        assigns ! (bin ! (load ! (from ! (stop !)) (look ! 16 refl)) (lit ! tt) tt) (from ! (stop !)) (init ! 18 refl (tt, tt)) $
+        first ! $ branches ! (load ! (from ! (stop !)) (look ! 18 refl)) (λ t. refuses-it (holds-false (eqb (length (a .t)) imageSize) t))
+        (λ t. skips ! $ exec ! C′ Λ E f.Code.Mir.t-4 (atRet E Post) $ opens-all ! tt a (λ gc gd.
+        assigns ! (addr ! (from ! (hop ! (look ! 19 refl) (fld ! refl (stop !))))) (from ! (stop !)) (init ! 33 refl (tt, tt)) $
+        assigns ! (addr ! (from ! (hop ! (look ! 19 refl) (fld ! refl (stop !))))) (from ! (stop !)) (init ! 35 refl (tt, tt)) $
+        assigns ! (addr ! (from ! (hop ! (look ! 19 refl) (fld ! refl (stop !))))) (from ! (stop !)) (init ! 37 refl (tt, tt)) $
+        calls-it (eqb-true (length (a .t)) imageSize (not-not (eqb (length (a .t)) imageSize) t) ∙ sym (paper-sized .places)) gc gd))
+
+  walk : (C′ : Calls 𝓤 H) (Λ : Loops 𝓤 H) (fm : FmC 𝓤 H (W .laws) C′) → Known 𝓤 H A mem′ run C′ → ent 𝓤 (onEntry 𝓤 H A f.signature (bound .0 .0) (bound .0 .1) x at) (WpFn 𝓤 H C′ Λ f.Code.function (vptr (a .bc) (a .oc) ∷ vptr (a .bd) (a .od) ∷ table a ∷ vbool ais ∷ []) Post)
+  walk C′ Λ fm known =
       qed W (Tokens a (‵ ftrue) ∷ ‵ (Owned a (a .c) (a .d) (a .t) (owns (bool ∷ []) (x .1 .1 .1) (at .1 .1 .1))) ∷ []) ∵
       takes-all ! a $ keep ! (0 ∷ 1 ∷ 2 ∷ 3 ∷ 4 ∷ 5 ∷ []) $ enter ! C′ Λ f.Code.function (vptr (a .bc) (a .oc) ∷ vptr (a .bd) (a .od) ∷ table a ∷ vbool ais ∷ []) _ $
-      alloc1 ! (λ l₀. alloc1 ! (λ l₁. alloc1 ! (λ l₂. alloc1 ! (λ l₃. alloc1 ! (λ l₄. alloc1 ! (λ l₅. alloc1 ! (λ l₆. alloc1 ! (λ l₇. alloc1 ! (λ l₈. alloc1 ! (λ l₉. alloc1 ! (λ l₁₀. alloc1 ! (λ l₁₁. alloc1 ! (λ l₁₂. alloc1 ! (λ l₁₃. alloc1 ! (λ l₁₄. alloc1 ! (λ l₁₅. alloc0 ! $ params1 ! $
-      pass1 ! (init ! 28 refl (tt, tt)) $ pass1 ! (init ! 26 refl (tt, tt)) $ pass1 ! (init ! 24 refl (tt, (tt, (record { fits = room .0 }, tt)))) $ pass1 ! (init ! 22 refl (tt, tt)) $ pass0 ! $
-      keep ! (32 ∷ 33 ∷ 34 ∷ 35 ∷ 36 ∷ 37 ∷ 30 ∷ 31 ∷ 28 ∷ 29 ∷ 26 ∷ 27 ∷ 24 ∷ 25 ∷ 22 ∷ 23 ∷ 20 ∷ 21 ∷ 18 ∷ 19 ∷ 16 ∷ 17 ∷ 14 ∷ 15 ∷ 12 ∷ 13 ∷ 10 ∷ 11 ∷ 8 ∷ 9 ∷ 6 ∷ 7 ∷ 4 ∷ 5 ∷ 2 ∷ 3 ∷ 0 ∷ 1 ∷ []) $
-      starts 𝓤 H A W mem′ run a room tyBool (vbool ais) Post C′ Λ fm known [] l₀ l₁ l₂ l₃ l₄ l₅ l₆ l₇ l₈ l₉ l₁₀ l₁₁ l₁₂ l₁₃ l₁₄ l₁₅ (λ w g. exits (a .c) (a .d) (a .t) (refused 14) (wrong-makes paperLimits ais (a .c) (a .d) (a .t) (λ e. w (e ∙ paper-sized .places))) refl g) f.Code.Mir.t-8 (λ right. calls-it C′ Λ fm known known-start l₀ l₁ l₂ l₃ l₄ l₅ l₆ l₇ l₈ l₉ l₁₀ l₁₁ l₁₂ l₁₃ l₁₄ l₁₅ (right ∙ sym (paper-sized .places)))))))))))))))))))
+      alloc1 ! (λ l₀. alloc1 ! (λ l₁. alloc1 ! (λ l₂. alloc1 ! (λ l₃. alloc1 ! (λ l₄. alloc1 ! (λ l₅. alloc1 ! (λ l₆. alloc1 ! (λ l₇. alloc1 ! (λ l₈. alloc1 ! (λ l₉. alloc1 ! (λ l₁₀. alloc1 ! (λ l₁₁. alloc1 ! (λ l₁₂. alloc1 ! (λ l₁₃. alloc1 ! (λ l₁₄. alloc0 ! $ params1 ! $
+      pass1 ! (init ! 26 refl (tt, tt)) $ pass1 ! (init ! 24 refl (tt, tt)) $ pass1 ! (init ! 22 refl (tt, (tt, (record { fits = room .0 }, tt)))) $ pass1 ! (init ! 20 refl (tt, tt)) $ pass0 ! $
+      keep ! (30 ∷ 31 ∷ 32 ∷ 33 ∷ 34 ∷ 35 ∷ 28 ∷ 29 ∷ 26 ∷ 27 ∷ 24 ∷ 25 ∷ 22 ∷ 23 ∷ 20 ∷ 21 ∷ 18 ∷ 19 ∷ 16 ∷ 17 ∷ 14 ∷ 15 ∷ 12 ∷ 13 ∷ 10 ∷ 11 ∷ 8 ∷ 9 ∷ 6 ∷ 7 ∷ 4 ∷ 5 ∷ 2 ∷ 3 ∷ 0 ∷ 1 ∷ []) $
+      starts C′ Λ fm known l₀ l₁ l₂ l₃ l₄ l₅ l₆ l₇ l₈ l₉ l₁₀ l₁₁ l₁₂ l₁₃ l₁₄)))))))))))))))
 
 pub flic-make-spec : {M : Type 1} → f.Statement.statement M
 unfolding f.Code.routine tablesOf
@@ -100,6 +179,9 @@ flic-make-spec 𝓤 H 𝓜 𝓖 𝓡 =
     (λ κs. (ptr-vals, (ptr-vals, (slice-vals, (bool-vals, tt))))) (λ κs. (mut-tells (named 0) (κs .0) C.the-row, (mut-tells (named 1) (κs .1 .0) D.the-row, (mut-slice-tells (named 2) (κs .1 .1 .0) P.the-row, (bool-tells, tt)))))
     (λ fm κs qs bounds a _ are. via 𝓤 _ (fst∗ 𝓤 _ (emp 𝓤)) (walk 𝓤 H (𝓖 .A) (givenOf 𝓤 H 𝓜 𝓖) (𝓜 .mem) (𝓡 .run) (refs (κs .0) (κs .1 .0) (κs .1 .1 .0) (qs .0) (qs .1 .0) (qs .1 .1 .0) (a .0) (a .1 .0) (a .1 .1 .0)) (a .1 .1 .1 .0) (are .1 .1 .0 .0 .1) _ _ fm (record {
       refuse = cited 𝓤 H (Refuse 𝓤 H (𝓖 .A) (𝓜 .mem) (𝓡 .run)) 𝓜 𝓡 f.Code.env refuse.Symbol.name refuse.Symbol.routine f.Code.calls-answers·refuse (refuse.Met.met 𝓤 H 𝓜 𝓖 𝓡);
+      fresh = cited 𝓤 H (Fresh 𝓤 H (𝓖 .A) (𝓜 .mem) (𝓡 .run)) 𝓜 𝓡 f.Code.env fresh.Symbol.name fresh.Symbol.routine f.Code.calls-store·fresh (fresh.Met.met 𝓤 H 𝓜 𝓖 𝓡);
+      fresh-device = cited 𝓤 H (FreshDevice 𝓤 H (𝓖 .A) (𝓜 .mem) (𝓡 .run)) 𝓜 𝓡 f.Code.env fresh-device.Symbol.name fresh-device.Symbol.routine f.Code.calls-adapters·fresh-device (fresh-device.Met.met 𝓤 H 𝓜 𝓖 𝓡);
       store-device = cited 𝓤 H (StoreDevice 𝓤 H (𝓖 .A) (𝓜 .mem) (𝓡 .run)) 𝓜 𝓡 f.Code.env store-device.Symbol.name store-device.Symbol.routine f.Code.calls-lent-table·store-device (store-device.Met.met 𝓤 H 𝓜 𝓖 𝓡);
-      restore = cited 𝓤 H (Restore 𝓤 H (𝓖 .A) (𝓜 .mem) (𝓡 .run)) 𝓜 𝓡 f.Code.env restore.Symbol.name restore.Symbol.routine f.Code.calls-lent-table·restore (restore.Met.met 𝓤 H 𝓜 𝓖 𝓡);
-    }) (cited 𝓤 H (Start 𝓤 H (𝓖 .A) (𝓜 .mem) (𝓡 .run)) 𝓜 𝓡 f.Code.env start.Symbol.name start.Symbol.routine f.Code.calls-calls·start (start.Met.met 𝓤 H 𝓜 𝓖 𝓡))))
+      clear = cited 𝓤 H (Clear 𝓤 H (𝓖 .A) (𝓜 .mem) (𝓡 .run)) 𝓜 𝓡 f.Code.env clear.Symbol.name clear.Symbol.routine f.Code.calls-lent-table·clear (clear.Met.met 𝓤 H 𝓜 𝓖 𝓡);
+      accept = cited 𝓤 H (Accept 𝓤 H (𝓖 .A) (𝓜 .mem) (𝓡 .run)) 𝓜 𝓡 f.Code.env accept.Symbol.name accept.Symbol.routine f.Code.calls-answers·accept (accept.Met.met 𝓤 H 𝓜 𝓖 𝓡);
+    })))

@@ -8,7 +8,7 @@ use Rattle.numbers.proofs.Basics.{arith, eqb, not, eqb-true, eqb-false}
 use package.mir.Syntax.{return, Body as Code}
 use denote.Struct.Laws as LL
 use denote.Signature.{shrSliceOf}
-use Rattle.calls.specs.{Limits.limitsOf, declared.Controller.Controller, Inner.controller, Inner.notedIn, Inner.Injected}
+use Rattle.calls.specs.{Limits.limitsOf, declared.Controller.Controller, Inner.controller, Inner.notedIn}
 use Rattle.calls.proofs.Limits.{right-length, wrong-length}
 use Rattle.list_image.specs.Image.{imageSize}
 use Rattle.rules.specs.Machine.{setAttr}
@@ -37,7 +37,7 @@ use Rattle.lent_requests.proofs.set_modes as set-modes
 use Rattle.calls.proofs.Controller as C
 use Rattle.calls.proofs.answer_inject as answer-inject
 use Rattle.flic.specs.Surface.{Valid, Requested}
-use Rattle.flic.proofs.Promises.{SetRecords, Enqueued, enqueued, Cleared, cleared, ClearedIo, cleared-io, of-group, wrong-promises, record-promises, inject-promises, place-promises, modes-promises}
+use Rattle.flic.proofs.Promises.{SetRecords, Enqueued, enqueued, Cleared, cleared, ClearedIo, cleared-io, of-group, wrong-promises, record-promises, InjectedTo, inject-promises, place-promises, modes-promises}
 use Rattle.flic.proofs.{Opened.Has, Calls.OnPlace, Calls.SetPlace, Calls.SetModes, Calls.asks-place, Calls.sets-place, Calls.sets-modes}
 use Rattle.flic.proofs.All.{Refs, refs, at-ctl, at-dev, at-tab, table, Owned, Tokens, Passed, Open, Closed, takes-all, opens-all, closes-all, gives-all}
 use Rattle.flic.proofs.Four.{Ways, all, mutably, shared, apart, at-array, Loan, Toks, Lent, left-by, lent-lfts, lent-shares, lent-args, lent-vals, calls-four}
@@ -267,7 +267,7 @@ module _ {M : Type 1} (𝓤 : URA M) (H : Heap 𝓤) (A : Atoms 𝓤) (W : Given
             move ! (5 ∷ []) $ drop ! $ move ! (4 ∷ []) $ split ! $ move ! (1 ∷ []) $ drop ! $ move ! (5 ∷ 6 ∷ 7 ∷ 8 ∷ 9 ∷ 10 ∷ 11 ∷ 12 ∷ 1 ∷ 2 ∷ 3 ∷ 4 ∷ 13 ∷ 14 ∷ 15 ∷ 16 ∷ 17 ∷ 0 ∷ []) $
             ends-records 8 e f.Code.Mir.t-10 z (left-by io-ways Y₃ c w) g′ (subst (Is An.the-row z) (An.Laws.lowers .val-is z (v ∷ []) is) is) refl (cleared-io c (c .slots) _ _ (c .singles) attr ps z φ) (plainly (eqb group 8) 0 0 3 blank 0 blank))
 
-      -- ---- an injection: after the arrays `answer_inject` takes four values
+      -- ---- an injection: after the arrays `answer_inject` takes the limits and four values
       module _ (is-inject : eqb group 10 ≡ true) where
         abbrev id : AdapterId
         id = record { 0 = attr }
@@ -286,21 +286,24 @@ module _ {M : Type 1} (𝓤 : URA M) (H : Heap 𝓤) (A : Atoms 𝓤) (W : Given
         injected v₀ c₈ c₉ c₁₀ n c₃₀ c₃₁ c₃₂ = v₀ ∷ held blank blank (holds (I.Laws.lowered id)) c₈ c₉ c₁₀ (eqb group 10) 0 0 0 n c₃₀ c₃₁ c₃₂ blank 0 blank
 
         abbrev O₄ : Fml
-        O₄ = fsep (bool .own (c .ais) (vbool (c .ais) ∷ [])) (fsep (D.the-row .own d (D.Laws.lowered d ∷ [])) (fsep (P.the-row .own place (P.Laws.lowered place ∷ [])) (fsep (I.the-row .own id (I.Laws.lowered id ∷ [])) ftrue)))
+        O₄ = fsep (u64 .own imageSize (vint w64 imageSize ∷ [])) (fsep (u64 .own 256 (vint w64 256 ∷ [])) (fsep (bool .own (c .ais) (vbool (c .ais) ∷ [])) (fsep (D.the-row .own d (D.Laws.lowered d ∷ [])) (fsep (P.the-row .own place (P.Laws.lowered place ∷ [])) (fsep (I.the-row .own id (I.Laws.lowered id ∷ [])) ftrue)))))
 
         abbrev Y₄ : Type 0
-        Y₄ = Unit {0} × (Unit {0} × (Unit {0} × (Unit {0} × Unit {0})))
+        Y₄ = Unit {0} × (Unit {0} × (Unit {0} × (Unit {0} × (Unit {0} × (Unit {0} × Unit {0})))))
 
         abbrev to-inject : Loan → AnswerInject 𝓤 H A mem′ run .Ghost
-        to-inject n = ((lent-lfts inject-ways n tt, lent-shares inject-ways tt, tt, lent-args inject-ways n c (a .bc) (a .oc) (c .ais, (d, (place, (id, tt)))), lent-vals inject-ways (a .bc) (a .oc) (vbool (c .ais) ∷ [], (D.Laws.lowered d ∷ [], (P.Laws.lowered place ∷ [], (I.Laws.lowered id ∷ [], tt))))), tt)
+        to-inject n = ((lent-lfts inject-ways n tt, lent-shares inject-ways tt, tt, lent-args inject-ways n c (a .bc) (a .oc) (imageSize, (256, (c .ais, (d, (place, (id, tt)))))), lent-vals inject-ways (a .bc) (a .oc) (vint w64 imageSize ∷ [], (vint w64 256 ∷ [], (vbool (c .ais) ∷ [], (D.Laws.lowered d ∷ [], (P.Laws.lowered place ∷ [], (I.Laws.lowered id ∷ [], tt))))))), tt)
 
         goes₄ : (n : Loan) → ent 𝓤 (⋆ 𝓤 H A (Toks inject-ways n (‵ ftrue) ∷ ‵ (Lent inject-ways n c (a .bc) (a .oc) O₄) ∷ [])) (AnswerInject 𝓤 H A mem′ run .pre (to-inject n))
-        goes₄ n = qed W (Toks inject-ways n (‵ ftrue) ∷ ‵ (Lent inject-ways n c (a .bc) (a .oc) O₄) ∷ []) ∵ says ! (valid right .ready, canonical) $ done !
+        goes₄ n = qed W (Toks inject-ways n (‵ ftrue) ∷ ‵ (Lent inject-ways n c (a .bc) (a .oc) O₄) ∷ []) ∵ says ! (omega arith, valid right .ready, canonical) $ done !
 
-        module _ (gp : Is P.the-row place (P.Laws.lowered place ∷ [])) (r : Answer) (gr : FitsAnswer r) (c′ : Controller) (gc′ : Has c′) (same : c′ .ais ≡ c .ais) (φ : Injected attr c c′ d place r) where
+        module _ (gp : Is P.the-row place (P.Laws.lowered place ∷ [])) (r : Answer) (gr : FitsAnswer r) (slots order counts : List ℕ) (gc′ : Has (controller slots order counts (c .singles) (c .ais))) (φ : InjectedTo attr c slots order counts d place r) where
+          abbrev c′ : Controller
+          c′ = controller slots order counts (c .singles) (c .ais)
+
           promised : (m : Device) → notedIn (c .ais) d place r ≡ m → Requested (setAttr group attr) c c′ d m ys ys ps (saw r ps)
           promised m e = subst (λ (x : Device). Requested (setAttr group attr) c c′ d x ys ys ps (saw r ps)) e
-              (subst (λ (g : ℕ). Requested (setAttr g attr) c c′ d (notedIn (c .ais) d place r) ys ys ps (saw r ps)) (sym (eqb-true group 10 is-inject)) (inject-promises attr c c′ d ys ps r right (valid right) same φ))
+              (subst (λ (g : ℕ). Requested (setAttr g attr) c c′ d (notedIn (c .ais) d place r) ys ys ps (saw r ps)) (sym (eqb-true group 10 is-inject)) (inject-promises attr c slots order counts d ys ps r right (valid right) φ))
 
           abbrev answered : Content → Bool → (c₃₁ c₃₂ : Content) → List Content
           answered v₀ flag c₃₁ c₃₂ = injected v₀ (holds (P.Laws.lowered place)) (holds (D.Laws.lowered d)) (holds (An.Laws.lowered r)) 6 (holds (vbool flag)) c₃₁ c₃₂
@@ -310,10 +313,10 @@ module _ {M : Type 1} (𝓤 : URA M) (H : Heap 𝓤) (A : Atoms 𝓤) (W : Given
           Then-noted = anyQ (afterSeq 𝓤 H (Wp 𝓤 H C′ Λ E (afters 13 (taken f.Code.Mir.s-11)) (post 𝓤 H (Then f.Code.Mir.t-12))) (post 𝓤 H (Then f.Code.Mir.t-12)))
 
           abbrev noted : Device
-          noted = injectedDevice (c′ .ais) d place
+          noted = injectedDevice (c .ais) d place
 
           noted-is : eqb (r .count) 1 ≡ true → notedIn (c .ais) d place r ≡ noted
-          noted-is e = chosen (eqb (r .count) 1) (injectedDevice (c .ais) d place) d e ∙ ap (λ (x : Bool). injectedDevice x d place) (sym same)
+          noted-is e = chosen (eqb (r .count) 1) (injectedDevice (c .ais) d place) d e
 
           -- one record was appended: `note_injection` is called
           notes-it : eqb (r .count) 1 ≡ true → Sq W (At ys d c′ (answered blank (not (eqb (r .count) 1)) blank blank)) (runs C′ Λ E (afters 13 (taken f.Code.Mir.s-11)) (Then f.Code.Mir.t-12))
@@ -336,13 +339,14 @@ module _ {M : Type 1} (𝓤 : URA M) (H : Heap 𝓤) (A : Atoms 𝓤) (W : Given
         injects-it : Is P.the-row place (P.Laws.lowered place ∷ []) → Sq W (At ys d c (injected blank (holds (P.Laws.lowered place)) (holds (D.Laws.lowered d)) blank 6 (holds (vbool (c .ais))) blank blank)) (runs C′ Λ E (afters 10 (taken f.Code.Mir.s-11)) (Then f.Code.Mir.t-12))
         injects-it gp =
             nothing ! $ owned ! I.the-row (Is I.the-row) (makes-id 𝓤 H A W) id _ fits-id $ fjoin ! $ owned ! P.the-row (Is P.the-row) (LL.makes P.the-type P.Laws.the-plain 𝓤 H A) place _ gp $ fjoin ! $ owned ! D.the-row (Is D.the-row) (LL.makes D.the-type D.Laws.the-plain 𝓤 H A) d _ gd $ fjoin ! $
-            owned ! bool (Is bool) (bool-makes 𝓤 H A W) (c .ais) _ refl $ fjoin ! $ nothing ! $ move ! (10 ∷ 11 ∷ 12 ∷ 13 ∷ 0 ∷ 1 ∷ []) $
-            calls-four inject-ways ! fm (AnswerInject 𝓤 H A mem′ run) (known .inject) to-inject c gc (a .bc) (a .oc) An.the-row (‵ ftrue) O₄ {Y = Y₄} (λ y. fsep ftrue (fsep ftrue (fsep ftrue (fsep ftrue ftrue))))
-            (λ z w. (singles : List ℕ) → Injected attr (controller (c .slots) (c .order) (c .counts) singles (c .ais)) (controller (w .0) (w .1 .0) (w .1 .1 .0) singles (c .ais)) d place z) goes₄ (λ n v. id⊢ 𝓤 _)
-            (λ n i. (and-then ! (load ! (from ! (stop !)) (look ! 76 refl)) (and-then ! (load ! (from ! (stop !)) (look ! 78 refl)) (and-then ! (load ! (from ! (stop !)) (look ! 80 refl)) (and-then ! (load ! (from ! (stop !)) (look ! 82 refl)) (and-then ! (load ! (from ! (stop !)) (look ! 42 refl)) (and-then ! (load ! (from ! (stop !)) (look ! 40 refl)) (and-then ! (load ! (from ! (stop !)) (look ! 38 refl)) (no-more !))))))))) (λ z v w φ g′ is.
+            owned ! bool (Is bool) (bool-makes 𝓤 H A W) (c .ais) _ refl $ fjoin ! $ owned ! u64 (Is u64) (uint-makes 𝓤 H A W w64) 256 _ (refl, omega arith) $ fjoin ! $ owned ! u64 (Is u64) (uint-makes 𝓤 H A W w64) imageSize _ (refl, omega arith) $ fjoin ! $
+            nothing ! $ move ! (10 ∷ 11 ∷ 12 ∷ 13 ∷ 0 ∷ 1 ∷ []) $
+            calls-four inject-ways ! fm (AnswerInject 𝓤 H A mem′ run) (known .inject) to-inject c gc (a .bc) (a .oc) An.the-row (‵ ftrue) O₄ {Y = Y₄} (λ y. fsep ftrue (fsep ftrue (fsep ftrue (fsep ftrue (fsep ftrue (fsep ftrue ftrue))))))
+            (λ z w. InjectedTo attr c (w .0) (w .1 .0) (w .1 .1 .0) d place z) goes₄ (λ n v. id⊢ 𝓤 _)
+            (λ n i. (and-then ! (load ! (from ! (stop !)) (look ! 76 refl)) (and-then ! (load ! (from ! (stop !)) (look ! 78 refl)) (and-then ! (load ! (from ! (stop !)) (look ! 80 refl)) (and-then ! (lit ! tt) (and-then ! (lit ! tt) (and-then ! (load ! (from ! (stop !)) (look ! 82 refl)) (and-then ! (load ! (from ! (stop !)) (look ! 42 refl)) (and-then ! (load ! (from ! (stop !)) (look ! 40 refl)) (and-then ! (load ! (from ! (stop !)) (look ! 38 refl)) (no-more !))))))))))) (λ z v w φ g′ is.
             land ! (from ! (stop !)) (init ! 45 refl (LL.lawful An.the-type An.Laws.the-laws 𝓤 H A W .typed z _ is .0)) $ rewrite ! 45 (λ (u : Val). ‵ (fat fullShare An.Laws.mir l₁₂ 0 u)) (ap only (An.Laws.lowers .val-is z (v ∷ []) is)) refl $
             move ! (5 ∷ []) $ drop ! $ move ! (4 ∷ []) $ drop ! $ move ! (4 ∷ 5 ∷ 6 ∷ 7 ∷ 8 ∷ 9 ∷ 10 ∷ 11 ∷ 0 ∷ 1 ∷ 2 ∷ 3 ∷ []) $
-            tests-it gp z (subst (Is An.the-row z) (An.Laws.lowers .val-is z (v ∷ []) is) is) (left-by inject-ways Y₄ c w) g′ refl (φ (c .singles)))
+            tests-it gp z (subst (Is An.the-row z) (An.Laws.lowers .val-is z (v ∷ []) is) is) (w .0) (w .1 .0) (w .1 .1 .0) g′ φ)
 
         -- its operands
         operands : Is P.the-row place (P.Laws.lowered place ∷ []) → Sq W (At ys d c (injected blank (holds (P.Laws.lowered place)) (holds (D.Laws.lowered d)) blank 3 blank blank blank)) (runs C′ Λ E (afters 6 (taken f.Code.Mir.s-11)) (Then f.Code.Mir.t-12))

@@ -1,10 +1,16 @@
--- `flic_play_list`: what it shares with `flic_make` is in Fresh.antt. In between `play_list` is called, with the list.
-use Rattle.flic.proofs.Walk.{_≡_, refl, ap, subst, ℕ, Bool, true, by, lit, bin, store, hop, fld, of-opd, assigns, first, skips, branches, exec, returns-within, whole, sub, look-in, anyQ, afterSeq, Wp, atReturn, [], _∷_, List, length, URA, fullShare, named, w8, tyInt, tyRef, imm, Val, vbool, vptr, SProp, ent, id⊢, GName, Lft, Share, Fml, ftrue, fsep, flft, fat, Memory, Routine, Heap, Env, Calls, Loops, WpFn, Atoms, Fun, Given, Item, Sq, runs, atRet, ‵, ⋆, _⊛_, _$_, _∵_, !, qed, move, keep, drop, split, join, rewrite, fsplit, fjoin, suffices, frame, done, look, init, stop, from, load, and-then, no-more, land, enter, alloc1, alloc0, params1, pass1, pass0, FmC, owns, Is, bool-makes, u8, RefT, ptr-vals, mut-tells, sliceVal, sliceTy, ShrSlice, Room, slice-vals, mut-slice-tells, shr-slice-tells, plain, only, owned, nothing, onEntry, tripleOf, Contract, Triple, cited, says, Stays, stay-ref, stay-slice, walkOf, goes-ref, goes-slice, ends-at, yes, givenOf, tablesOf, bool, needs, stay-dropped, goes-dropped, u64, w64, vint, uint-makes}
-use Rattle.lent_table.proofs.{Ends.concludes, Record.StoreDevice, Calls.Restore, Count.taken}
-use Rattle.numbers.proofs.Basics.{eqb, eqb-true, eqb-false, arith}
+-- `flic_play_list`: the length of the table is looked at, all is opened, and `play_list` is called with an image of unused places. Where the controller was made fresh, the device
+-- record and the table are stored. Then all is closed.
+use Rattle.flic.proofs.Walk.{_≡_, refl, sym, ap, subst, ℕ, _+_, Bool, true, false, [], _∷_, List, length, URA, fullShare, named, erased, w8, w64, tyInt, tyBool, tyUnit, tyRef, imm, mut, Val, vunit, vint, vbool, vptr, SProp, ent, id⊢, GName, Lft, Share, Fml, ftrue, fsep, flft, fres, fat, Memory, Routine, Heap, Env, Calls, Loops, Wp, WpFn, afterSeq, atReturn, Atoms, Fun, givenOf, tablesOf, Given, Item, Sq, runs, atRet, anyQ, ‵, ⋆, _⊛_, _$_, _∵_, !, qed, by, move, keep, drop, split, join, rewrite, fsplit, fjoin, suffices, frame, done, look, store, init, stop, hop, fld, from, load, lit, bin, addr, of-opd, and-then, no-more, assigns, first, skips, branches, exec, land, returns, returns-within, enter, alloc1, alloc0, params1, pass1, pass0, agg, whole, sub, look-in, FmC, owns, Is, pointee, u8, u64, bool, uint-makes, bool-makes, RefT, MutRef, sliceVal, sliceTy, ShrSlice, Room, ptr-vals, mut-tells, slice-vals, mut-slice-tells, shr-slice-tells, plain, only, owned, nothing, onEntry, tripleOf, Contract, Triple, cited, needs, says, Stays, stay-ref, stay-slice, stay-dropped, walkOf, goes-ref, goes-slice, goes-dropped, ends-at, yes, tyArray}
+use types.Run.{un}
+use Rattle.lent_table.proofs.{Ends.concludes, Record.StoreDevice, Record.stores-device, Calls.Restore, Calls.restores, Count.taken, Tables.length-restored}
+use Rattle.lent_table.proofs.Images.{imageTy, low-image, FitsImage, image-typed, Empty, takes-empty}
+use Rattle.lent_table.proofs.Locals.{Content, blank, holds, since, locals, frees-all, swaps, holds-false, not-not}
+use Rattle.numbers.proofs.Basics.{arith, not, eqb, eqb-true, eqb-false, replicate}
 use denote.Struct.Laws as LL
-use Rattle.list_image.specs.Image.{imageSize}
 use denote.Signature.{shrSliceOf}
+use Rattle.list_image.specs.Image.{imageSize}
+use Rattle.list_image.proofs.empty as empty
+use Rattle.lent_table.specs.Table.{restored}
 use Rattle.calls.specs.{Limits.limitsOf, declared.Controller.Controller, Inner.controller}
 use Rattle.calls.proofs.Limits.{right-length, wrong-length}
 use Rattle.rules.specs.Machine.{playList}
@@ -17,13 +23,11 @@ use Rattle.list_play.specs.declared.Played.{Played}
 use Rattle.flic.specs.Surface.{Valid, Requested}
 use Rattle.calls.proofs.Controller as C
 use Rattle.list_play.proofs.Played as St
-use Rattle.flic.proofs.{Promises.Replayed, Promises.same-promises, Promises.play-promises, Promises.wrong-promises, Opened.Has, Fresh.Known, Fresh.starts, Fresh.finishes}
-use Rattle.lent_table.proofs.Locals.{Content, blank, holds, locals, frees-all, swaps, holds-true, holds-false}
-use Rattle.flic.proofs.All.{Refs, refs, at-ctl, at-dev, at-tab, table, Owned, Tokens, Open, Closed, closes-all, takes-all, gives-all}
-use Rattle.flic.proofs.Four.{all, mutably, at-array, Loan, Toks, Lent, left-by, lent-lfts, lent-shares, lent-args, lent-vals, calls-four}
-use Rattle.flic.proofs.Fresh as Fresh
+use Rattle.flic.proofs.{Promises.Replayed, Promises.same-promises, Promises.play-promises, Promises.wrong-promises, Opened.Has, Ints.Ints}
+use Rattle.flic.proofs.All.{Refs, refs, at-ctl, at-dev, at-tab, table, Owned, Tokens, Passed, Open, Closed, opens-all, closes-all, takes-all, gives-all}
+use Rattle.flic.proofs.Four.{all, mutably, at-array, lends-array, array-back, Loan, Toks, Lent, left-by, lent-lfts, lent-shares, lent-args, lent-vals, calls-four}
 use Rattle.answers.proofs.refuse as refuse
-use Rattle.lent_requests.proofs.Answered.{refused, Refuse}
+use Rattle.lent_requests.proofs.Answered.{refused, Refuse, refuses}
 use Rattle.lent_table.proofs.store_device as store-device
 use Rattle.lent_table.proofs.restore as restore
 use Rattle.list_play.proofs.play_list as play-list
@@ -35,6 +39,14 @@ stayed = (stay-ref (0 ∷ []) tt (plain (λ _. C.the-row)), (stay-ref (1 ∷ [])
 module _ {M : Type 1} (𝓤 : URA M) (H : Heap 𝓤) (A : Atoms 𝓤) (mem′ : Memory → SProp 𝓤) (run : Routine → Fun 𝓤) where
   abbrev PlayList : Contract 𝓤
   PlayList = tripleOf 𝓤 H A play-list.signature (play-list.spec 𝓤 H A mem′ run)
+
+  -- what is known of the callees
+  pub record Known (C′ : Calls 𝓤 H) : Type 1 where
+    pub refuse : Triple 𝓤 (C′ refuse.Symbol.name) (Refuse 𝓤 H A mem′ run)
+    pub empty : Triple 𝓤 (C′ empty.Symbol.name) (Empty 𝓤 H A mem′ run)
+    pub play-list : Triple 𝓤 (C′ play-list.Symbol.name) PlayList
+    pub store-device : Triple 𝓤 (C′ store-device.Symbol.name) (StoreDevice 𝓤 H A mem′ run)
+    pub restore : Triple 𝓤 (C′ restore.Symbol.name) (Restore 𝓤 H A mem′ run)
 
 module _ {M : Type 1} (𝓤 : URA M) (H : Heap 𝓤) (A : Atoms 𝓤) (W : Given 𝓤 H A) (mem′ : Memory → SProp 𝓤) (run : Routine → Fun 𝓤) (a : Refs) (κp : Lft) (qp : Share) (bp op : ℕ) (γp : GName) (ps : List ℕ)
     (room : Room P.the-row (length (a .t))) (room-p : Room u8 (length ps)) (valid : length (a .t) ≡ limitsOf (a .c) .places → Valid (a .c) (a .d) (a .t)) where
@@ -65,12 +77,18 @@ module _ {M : Type 1} (𝓤 : URA M) (H : Heap 𝓤) (A : Atoms 𝓤) (W : Given
   wrong-exits : (length (a .t) ≡ limitsOf (a .c) .places → ⊥) → Is An.the-row (refused 14) (An.Laws.lowered (refused 14) ∷ []) → ent 𝓤 (⋆ 𝓤 H A (‵ (flft κp qp) ∷ ‵ OwnP ∷ Closed a (a .t) (a .d) (a .c) [])) (Post (An.Laws.lowered (refused 14)))
   wrong-exits w g = qed W (‵ (flft κp qp) ∷ ‵ OwnP ∷ Closed a (a .t) (a .d) (a .c) []) ∵ move ! (1 ∷ []) $ drop ! $ by ! (exits (a .c) (a .d) (a .t) (refused 14) (wrong-promises (a .c) (a .d) (a .t) ps w playList tt) refl g)
 
-  -- ---- the call of `play_list`: after the arrays it takes the limits, the capability and the list
+  abbrev zeros : List ℕ
+  zeros = replicate imageSize 0
+
+  -- ---- the call of `play_list`: after the arrays it takes the image, which lies in the local l, the limits, the capability and the list
   abbrev T : Item 𝓤
   T = ‵ (flft κp qp) ⊛ ‵ ftrue
 
   abbrev O : Fml
   O = fsep (u64 .own imageSize (vint w64 imageSize ∷ [])) (fsep (u64 .own 256 (vint w64 256 ∷ [])) (fsep (bool .own (a .c .ais) (vbool (a .c .ais) ∷ [])) (fsep OwnP ftrue)))
+
+  abbrev O-image : (l ν : ℕ) → GName → Fml
+  O-image l ν δ = fsep (MutRef (named 0) (ν ∷ []) (Ints w64 imageSize) .own (at-array l 0 δ zeros) (vptr l 0 ∷ [])) O
 
   abbrev Y : Type 0
   Y = Unit {0} × (Unit {0} × (Unit {0} × (Unit {0} × Unit {0})))
@@ -78,71 +96,142 @@ module _ {M : Type 1} (𝓤 : URA M) (H : Heap 𝓤) (A : Atoms 𝓤) (W : Given
   abbrev Leaves : Y → Fml
   Leaves y = fsep ftrue (fsep ftrue (fsep ftrue (fsep ftrue ftrue)))
 
-  abbrev to-play : Loan → PlayList 𝓤 H A mem′ run .Ghost
-  to-play n = ((lent-lfts (all mutably) n (κp, tt), lent-shares (all mutably) (qp, tt), tt, lent-args (all mutably) n (a .c) (a .bc) (a .oc) (imageSize, (256, (a .c .ais, (at-array bp op γp ps, tt)))), lent-vals (all mutably) (a .bc) (a .oc) (vint w64 imageSize ∷ [], (vint w64 256 ∷ [], (vbool (a .c .ais) ∷ [], (sp ∷ [], tt))))), tt)
+  abbrev Leaves-image : GName → List ℕ × Y → Fml
+  Leaves-image δ y = fsep (fres δ (Ints w64 imageSize .coded .code (y .0))) (Leaves (y .1))
 
-  module _ (C′ : Calls 𝓤 H) (Λ : Loops 𝓤 H) (fm : FmC 𝓤 H (W .laws) C′) (known : Known 𝓤 H A mem′ run C′) (known-play : Triple 𝓤 (C′ play-list.Symbol.name) (PlayList 𝓤 H A mem′ run)) (l₀ l₁ l₂ l₃ l₄ l₅ l₆ l₇ l₈ l₉ l₁₀ l₁₁ l₁₂ l₁₃ l₁₄ l₁₅ : ℕ) where
+  abbrev to-play : (l ν : ℕ) → GName → Loan → PlayList 𝓤 H A mem′ run .Ghost
+  to-play l ν δ n = ((lent-lfts (all mutably) n (ν ∷ [], (κp, tt)), lent-shares (all mutably) (fullShare, (qp, tt)), tt, lent-args (all mutably) n (a .c) (a .bc) (a .oc) (at-array l 0 δ zeros, (imageSize, (256, (a .c .ais, (at-array bp op γp ps, tt))))), lent-vals (all mutably) (a .bc) (a .oc) (vptr l 0 ∷ [], (vint w64 imageSize ∷ [], (vint w64 256 ∷ [], (vbool (a .c .ais) ∷ [], (sp ∷ [], tt)))))), tt)
+
+  -- whether the length is wrong
+  abbrev wrong : Bool
+  wrong = not (eqb (length (a .t)) imageSize)
+
+  module _ (C′ : Calls 𝓤 H) (Λ : Loops 𝓤 H) (fm : FmC 𝓤 H (W .laws) C′) (known : Known 𝓤 H A mem′ run C′) (l₀ l₁ l₂ l₃ l₄ l₅ l₆ l₇ l₈ l₉ l₁₀ l₁₁ l₁₂ l₁₃ l₁₄ l₁₅ l₁₆ l₁₇ l₁₈ l₁₉ : ℕ) where
     abbrev E : Env 𝓤 H
-    E = Fresh.E 𝓤 H (sliceTy (tyRef (named 3) imm (tyInt w8))) l₀ l₁ l₂ l₃ l₄ l₅ l₆ l₇ l₈ l₉ l₁₀ l₁₁ l₁₂ l₁₃ l₁₄ l₁₅
+    E = (An.Laws.mir, l₀) ∷ (tyRef (named 0) mut (pointee (C.the-row .written)), l₁) ∷ (tyRef (named 1) mut (pointee (D.the-row .written)), l₂) ∷ (sliceTy (tyRef (named 2) mut (pointee (P.the-row .written))), l₃) ∷ (sliceTy (tyRef (named 3) imm (tyInt w8)), l₄) ∷ (imageTy, l₅) ∷ (St.Laws.mir, l₆) ∷ (tyInt w64, l₇) ∷ (tyBool, l₈) ∷ (imageTy, l₉)
+        ∷ (tyRef erased mut (tyArray (tyInt w8) 18432), l₁₀) ∷ (tyRef erased mut (tyArray (tyInt w8) 2560), l₁₁) ∷ (tyRef erased mut (tyArray (tyInt w64) 11), l₁₂) ∷ (tyRef erased mut (tyArray (tyInt w8) 146), l₁₃) ∷ (tyRef erased mut imageTy, l₁₄)
+        ∷ (tyUnit, l₁₅) ∷ (tyRef erased mut (pointee (D.the-row .written)), l₁₆) ∷ (tyRef erased mut (pointee (P.the-row .written)), l₁₇) ∷ (sliceTy (tyRef erased mut (pointee (P.the-row .written))), l₁₈) ∷ (tyRef erased imm imageTy, l₁₉) ∷ []
 
-    abbrev held : Content → Content → Bool → ℕ → List Content
-    held v₀ v₅ flag n = Fresh.held a sp v₀ v₅ (holds (vbool flag)) n
+    -- what the locals hold after n statements, with the contents of the result, of the image, of what was played, and of the flag
+    abbrev held : Content → Content → Content → Content → ℕ → List Content
+    held v₀ v₅ v₆ v₈ n = v₀ ∷ holds (vptr (a .bc) (a .oc)) ∷ holds (vptr (a .bd) (a .od)) ∷ holds (table a) ∷ holds sp ∷ v₅ ∷ v₆ ∷ since 1 n (vint w64 (length (a .t))) ∷ v₈ ∷ since 4 n (low-image zeros)
+        ∷ since 6 n (vptr (a .bc) (a .oc + 0)) ∷ since 7 n (vptr (a .bc) (a .oc + 18432)) ∷ since 8 n (vptr (a .bc) (a .oc + 20992)) ∷ since 9 n (vptr (a .bc) (a .oc + 21080)) ∷ since 10 n (vptr l₅ 0)
+        ∷ since 16 n vunit ∷ since 15 n (vptr (a .bd) (a .od)) ∷ since 17 n (vptr (a .bt) (a .ot)) ∷ since 18 n (table a) ∷ since 19 n (vptr l₅ 0) ∷ []
 
+    -- what is held besides: the list's token
     abbrev X : List (Item 𝓤)
     X = ‵ (flft κp qp) ∷ []
 
     abbrev Then : types.Kit.Post 𝓤 H
-    Then = anyQ (afterSeq 𝓤 H (Wp 𝓤 H C′ Λ E f.Code.Mir.t-12 (atReturn 𝓤 H E Post)) (atReturn 𝓤 H E Post))
+    Then = anyQ (afterSeq 𝓤 H (Wp 𝓤 H C′ Λ E f.Code.Mir.t-4 (atReturn 𝓤 H E Post)) (atReturn 𝓤 H E Post))
+
+    abbrev Then-stored : types.Kit.Post 𝓤 H
+    Then-stored = anyQ (afterSeq 𝓤 H (Wp 𝓤 H C′ Λ E f.Code.Mir.t-15 (atReturn 𝓤 H E Post)) (atReturn 𝓤 H E Post))
+
+    refuses-it : eqb (length (a .t)) imageSize ≡ false → Sq W (Passed a (locals E (held blank blank blank (holds (vbool wrong)) 2) (‵ (flft κp qp) ∷ ‵ OwnP ∷ []))) (runs C′ Λ E (taken f.Code.Mir.s-3) Then)
+    refuses-it e =
+        let ended = held (holds (An.Laws.lowered (refused 14))) blank blank (holds (vbool wrong)) 2 in
+        refuses ! mem′ run fm (known .refuse) 14 (omega arith) (λ i. (and-then ! (lit ! tt) (no-more !))) (λ g.
+        land ! (from ! (stop !)) (init ! 6 refl (LL.lawful An.the-type An.Laws.the-laws 𝓤 H A W .typed (refused 14) _ g .0)) $
+        opens-all ! tt a (λ gc gd. closes-all ! tt a (a .t) (a .d) (a .c) refl gd gc $ returns-within ! Post refl (look ! 9 refl) $
+        swaps ! (Closed a (a .t) (a .d) (a .c) []) (locals E ended (‵ (flft κp qp) ∷ ‵ OwnP ∷ [])) $ frees-all ! E ended $
+        by ! (wrong-exits (wrong-length (a .c) _ (eqb-false (length (a .t)) imageSize e)) g)))
 
     module _ (right : length (a .t) ≡ limitsOf (a .c) .places) (gd : Is D.the-row (a .d) (D.Laws.lowered (a .d) ∷ [])) where
       -- once the list is played, or refused by its form
-      module _ (r : Played) (slots order counts singles : List ℕ) (gc′ : Has (controller slots order counts singles (a .c .ais))) (gr : Is St.the-row r (St.Laws.lowered r ∷ [])) (φ : Replayed (a .c) slots order counts singles ps r) where
+      module _ (r : Played) (slots order counts singles image : List ℕ) (gc′ : Has (controller slots order counts singles (a .c .ais))) (gi : FitsImage image) (gr : Is St.the-row r (St.Laws.lowered r ∷ [])) (φ : Replayed (a .c) slots order counts singles image ps r) where
         abbrev c′ : Controller
         c′ = controller slots order counts singles (a .c .ais)
 
+        abbrev zs : List Place
+        zs = restored (a .t) image imageSize
+
+        len : length zs ≡ length (a .t)
+        len = length-restored (a .t) image imageSize
+
+        abbrev told : Content → Bool → ℕ → List Content
+        told v₀ flag n = held v₀ (holds (low-image image)) (holds (St.Laws.lowered r)) (holds (vbool flag)) n
+
         -- nothing has changed
-        keeps-it : eqb (r .restored) 0 ≡ true → Sq W (Open H a (a .t) (a .d) c′ (locals E (held blank (holds (St.Laws.lowered r)) (eqb (r .restored) 0) 5) X)) (runs C′ Λ E (taken f.Code.Mir.s-11) Then)
+        keeps-it : r .fresh ≡ false → Sq W (Open H a (a .t) (a .d) c′ (locals E (told blank (not (r .fresh)) 13) X)) (runs C′ Λ E (taken f.Code.Mir.s-14) Then-stored)
         keeps-it z =
-            assigns ! (of-opd ! (load ! (from ! (fld ! refl (stop !))) (look-in ! 27 (sub ! 0 refl (whole !))))) (from ! (stop !)) (init ! 17 refl (LL.lawful An.the-type An.Laws.the-laws 𝓤 H A W .typed (r .answer) _ (LL.owed St.the-type St.Laws.the-laws r _ gr .0) .0)) $
+            assigns ! (of-opd ! (load ! (from ! (fld ! refl (stop !))) (look-in ! 29 (sub ! 0 refl (whole !))))) (from ! (stop !)) (init ! 17 refl (LL.lawful An.the-type An.Laws.the-laws 𝓤 H A W .typed (r .answer) _ (LL.owed St.the-type St.Laws.the-laws r _ gr .0) .0)) $
             closes-all ! tt a (a .t) (a .d) c′ refl gd gc′ $ returns-within ! Post refl (look ! 9 refl) $
-            swaps ! (Closed a (a .t) (a .d) c′ []) (locals E (held (holds (An.Laws.lowered (r .answer))) (holds (St.Laws.lowered r)) (eqb (r .restored) 0) 5) X) $ frees-all ! E (held (holds (An.Laws.lowered (r .answer))) (holds (St.Laws.lowered r)) (eqb (r .restored) 0) 5) $
-            by ! (exits c′ (a .d) (a .t) (r .answer) (same-promises (a .c) slots order counts singles (a .d) (a .t) ps r right (valid right) φ (eqb-true (r .restored) 0 z)) refl (LL.owed St.the-type St.Laws.the-laws r _ gr .0))
+            swaps ! (Closed a (a .t) (a .d) c′ []) (locals E (told (holds (An.Laws.lowered (r .answer))) (not (r .fresh)) 13) X) $ frees-all ! E (told (holds (An.Laws.lowered (r .answer))) (not (r .fresh)) 13) $
+            by ! (exits c′ (a .d) (a .t) (r .answer) (same-promises (a .c) slots order counts singles image (a .d) (a .t) ps r right (valid right) φ z) refl (LL.owed St.the-type St.Laws.the-laws r _ gr .0))
 
-        tests-it : Sq W (Open H a (a .t) (a .d) c′ (locals E (held blank (holds (St.Laws.lowered r)) (a .c .ais) 5) X)) (runs C′ Λ E f.Code.Mir.t-10 (atRet E Post))
+        -- the result is read, and all is closed
+        ends : r .fresh ≡ true → Sq W (Open H a zs (r .device) c′ (locals E (told blank (not (r .fresh)) 20) X)) (runs C′ Λ E f.Code.Mir.t-21 (atRet E Post))
+        ends n =
+            assigns ! (of-opd ! (load ! (from ! (fld ! refl (stop !))) (look-in ! 29 (sub ! 0 refl (whole !))))) (from ! (stop !)) (init ! 17 refl (LL.lawful An.the-type An.Laws.the-laws 𝓤 H A W .typed (r .answer) _ (LL.owed St.the-type St.Laws.the-laws r _ gr .0) .0)) $
+            closes-all ! tt a zs (r .device) c′ len (LL.owed St.the-type St.Laws.the-laws r _ gr .1 .0) gc′ $ returns ! (look ! 9 refl) $
+            swaps ! (Closed a zs (r .device) c′ []) (locals E (told (holds (An.Laws.lowered (r .answer))) (not (r .fresh)) 20) X) $ frees-all ! E (told (holds (An.Laws.lowered (r .answer))) (not (r .fresh)) 20) $
+            by ! (exits c′ (r .device) zs (r .answer) (play-promises (a .c) slots order counts singles image (a .d) (a .t) ps r right (valid right) φ n) len (LL.owed St.the-type St.Laws.the-laws r _ gr .0))
+
+        -- the device record is stored, and the table restored, to which the image is lent
+        stores-it : r .fresh ≡ true → Sq W (Open H a (a .t) (a .d) c′ (locals E (told blank (not (r .fresh)) 13) X)) (runs C′ Λ E f.Code.Mir.t-15 (atRet E Post))
+        stores-it n =
+            assigns ! (addr ! (from ! (hop ! (look ! 21 refl) (stop !)))) (from ! (stop !)) (init ! 49 refl (tt, tt)) $
+            move ! (1 ∷ []) $ stores-device ! mem′ run fm (known .store-device) (a .d) (r .device) (a .bd) (a .od) gd (LL.owed St.the-type St.Laws.the-laws r _ gr .1 .0) (λ _ _. (and-then ! (load ! (from ! (stop !)) (look ! 50 refl)) (and-then ! (load ! (from ! (fld ! refl (stop !))) (look-in ! 30 (sub ! 1 refl (whole !)))) (no-more !))))
+            (λ _. land ! (from ! (stop !)) (init ! 47 refl (tt, tt)) $ move ! (1 ∷ []) $
+            assigns ! (addr ! (from ! (fld ! refl (hop ! (look-in ! 23 (sub ! 0 refl (whole !))) (stop !))))) (from ! (stop !)) (init ! 51 refl (tt, tt)) $
+            assigns ! (agg ! (and-then ! (load ! (from ! (stop !)) (look ! 51 refl)) (and-then ! (load ! (from ! (fld ! refl (stop !))) (look-in ! 23 (sub ! 1 refl (whole !)))) (no-more !)))) (from ! (stop !)) (init ! 53 refl (tt, (tt, (record { fits = room .0 }, tt)))) $
+            assigns ! (addr ! (from ! (stop !))) (from ! (stop !)) (init ! 55 refl (tt, tt)) $
+            -- the image's cell goes behind the table, and back
+            move ! (0 ∷ 27 ∷ []) $ restores ! mem′ run fm (known .restore) (a .t) imageSize image (a .bt) (a .ot) l₅ room (omega arith) (omega arith) gi (λ _ _ _. (and-then ! (load ! (from ! (stop !)) (look ! 54 refl)) (and-then ! (lit ! tt) (and-then ! (load ! (from ! (stop !)) (look ! 56 refl)) (no-more !)))))
+            (land ! (from ! (stop !)) (store ! 47 refl (tt, tt)) $ move ! (0 ∷ 2 ∷ 3 ∷ 4 ∷ 5 ∷ 6 ∷ 7 ∷ 8 ∷ 9 ∷ 10 ∷ 11 ∷ 12 ∷ 13 ∷ 14 ∷ 15 ∷ 16 ∷ 17 ∷ 18 ∷ 19 ∷ 20 ∷ 21 ∷ 22 ∷ 23 ∷ 24 ∷ 25 ∷ 26 ∷ 27 ∷ 1 ∷ []) $ ends n))
+
+        tests-it : Sq W (Open H a (a .t) (a .d) c′ (locals E (told blank (a .c .ais) 12) X)) (runs C′ Λ E f.Code.Mir.t-13 (atRet E Post))
         tests-it =
-            assigns ! (bin ! (load ! (from ! (fld ! refl (stop !))) (look-in ! 27 (sub ! 2 refl (whole !)))) (lit ! tt) tt) (from ! (stop !)) (store ! 31 refl (tt, tt)) $
-            first ! $ branches ! (load ! (from ! (stop !)) (look ! 31 refl)) (λ t. keeps-it (holds-true (eqb (r .restored) 0) t))
-            (λ t. skips ! $ exec ! C′ Λ E f.Code.Mir.t-12 (atRet E Post) $
-            finishes 𝓤 H A W mem′ run a room (sliceTy (tyRef (named 3) imm (tyInt w8))) sp Post C′ Λ fm known X l₀ l₁ l₂ l₃ l₄ l₅ l₆ l₇ l₈ l₉ l₁₀ l₁₁ l₁₂ l₁₃ l₁₄ l₁₅ r c′ (eqb (r .restored) 0) gd gc′ gr (λ e is. exits c′ (r .device) _ (r .answer) (play-promises (a .c) slots order counts singles (a .d) (a .t) ps r right (valid right) φ (eqb-false (r .restored) 0 (holds-false (eqb (r .restored) 0) t))) e is))
+            assigns ! (un ! (load ! (from ! (fld ! refl (stop !))) (look-in ! 29 (sub ! 2 refl (whole !)))) tt) (from ! (stop !)) (store ! 33 refl (tt, tt)) $
+            first ! $ branches ! (load ! (from ! (stop !)) (look ! 33 refl)) (λ t. keeps-it (holds-false (r .fresh) t)) (λ t. skips ! $ exec ! C′ Λ E f.Code.Mir.t-15 (atRet E Post) $ stores-it (not-not (r .fresh) t))
 
-      goes : (n : Loan) → ent 𝓤 (⋆ 𝓤 H A (Toks (all mutably) n T ∷ ‵ (Lent (all mutably) n (a .c) (a .bc) (a .oc) O) ∷ [])) (PlayList 𝓤 H A mem′ run .pre (to-play n))
-      goes n = qed W (Toks (all mutably) n T ∷ ‵ (Lent (all mutably) n (a .c) (a .bc) (a .oc) O) ∷ []) ∵ says ! (omega arith, omega arith, omega arith, valid right .ready) $ done !
+      goes : (ν : ℕ) (δ : GName) (n : Loan) → ent 𝓤 (⋆ 𝓤 H A (Toks (all mutably) n (‵ (flft (ν ∷ []) fullShare) ⊛ T) ∷ ‵ (Lent (all mutably) n (a .c) (a .bc) (a .oc) (O-image l₅ ν δ)) ∷ [])) (PlayList 𝓤 H A mem′ run .pre (to-play l₅ ν δ n))
+      goes ν δ n = qed W (Toks (all mutably) n (‵ (flft (ν ∷ []) fullShare) ⊛ T) ∷ ‵ (Lent (all mutably) n (a .c) (a .bc) (a .oc) (O-image l₅ ν δ)) ∷ []) ∵ says ! (omega arith, omega arith, valid right .ready, refl) $ done !
 
-      calls-it : Has (a .c) → Sq W (Open H a (a .t) (a .d) (a .c) (locals E (held blank blank (Fresh.wrong a) 5) (‵ (flft κp qp) ∷ ‵ OwnP ∷ []))) (runs C′ Λ E f.Code.Mir.t-8 (atRet E Post))
-      calls-it gc =
-          assigns ! (of-opd ! (load ! (from ! (hop ! (look ! 19 refl) (fld ! refl (stop !)))) (look ! 12 refl))) (from ! (stop !)) (store ! 31 refl (tt, tt)) $
-          nothing ! $ move ! (51 ∷ 0 ∷ []) $ fjoin ! $ owned ! bool (Is bool) (bool-makes 𝓤 H A W) (a .c .ais) _ refl $ fjoin ! $
-          owned ! u64 (Is u64) (uint-makes 𝓤 H A W w64) 256 _ (refl, omega arith) $ fjoin ! $ owned ! u64 (Is u64) (uint-makes 𝓤 H A W w64) imageSize _ (refl, omega arith) $ fjoin ! $ nothing ! $ move ! (51 ∷ 0 ∷ []) $ join ! $
-          -- [T; O; the table; the device record; what closes each; the arrays from 10; …]
-          move ! (10 ∷ 11 ∷ 12 ∷ 13 ∷ 0 ∷ 1 ∷ []) $
-          calls-four (all mutably) ! fm (PlayList 𝓤 H A mem′ run) known-play to-play (a .c) gc (a .bc) (a .oc) St.the-row T O Leaves (λ z w. Replayed (a .c) (w .0) (w .1 .0) (w .1 .1 .0) (w .1 .1 .1 .0) ps z) goes (λ n v. id⊢ 𝓤 _) (λ n i.
-          (and-then ! (load ! (from ! (stop !)) (look ! 34 refl)) (and-then ! (load ! (from ! (stop !)) (look ! 36 refl)) (and-then ! (load ! (from ! (stop !)) (look ! 38 refl)) (and-then ! (load ! (from ! (stop !)) (look ! 40 refl)) (and-then ! (lit ! tt) (and-then ! (lit ! tt) (and-then ! (load ! (from ! (stop !)) (look ! 32 refl)) (and-then ! (load ! (from ! (stop !)) (look ! 26 refl)) (no-more !)))))))))) (λ z v w φ g′ is.
-          land ! (from ! (stop !)) (init ! 29 refl (LL.lawful St.the-type St.Laws.the-laws 𝓤 H A W .typed z _ is .0)) $ rewrite ! 29 (λ (u : Val). ‵ (fat fullShare St.Laws.mir l₅ 0 u)) (ap only (St.Laws.lowers .val-is z (v ∷ []) is)) refl $
-          -- [the arrays; T; the rest's last values; the table; …]
-          move ! (5 ∷ []) $ drop ! $ move ! (4 ∷ []) $ split ! $ move ! (1 ∷ []) $ drop ! $ move ! (0 ∷ 5 ∷ 6 ∷ 7 ∷ 8 ∷ 9 ∷ 10 ∷ 11 ∷ 12 ∷ 1 ∷ 2 ∷ 3 ∷ 4 ∷ []) $ swaps ! (‵ (flft κp qp) ∷ []) (Open H a (a .t) (a .d) (left-by (all mutably) Y (a .c) w) (locals E (held blank (holds (St.Laws.lowered z)) (a .c .ais) 5) [])) $
-          tests-it z _ _ _ _ g′ (subst (Is St.the-row z) (St.Laws.lowers .val-is z (v ∷ []) is) is) φ)
+      calls-it : Has (a .c) → FitsImage zeros → Sq W (Open H a (a .t) (a .d) (a .c) (locals E (held blank (holds (low-image zeros)) blank (holds (vbool (a .c .ais))) 11) (‵ (flft κp qp) ∷ ‵ OwnP ∷ []))) (runs C′ Λ E f.Code.Mir.t-12 (atRet E Post))
+      calls-it gc gz =
+          nothing ! $ move ! (59 ∷ 0 ∷ []) $ fjoin ! $ owned ! bool (Is bool) (bool-makes 𝓤 H A W) (a .c .ais) _ refl $ fjoin ! $
+          owned ! u64 (Is u64) (uint-makes 𝓤 H A W w64) 256 _ (refl, omega arith) $ fjoin ! $ owned ! u64 (Is u64) (uint-makes 𝓤 H A W w64) imageSize _ (refl, omega arith) $ fjoin ! $ nothing ! $ move ! (59 ∷ 0 ∷ []) $ join ! $
+          -- [T; O; what is open, 17; the locals], and the image's cell goes to the front
+          move ! (29 ∷ 0 ∷ 1 ∷ []) $ lends-array ! tt w64 imageSize zeros gz l₅ 0 mutably (λ ν δ. move ! (11 ∷ 12 ∷ 13 ∷ 14 ∷ 0 ∷ 1 ∷ []) $
+          calls-four (all mutably) ! fm (PlayList 𝓤 H A mem′ run) (known .play-list) (to-play l₅ ν δ) (a .c) gc (a .bc) (a .oc) St.the-row (‵ (flft (ν ∷ []) fullShare) ⊛ T) (O-image l₅ ν δ) (Leaves-image δ) (λ z w. Replayed (a .c) (w .0) (w .1 .0) (w .1 .1 .0) (w .1 .1 .1 .0) (w .1 .1 .1 .1 .0) ps z) (goes ν δ) (λ n v. id⊢ 𝓤 _) (λ n i.
+          (and-then ! (load ! (from ! (stop !)) (look ! 38 refl)) (and-then ! (load ! (from ! (stop !)) (look ! 40 refl)) (and-then ! (load ! (from ! (stop !)) (look ! 42 refl)) (and-then ! (load ! (from ! (stop !)) (look ! 44 refl)) (and-then ! (load ! (from ! (stop !)) (look ! 46 refl)) (and-then ! (lit ! tt) (and-then ! (lit ! tt) (and-then ! (load ! (from ! (stop !)) (look ! 34 refl)) (and-then ! (load ! (from ! (stop !)) (look ! 27 refl)) (no-more !))))))))))) (λ z v w φ g′ is.
+          land ! (from ! (stop !)) (init ! 31 refl (LL.lawful St.the-type St.Laws.the-laws 𝓤 H A W .typed z _ is .0)) $ rewrite ! 31 (λ (u : Val). ‵ (fat fullShare St.Laws.mir l₆ 0 u)) (ap only (St.Laws.lowers .val-is z (v ∷ []) is)) refl $
+          -- [the arrays; T; what is left; what the image's lender keeps; the rest that is open; the locals]
+          move ! (4 ∷ 5 ∷ 6 ∷ []) $ array-back ! tt w64 imageSize zeros gz l₅ 0 mutably ν δ Leaves (w .1 .1 .1 .1) (λ gi.
+          move ! (2 ∷ []) $ drop ! $ move ! (1 ∷ []) $ split ! $ move ! (1 ∷ []) $ drop ! $
+          -- [the list's token; the image's cell; the arrays; the rest that is open; the locals]
+          move ! (0 ∷ 6 ∷ 7 ∷ 8 ∷ 9 ∷ 10 ∷ 11 ∷ 12 ∷ 13 ∷ 2 ∷ 3 ∷ 4 ∷ 5 ∷ 14 ∷ 15 ∷ 16 ∷ 17 ∷ 18 ∷ 19 ∷ 20 ∷ 21 ∷ 22 ∷ 23 ∷ 24 ∷ 25 ∷ 26 ∷ 27 ∷ 28 ∷ 1 ∷ []) $ swaps ! (‵ (flft κp qp) ∷ []) (Open H a (a .t) (a .d) (left-by (all mutably) (List ℕ × Y) (a .c) w) (locals E (held blank (holds (low-image (w .1 .1 .1 .1 .0))) (holds (St.Laws.lowered z)) (holds (vbool (a .c .ais))) 12) [])) $
+          tests-it z _ _ _ _ _ g′ gi (subst (Is St.the-row z) (St.Laws.lowers .val-is z (v ∷ []) is) is) φ)))
 
-  walk : (C′ : Calls 𝓤 H) (Λ : Loops 𝓤 H) (fm : FmC 𝓤 H (W .laws) C′) → Known 𝓤 H A mem′ run C′ → Triple 𝓤 (C′ play-list.Symbol.name) (PlayList 𝓤 H A mem′ run) → ent 𝓤 (onEntry 𝓤 H A f.signature (bound .0 .0) (bound .0 .1) x at) (WpFn 𝓤 H C′ Λ f.Code.function (vptr (a .bc) (a .oc) ∷ vptr (a .bd) (a .od) ∷ table a ∷ sp ∷ []) Post)
-  walk C′ Λ fm known known-play =
+    -- the length is looked at, an image is made, all is opened, and the operands of the call are taken
+    starts : Sq W (Passed a (locals E (held blank blank blank blank 0) (‵ (flft κp qp) ∷ ‵ OwnP ∷ []))) (runs C′ Λ E f.Code.Mir.t-1 (atRet E Post))
+    starts =
+        assigns ! (of-opd ! (load ! (from ! (fld ! refl (stop !))) (look-in ! 12 (sub ! 1 refl (whole !))))) (from ! (stop !)) (init ! 20 refl (tt, record { fits = room .0 })) $
+        assigns ! (bin ! (load ! (from ! (stop !)) (look ! 20 refl)) (lit ! tt) tt) (from ! (stop !)) (init ! 22 refl (tt, tt)) $
+        first ! $ branches ! (load ! (from ! (stop !)) (look ! 22 refl)) (λ t. refuses-it (holds-false (eqb (length (a .t)) imageSize) t))
+        (λ t. skips ! $ exec ! C′ Λ E f.Code.Mir.t-4 (atRet E Post) $ takes-empty ! mem′ run fm (known .empty) (λ gz.
+        land ! (from ! (stop !)) (init ! 24 refl (image-typed 𝓤 H A W zeros gz)) $ assigns ! (of-opd ! (load ! (from ! (stop !)) (look ! 24 refl))) (from ! (stop !)) (init ! 16 refl (image-typed 𝓤 H A W zeros gz)) $
+        opens-all ! tt a (λ gc gd.
+        assigns ! (addr ! (from ! (hop ! (look ! 19 refl) (fld ! refl (stop !))))) (from ! (stop !)) (init ! 37 refl (tt, tt)) $
+        assigns ! (addr ! (from ! (hop ! (look ! 19 refl) (fld ! refl (stop !))))) (from ! (stop !)) (init ! 39 refl (tt, tt)) $
+        assigns ! (addr ! (from ! (hop ! (look ! 19 refl) (fld ! refl (stop !))))) (from ! (stop !)) (init ! 41 refl (tt, tt)) $
+        assigns ! (addr ! (from ! (hop ! (look ! 19 refl) (fld ! refl (stop !))))) (from ! (stop !)) (init ! 43 refl (tt, tt)) $
+        assigns ! (addr ! (from ! (stop !))) (from ! (stop !)) (init ! 45 refl (tt, tt)) $
+        assigns ! (of-opd ! (load ! (from ! (hop ! (look ! 19 refl) (fld ! refl (stop !)))) (look ! 12 refl))) (from ! (stop !)) (store ! 33 refl (tt, tt)) $
+        calls-it (right-length (a .c) _ (eqb-true (length (a .t)) imageSize (not-not (eqb (length (a .t)) imageSize) t))) gd gc gz)))
+
+  walk : (C′ : Calls 𝓤 H) (Λ : Loops 𝓤 H) (fm : FmC 𝓤 H (W .laws) C′) → Known 𝓤 H A mem′ run C′ → ent 𝓤 (onEntry 𝓤 H A f.signature (bound .0 .0) (bound .0 .1) x at) (WpFn 𝓤 H C′ Λ f.Code.function (vptr (a .bc) (a .oc) ∷ vptr (a .bd) (a .od) ∷ table a ∷ sp ∷ []) Post)
+  walk C′ Λ fm known =
       qed W (Tokens a T ∷ ‵ (Owned a (a .c) (a .d) (a .t) (owns (ShrSlice (named 3) κp u8 ∷ []) (x .1 .1 .1) (at .1 .1 .1))) ∷ []) ∵
       takes-all ! a $ move ! (7 ∷ []) $ fsplit ! $ move ! (8 ∷ []) $ split ! $
       -- [the list's token; true; the list; true; the references]
       keep ! (4 ∷ 5 ∷ 6 ∷ 7 ∷ 8 ∷ 9 ∷ 0 ∷ 2 ∷ []) $ enter ! C′ Λ f.Code.function (vptr (a .bc) (a .oc) ∷ vptr (a .bd) (a .od) ∷ table a ∷ sp ∷ []) _ $
-      alloc1 ! (λ l₀. alloc1 ! (λ l₁. alloc1 ! (λ l₂. alloc1 ! (λ l₃. alloc1 ! (λ l₄. alloc1 ! (λ l₅. alloc1 ! (λ l₆. alloc1 ! (λ l₇. alloc1 ! (λ l₈. alloc1 ! (λ l₉. alloc1 ! (λ l₁₀. alloc1 ! (λ l₁₁. alloc1 ! (λ l₁₂. alloc1 ! (λ l₁₃. alloc1 ! (λ l₁₄. alloc1 ! (λ l₁₅. alloc0 ! $ params1 ! $
-      pass1 ! (init ! 28 refl (tt, tt)) $ pass1 ! (init ! 26 refl (tt, tt)) $ pass1 ! (init ! 24 refl (tt, (tt, (record { fits = room .0 }, tt)))) $ pass1 ! (init ! 22 refl (tt, (tt, (record { fits = room-p .0 }, tt)))) $ pass0 ! $
-      keep ! (32 ∷ 33 ∷ 34 ∷ 35 ∷ 36 ∷ 37 ∷ 30 ∷ 31 ∷ 28 ∷ 29 ∷ 26 ∷ 27 ∷ 24 ∷ 25 ∷ 22 ∷ 23 ∷ 20 ∷ 21 ∷ 18 ∷ 19 ∷ 16 ∷ 17 ∷ 14 ∷ 15 ∷ 12 ∷ 13 ∷ 10 ∷ 11 ∷ 8 ∷ 9 ∷ 6 ∷ 7 ∷ 4 ∷ 5 ∷ 2 ∷ 3 ∷ 0 ∷ 1 ∷ 38 ∷ 39 ∷ []) $
-      starts 𝓤 H A W mem′ run a room (sliceTy (tyRef (named 3) imm (tyInt w8))) sp Post C′ Λ fm known (‵ (flft κp qp) ∷ ‵ OwnP ∷ []) l₀ l₁ l₂ l₃ l₄ l₅ l₆ l₇ l₈ l₉ l₁₀ l₁₁ l₁₂ l₁₃ l₁₄ l₁₅
-      (λ w g. wrong-exits (wrong-length (a .c) _ w) g) f.Code.Mir.t-8 (λ right gc gd. calls-it C′ Λ fm known known-play l₀ l₁ l₂ l₃ l₄ l₅ l₆ l₇ l₈ l₉ l₁₀ l₁₁ l₁₂ l₁₃ l₁₄ l₁₅ (right-length (a .c) _ right) gd gc)))))))))))))))))
+      alloc1 ! (λ l₀. alloc1 ! (λ l₁. alloc1 ! (λ l₂. alloc1 ! (λ l₃. alloc1 ! (λ l₄. alloc1 ! (λ l₅. alloc1 ! (λ l₆. alloc1 ! (λ l₇. alloc1 ! (λ l₈. alloc1 ! (λ l₉. alloc1 ! (λ l₁₀. alloc1 ! (λ l₁₁. alloc1 ! (λ l₁₂. alloc1 ! (λ l₁₃. alloc1 ! (λ l₁₄. alloc1 ! (λ l₁₅. alloc1 ! (λ l₁₆. alloc1 ! (λ l₁₇. alloc1 ! (λ l₁₈. alloc1 ! (λ l₁₉. alloc0 ! $ params1 ! $
+      pass1 ! (init ! 36 refl (tt, tt)) $ pass1 ! (init ! 34 refl (tt, tt)) $ pass1 ! (init ! 32 refl (tt, (tt, (record { fits = room .0 }, tt)))) $ pass1 ! (init ! 30 refl (tt, (tt, (record { fits = room-p .0 }, tt)))) $ pass0 ! $
+      keep ! (40 ∷ 41 ∷ 42 ∷ 43 ∷ 44 ∷ 45 ∷ 38 ∷ 39 ∷ 36 ∷ 37 ∷ 34 ∷ 35 ∷ 32 ∷ 33 ∷ 30 ∷ 31 ∷ 28 ∷ 29 ∷ 26 ∷ 27 ∷ 24 ∷ 25 ∷ 22 ∷ 23 ∷ 20 ∷ 21 ∷ 18 ∷ 19 ∷ 16 ∷ 17 ∷ 14 ∷ 15 ∷ 12 ∷ 13 ∷ 10 ∷ 11 ∷ 8 ∷ 9 ∷ 6 ∷ 7 ∷ 4 ∷ 5 ∷ 2 ∷ 3 ∷ 0 ∷ 1 ∷ 46 ∷ 47 ∷ []) $
+      starts C′ Λ fm known l₀ l₁ l₂ l₃ l₄ l₅ l₆ l₇ l₈ l₉ l₁₀ l₁₁ l₁₂ l₁₃ l₁₄ l₁₅ l₁₆ l₁₇ l₁₈ l₁₉))))))))))))))))))))
 
 pub flic-play-list-spec : {M : Type 1} → f.Statement.statement M
 unfolding f.Code.routine tablesOf
@@ -153,6 +242,8 @@ flic-play-list-spec 𝓤 H 𝓜 𝓖 𝓡 =
     (λ fm κs qs bounds a _ are. needs 𝓤 (length (a .1 .1 .0 .now) ≡ limitsOf (a .0 .now) .places → Valid (a .0 .now) (a .1 .0 .now) (a .1 .1 .0 .now)) _ (λ valid. walk 𝓤 H (𝓖 .A) (givenOf 𝓤 H 𝓜 𝓖) (𝓜 .mem) (𝓡 .run) (refs (κs .0) (κs .1 .0) (κs .1 .1 .0) (qs .0) (qs .1 .0) (qs .1 .1 .0) (a .0) (a .1 .0) (a .1 .1 .0)) (κs .1 .1 .1 .0) (qs .1 .1 .1 .0)
     (a .1 .1 .1 .0 .ptr .0) (a .1 .1 .1 .0 .ptr .1) (a .1 .1 .1 .0 .name) (a .1 .1 .1 .0 .now) (are .1 .1 .0 .0 .1) (are .1 .1 .1 .0 .0 .1) valid _ _ fm (record {
       refuse = cited 𝓤 H (Refuse 𝓤 H (𝓖 .A) (𝓜 .mem) (𝓡 .run)) 𝓜 𝓡 f.Code.env refuse.Symbol.name refuse.Symbol.routine f.Code.calls-answers·refuse (refuse.Met.met 𝓤 H 𝓜 𝓖 𝓡);
+      empty = cited 𝓤 H (Empty 𝓤 H (𝓖 .A) (𝓜 .mem) (𝓡 .run)) 𝓜 𝓡 f.Code.env empty.Symbol.name empty.Symbol.routine f.Code.calls-list-image·empty (empty.Met.met 𝓤 H 𝓜 𝓖 𝓡);
+      play-list = cited 𝓤 H (PlayList 𝓤 H (𝓖 .A) (𝓜 .mem) (𝓡 .run)) 𝓜 𝓡 f.Code.env play-list.Symbol.name play-list.Symbol.routine f.Code.calls-list-play·play-list (play-list.Met.met 𝓤 H 𝓜 𝓖 𝓡);
       store-device = cited 𝓤 H (StoreDevice 𝓤 H (𝓖 .A) (𝓜 .mem) (𝓡 .run)) 𝓜 𝓡 f.Code.env store-device.Symbol.name store-device.Symbol.routine f.Code.calls-lent-table·store-device (store-device.Met.met 𝓤 H 𝓜 𝓖 𝓡);
       restore = cited 𝓤 H (Restore 𝓤 H (𝓖 .A) (𝓜 .mem) (𝓡 .run)) 𝓜 𝓡 f.Code.env restore.Symbol.name restore.Symbol.routine f.Code.calls-lent-table·restore (restore.Met.met 𝓤 H 𝓜 𝓖 𝓡);
-    }) (cited 𝓤 H (PlayList 𝓤 H (𝓖 .A) (𝓜 .mem) (𝓡 .run)) 𝓜 𝓡 f.Code.env play-list.Symbol.name play-list.Symbol.routine f.Code.calls-list-play·play-list (play-list.Met.met 𝓤 H 𝓜 𝓖 𝓡))))
+    })))

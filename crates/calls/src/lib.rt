@@ -182,6 +182,40 @@ fn set_modes(ais: bool, device: Device, group: u32, attr: u64, payload: &[u8]) -
     }
 }
 
+// A set request that neither clears nor injects, which are the groups that a list may have and a few more.
+pub fn set_listed(
+    slots: &mut [u8; SLOT_BYTES],
+    order: &mut [u8; ORDER_BYTES],
+    counts: &mut [usize; COUNTS],
+    singles: &mut [u8; SINGLES_BYTES],
+    image: &mut [u64; PLACES],
+    places: u64,
+    room: usize,
+    ais: bool,
+    device: Device,
+    group: u32,
+    attr: u64,
+    payload: &[u8],
+) -> Ran
+    requires { ⌜ (room ≤ slotCount) × (places ≤ imageSize) × Held (now order) (now counts) × Imaged (now image)
+        × (group ≡ 3 → ⊥) × (group ≡ 8 → ⊥) × (group ≡ 10 → ⊥) ⌝ }
+    ensures { λ r. ⌜ SetTo places room ais group attr (now (payload .entry)) (now (image .entry))
+        (before order counts slots singles) device (now (image .exit)) (after order counts slots singles) r ⌝ }
+    ensures held { λ _. ⌜ HeldAfter order counts × Imaged (now (image .exit)) ⌝ }
+    ensures kept { λ r. ⌜ ((r .answer .code ≡ 0 → ⊥) →
+        Stays slots × Stays order × Stays counts × Stays singles × Stays image × (r .device ≡ device)) ⌝ }
+{
+    if group == ENQUEUE {
+        let answer = record_add::enqueue_irqs(slots, order, counts, singles, room, attr, payload);
+        return Ran { answer, device };
+    }
+    if adapter_requests::on_place(group) {
+        let answer = set_place(image, places, group, attr, payload);
+        return Ran { answer, device };
+    }
+    set_modes(ais, device, group, attr, payload)
+}
+
 // A set request of any group.
 pub fn set_any(
     slots: &mut [u8; SLOT_BYTES],
@@ -204,10 +238,6 @@ pub fn set_any(
     ensures kept { λ r. ⌜ ((r .answer .code ≡ 0 → ⊥) →
         Stays slots × Stays order × Stays counts × Stays singles × Stays image × (r .device ≡ device)) ⌝ }
 {
-    if group == ENQUEUE {
-        let answer = record_add::enqueue_irqs(slots, order, counts, singles, room, attr, payload);
-        return Ran { answer, device };
-    }
     if group == CLEAR_IRQS {
         let answer = record_take::clear_irqs(order, counts, singles, attr);
         return Ran { answer, device };
@@ -220,9 +250,18 @@ pub fn set_any(
         let id = AdapterId(attr);
         return inject_in(slots, order, counts, image, places, room, ais, device, id);
     }
-    if adapter_requests::on_place(group) {
-        let answer = set_place(image, places, group, attr, payload);
-        return Ran { answer, device };
-    }
-    set_modes(ais, device, group, attr, payload)
+    set_listed(
+        slots,
+        order,
+        counts,
+        singles,
+        image,
+        places,
+        room,
+        ais,
+        device,
+        group,
+        attr,
+        payload,
+    )
 }

@@ -45,7 +45,7 @@ fn apply_at(
     let group = numbers::read_be(list, e + 4, 4) as u32;
     let end = at + numbers::read_be(list, e + 8, 4) as usize;
     let attr = numbers::read_doubleword(list, e + 16);
-    calls::set_any(
+    calls::set_listed(
         slots,
         order,
         counts,

@@ -1,5 +1,6 @@
 -- `list_play::apply_at` meets its contract: the numbers read are the table entry's, and its payload lies within the list.
-use Rattle.numbers.proofs.Basics.{_+_, _*_, _≤_, _≡_, _∙_, arith, length, needs}
+use Rattle.numbers.proofs.Basics.{_+_, _*_, _≤_, _≡_, sym, ap, _∙_, arith, length, true≢false, needs}
+use Rattle.rules.specs.MoveList.{movable}
 use Rattle.list_form.specs.Form.{slotAt}
 use Rattle.list_form.proofs.Laws.{inside, slot-within}
 use Rattle.list_play.proofs.{Laws.as-slot, apply_at.Statement.statement}
@@ -12,11 +13,15 @@ ends-within : (c : tie.After-read-be3) → c .before .before .read-be .result + 
 ends-within c =
     omega (arith, size-is c, c .before .before .read-be .ensures .0, slot-within (c .before .before .before .before .args .list .now) (c .before .before .before .before .args .place) (c .before .before .before .before .pre .4) (c .before .before .before .before .pre .5) .0)
 
-part-set-any-end : tie.Need-part-set-any-end
-part-set-any-end c = ends-within (c .before .before .before .before .before .before)
+part-set-listed-end : tie.Need-part-set-listed-end
+part-set-listed-end c = ends-within (c .before .before .before .before .before .before)
 
-set-any-requires : tie.Need-set-any-requires
-set-any-requires c κs = let f = c .before .before .before .before .before .before .before .before .before .before .before in (f .pre .0, f .pre .1, f .pre .2, f .pre .3)
+set-listed-requires : tie.Need-set-listed-requires
+set-listed-requires c κs =
+    let r = c .before .before .before .before .before .before in
+    let f = r .before .before .before .before .before in
+    let m = ap movable (r .before .before .read-be2 .ensures .0 ∙ inside (20 + 24 * f .args .place) 4 4 (f .args .list .now)) ∙ slot-within (f .args .list .now) (f .args .place) (f .pre .4) (f .pre .5) .1 in
+    (f .pre .0, f .pre .1, f .pre .2, f .pre .3, λ z. true≢false (sym m ∙ ap movable z), λ z. true≢false (sym m ∙ ap movable z), λ z. true≢false (sym m ∙ ap movable z))
 
 returns : tie.Need-returns
 returns c =
@@ -25,8 +30,8 @@ returns c =
     let e = 20 + 24 * a .place in
     let b = a .list .now in (
       as-slot _ _ _ b (slotAt (a .place) b) _ _ _ _ _ (r .before .before .before .read-be .ensures .0) (size-is (r .before)) (r .before .before .read-be2 .ensures .0 ∙ inside e 4 4 b)
-          (r .read-doubleword .ensures .0 ∙ inside e 16 8 b) (c .set-any .ensures .0),
-      c .set-any .ensures .1 .0,
+          (r .read-doubleword .ensures .0 ∙ inside e 16 8 b) (c .set-listed .ensures .0),
+      c .set-listed .ensures .1 .0,
     )
 
 pub apply-at-spec : {M : Type 1} → statement M
@@ -34,4 +39,4 @@ apply-at-spec =
     tie.close
     (tie.spec (λ c. search needs) (λ c. search needs) (λ c κs. search needs) (λ c. search needs) (λ c κs. search needs) (λ c. search needs)
     (λ c. search needs) (λ c κs. search needs) (λ c. search needs) (λ c. search needs) (λ c κs. search needs) (λ c. search needs)
-    (λ c. search needs) part-set-any-end set-any-requires returns)
+    (λ c. search needs) part-set-listed-end set-listed-requires returns)

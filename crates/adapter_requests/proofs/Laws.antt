@@ -1,7 +1,7 @@
 -- A reply from the outcome that it tells, and what each request comes to once its checks are known.
 use Rattle.numbers.proofs.Basics.{leb, lt-leb, _<_, ℕ, zero, suc, _≤_, _≡_, refl, ap, sym, _∙_, subst, Bool, true, false}
 use Rattle.numbers.proofs.Basics.{true≢false, List, [], _∷_, arith, length, getD, set, drop, eqb, eq-eqb, ne-eqb}
-use Rattle.numbers.proofs.Basics.{eqb-true, eqb-false, le-leb}
+use Rattle.numbers.proofs.Basics.{eqb-true, eqb-false, le-leb, ltb, lt-ltb, le-ltb}
 use lib.Seq.{set-getD}
 use Rattle.rules.specs.{Bytes.choose, Bytes.byte, Bytes.field, Requests.setRequest, Requests.noRequest, Requests.withMask, State.Limits, State.Pending, State.State, Outcome.Outcome, Outcome.refuse, Outcome.accept, Outcome.need_else_⨾_, Outcome.result, Outcome.tell, Machine.answerOf}
 use Rattle.rules.proofs.Checks.{passes, fails, chosen, passed}
@@ -148,9 +148,9 @@ module _ (group : ℕ) (b : List ℕ) (d : rules.Device) where
   after-flag n m = passed _ _ _ (ne-eqb group 9 n) ∙ passed _ _ _ (ne-eqb group 11 m)
 
 -- the place and the device record that an accepted request about a place leaves
-pub entered : (s : State) (id id′ : ℕ) (p : rules.Place) (device : Device) (place : Place) → id ≡ id′ → p ≡ placeOf place → s .device ≡ deviceOf device
-    → withPlace id p s ≡ stateWith s id′ (placeOf place) (s .pending) (deviceOf device)
-entered s id id′ p device place e h d = λ i. record { ais = s .ais; adapters = set (s .adapters) (e i) (h i); pending = s .pending; device = d i }
+pub entered : (s : State) (id : ℕ) (p : rules.Place) (device : Device) (place : Place) → p ≡ placeOf place → s .device ≡ deviceOf device
+    → withPlace id p s ≡ stateWith s id (placeOf place) (s .pending) (deviceOf device)
+entered s id p device place h d = λ i. record { ais = s .ais; adapters = set (s .adapters) id (h i); pending = s .pending; device = d i }
 
 -- ---- the checks that come first: the attribute, the capability, the lent length
 pub bad-attr : {attr : ℕ} (rest : Outcome State) → (attr ≡ 0 → ⊥) → (need eqb attr 0 else 22 ⨾ rest) ≡ refuse 22
@@ -172,6 +172,17 @@ module _ {attr n len : ℕ} {ais : Bool} (rest : Outcome State) (z : attr ≡ 0)
 
   pub opened-ais : n ≤ len → (need eqb attr 0 else 22 ⨾ need ais else 95 ⨾ need leb n len else 14 ⨾ rest) ≡ rest
   opened-ais h = passes _ _ _ (eq-eqb attr 0 z) ∙ passes _ _ _ a ∙ passes _ _ _ (le-leb n len h)
+
+-- the attribute, the lent length and the id of a request about an adapter's place
+module _ (L : Limits) (b : List ℕ) {attr n places id : ℕ} (rest : Outcome State) (z : attr ≡ 0) (l : n ≤ length b) (p : L .places ≡ places) (e : id ≡ field 0 4 b) where
+  abbrev checked : Outcome State
+  checked = need eqb attr 0 else 22 ⨾ need leb n (length b) else 14 ⨾ need ltb (field 0 4 b) (L .places) else 22 ⨾ rest
+
+  pub past-table : places ≤ id → checked ≡ refuse 22
+  past-table h = opened _ z l ∙ fails _ _ _ (le-ltb (field 0 4 b) (L .places) (omega (arith, h, p, e)))
+
+  pub in-table : id < places → checked ≡ rest
+  in-table h = opened _ z l ∙ passes _ _ _ (lt-ltb (field 0 4 b) (L .places) (omega (arith, h, p, e)))
 
 -- the payload's id, where there is one
 pub id-there : (b : List ℕ) → 4 ≤ length b → payloadId b ≡ field 0 4 b

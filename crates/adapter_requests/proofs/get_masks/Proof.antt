@@ -6,21 +6,6 @@ use Rattle.answers.proofs.Laws.{refused, accepted, not-refused}
 use Rattle.adapter_requests.proofs.{Laws.bad-attr, Laws.no-ais, Laws.short-ais, Laws.opened-ais, Laws.two-written, get_masks.Statement.statement}
 use Rattle.adapter_requests.proofs.get_masks.Tie as tie
 
-returns-2 : tie.Need-returns-2
-unfolding request
-returns-2 c = (
-  λ L s e1 e2. refused L s _ _ _ 95 _ refl (no-ais _ (c .before .before .if1 .left) (e1 ∙ not-true _ (c .before .if2 .taken))) (c .refuse2 .ensures),
-  λ k. refl,
-)
-
-returns-3 : tie.Need-returns-3
-unfolding request
-returns-3 c =
-    let k = c .before .before in (
-      λ L s e1 e2. refused L s _ _ _ 14 _ refl (short-ais _ (k .before .if1 .left) (e1 ∙ not-false _ (k .if2 .left)) (c .before .if3 .taken)) (c .refuse3 .ensures),
-      λ k. refl,
-    )
-
 returns-4 : tie.Need-returns-4
 unfolding request
 returns-4 c =
@@ -35,5 +20,14 @@ get-masks-spec =
     tie.close
     (tie.spec (λ c κs. search needs)
     (λ c. unfold request in (λ L s e1 e2. refused L s _ _ _ 22 _ refl (bad-attr _ (c .before .if1 .taken)) (c .refuse .ensures), λ k. refl))
-    (λ c κs. search needs) returns-2 (λ c κs. search needs) returns-3 (λ c. search needs) (λ c. search needs)
-    (λ c κs. search needs) (λ c. search needs) returns-4)
+    (λ c κs. search needs)
+    (λ c. unfold request in (
+      λ L s e1 e2. refused L s _ _ _ 95 _ refl (no-ais _ (c .before .before .if1 .left) (e1 ∙ not-true _ (c .before .if2 .taken))) (c .refuse2 .ensures),
+      λ k. refl,
+    ))
+    (λ c κs. search needs)
+    (λ c. unfold request in let k = c .before .before in (
+      λ L s e1 e2. refused L s _ _ _ 14 _ refl (short-ais _ (k .before .if1 .left) (e1 ∙ not-false _ (k .if2 .left)) (c .before .if3 .taken)) (c .refuse3 .ensures),
+      λ k. refl,
+    ))
+    (λ c. search needs) (λ c. search needs) (λ c κs. search needs) (λ c. search needs) returns-4)

@@ -21,20 +21,6 @@ begun c L s e1 e4 =
     in-table L b _ (k .before .if1 .left) (k .if2 .left) e1 (c .before .read-be .ensures .0) (c .if3 .left)
     ∙ rw (place-there b (omega (arith, k .if2 .left)) (s .adapters) e4, id-there b (omega (arith, k .if2 .left)))
 
-returns-5 : tie.Need-returns-5
-unfolding decided choose
-returns-5 c =
-    let k = c .before .before in
-    (λ L s e1 e4. begun (k .before) L s e1 e4 ∙ passes _ _ _ (ap isFree (place-free _ (k .if4 .left))) ∙ fails _ _ _ (lt-leb _ _ (c .if5 .taken)), not-accepted (omega arith))
-
-returns-6 : tie.Need-returns-6
-unfolding decided placeAfter choose
-returns-6 c =
-    let k = c .before .before in (
-      λ L s e1 e4. begun (k .before) L s e1 e4 ∙ passes _ _ _ (ap isFree (place-free _ (k .if4 .left))) ∙ passes _ _ _ (le-leb _ _ (c .if5 .left)),
-      λ z. record { long = k .before .before .before .if2 .left; isc = λ e. c .if5 .left; maskable = λ n. absurd (n refl) },
-    )
-
 pub register-code-spec : {M : Type 1} → statement M
 register-code-spec =
     tie.close
@@ -46,4 +32,10 @@ register-code-spec =
     (λ L s e1 e4. past-table L (k .before .before .before .args .payload .now) _ (k .before .if1 .left) (k .if2 .left) e1 (c .before .read-be .ensures .0) (c .if3 .taken), not-accepted (omega arith)))
     (λ c. unfold decided choose in
     (λ L s e1 e4. begun (c .before) L s e1 e4 ∙ fails _ _ _ (ap isFree (place-used _ (c .if4 .taken))), not-accepted (omega arith)))
-    (λ c. search needs) returns-5 returns-6)
+    (λ c. search needs)
+    (λ c. unfold decided choose in let k = c .before .before in
+    (λ L s e1 e4. begun (k .before) L s e1 e4 ∙ passes _ _ _ (ap isFree (place-free _ (k .if4 .left))) ∙ fails _ _ _ (lt-leb _ _ (c .if5 .taken)), not-accepted (omega arith)))
+    (λ c. unfold decided placeAfter choose in let k = c .before .before in (
+      λ L s e1 e4. begun (k .before) L s e1 e4 ∙ passes _ _ _ (ap isFree (place-free _ (k .if4 .left))) ∙ passes _ _ _ (le-leb _ _ (c .if5 .left)),
+      λ z. record { long = k .before .before .before .if2 .left; isc = λ e. c .if5 .left; maskable = λ n. absurd (n refl) },
+    )))

@@ -27,12 +27,6 @@ returns-2 c = λ room.
     (λ L s e1 e2 e3 e4. k .place-code .ensures .0 L s e1 e4 ∙ decided-accepted _ _ (p .before .before .if2 .left)
     ∙ ap (λ (t : State). accept 0 t []) (entered s _ _ _ _ (sym (p .place-after .ensures .0)) e3)))
 
-returns-3 : tie.Need-returns-3
-returns-3 c = λ room.
-    let k = c .before .before .before in
-    refused _ room _ _ _ _ _ _ (k .modes-code .result) (c .before .refuse2 .ensures) (c .with-answer3 .ensures)
-    (λ L s e1 e2 e3 e4. k .modes-code .ensures .0 L s e2 ∙ decided-refused _ _ (c .before .before .if3 .taken))
-
 returns-4 : tie.Need-returns-4
 returns-4 c = λ room.
     let p = c .before in
@@ -47,8 +41,13 @@ pub set-values-spec : {M : Type 1} → statement M
 set-values-spec =
     tie.close
     (tie.spec (λ c κs. search needs) (λ c κs. placed c .0) (λ c κs. search needs) (λ c κs. search needs) returns
-    (λ c κs. search needs) (λ c κs. c .before .before .place-code .ensures .1 (c .before .if2 .left)) (λ c κs. search needs)
-    returns-2
+    (λ c κs. search needs) (λ c κs. c .before .before .place-code .ensures .1 (c .before .if2 .left))
+    (λ c κs. search needs) returns-2
     (λ c κs. let p = c .before .before .before .pre in (p .0, p .1, p .2, p .3, sym (c .before .on-place .ensures) ∙ c .if1 .left))
-    (λ c κs. search needs) (λ c κs. search needs) returns-3 (λ c κs. search needs)
-    (λ c κs. c .before .before .modes-code .ensures .1 (c .before .if3 .left)) (λ c κs. search needs) returns-4)
+    (λ c κs. search needs) (λ c κs. search needs)
+    (λ c. λ room.
+    let k = c .before .before .before in
+    refused _ room _ _ _ _ _ _ (k .modes-code .result) (c .before .refuse2 .ensures) (c .with-answer3 .ensures)
+    (λ L s e1 e2 e3 e4. k .modes-code .ensures .0 L s e2 ∙ decided-refused _ _ (c .before .before .if3 .taken)))
+    (λ c κs. search needs) (λ c κs. c .before .before .modes-code .ensures .1 (c .before .if3 .left))
+    (λ c κs. search needs) returns-4)

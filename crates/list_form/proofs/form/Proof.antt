@@ -42,37 +42,6 @@ slots-pass c = sym (said (c .before)) ∙ not-false _ (c .if6 .left)
 past-slots : (c : tie.Else6) (L : Limits) (s : State) → let b = c .before .before .before .before .before .before .before .before .before .before .before .before .args .list .now in plays L s b ≡ fromAis L s b
 past-slots c L s = past-offsets (c .before .before) L s ∙ passes _ _ _ (rw (start-is (c .before .before) .0) (slots-pass c))
 
-returns : tie.Need-returns
-unfolding plays
-returns c = refused-with _ _ 14 (omega arith) (λ L s e. fails _ _ _ (lt-leb headerBytes _ (c .if1 .taken)))
-
-returns-2 : tie.Need-returns-2
-returns-2 c = refused-with _ _ 22 (omega arith) (λ L s e. past-length (c .before .before) L s ∙ fails _ _ _ (ne-eqb _ _ (λ z. c .if2 .taken (c .before .read-be .ensures .0 ∙ z))))
-
-returns-3 : tie.Need-returns-3
-returns-3 c = refused-with _ _ 22 (omega arith) (λ L s e. past-total (c .before .before) L s ∙ fails _ _ _ (rw (← c .before .read-be2 .ensures .0) (lt-leb _ 1 (c .if3 .taken))))
-
-returns-4 : tie.Need-returns-4
-returns-4 c = refused-with _ _ 7 (omega arith) (λ L s e. past-flag (c .before .before) L s ∙ fails _ _ _ (rw (← c .before .read-be3 .ensures .0) (lt-leb _ mostRequests (c .if4 .taken))))
-
-returns-5 : tie.Need-returns-5
-returns-5 c =
-    refused-with _ _ 22 (omega arith)
-    (λ L s e. past-count (c .before .before) L s ∙ fails _ _ _ ((rw (c .before .before .before .read-be3 .ensures .0) at (sym (c .before .offsets .ensures))) ∙ not-true _ (c .if5 .taken)))
-
-slots-formed-requires : tie.Need-slots-formed-requires
-slots-formed-requires c κs = (c .before .before .if4 .left, rw (c .before .before .before .read-be3 .ensures .0) (start-is c .1))
-
-returns-6 : tie.Need-returns-6
-returns-6 c =
-    refused-with _ _ 22 (omega arith)
-    (λ L s e. past-offsets (c .before .before) L s ∙ fails _ _ _ (rw (start-is (c .before .before) .0) (sym (said (c .before)) ∙ not-true _ (c .if6 .taken))))
-
-returns-7 : tie.Need-returns-7
-returns-7 c =
-    refused-with _ _ 95 (omega arith)
-    (λ L s e. past-slots (c .before .before) L s ∙ fails _ _ _ (ne-eqb _ _ (λ z. c .if7 .taken (c .before .before .before .before .before .before .before .before .before .read-be2 .ensures .0 ∙ z ∙ ap oneIf e ∙ sym (c .before .flag-of .ensures .0)))))
-
 returns-8 : tie.Need-returns-8
 returns-8 c =
     let b = c .before .before .before .before .before .before .before .before .before .before .before .before .before .before .args .list .now in
@@ -88,5 +57,21 @@ returns-8 c =
 pub form-spec : {M : Type 1} → statement M
 form-spec =
     tie.close
-    (tie.spec returns (λ c κs. search needs) returns-2 (λ c κs. search needs) returns-3 (λ c κs. search needs) returns-4
-    (λ c κs. search needs) returns-5 slots-formed-requires returns-6 (λ c κs. search needs) returns-7 returns-8)
+    (tie.spec
+    (λ c. unfold plays in refused-with _ _ 14 (omega arith) (λ L s e. fails _ _ _ (lt-leb headerBytes _ (c .if1 .taken))))
+    (λ c κs. search needs)
+    (λ c. refused-with _ _ 22 (omega arith) (λ L s e. past-length (c .before .before) L s ∙ fails _ _ _ (ne-eqb _ _ (λ z. c .if2 .taken (c .before .read-be .ensures .0 ∙ z)))))
+    (λ c κs. search needs)
+    (λ c. refused-with _ _ 22 (omega arith) (λ L s e. past-total (c .before .before) L s ∙ fails _ _ _ (rw (← c .before .read-be2 .ensures .0) (lt-leb _ 1 (c .if3 .taken)))))
+    (λ c κs. search needs)
+    (λ c. refused-with _ _ 7 (omega arith) (λ L s e. past-flag (c .before .before) L s ∙ fails _ _ _ (rw (← c .before .read-be3 .ensures .0) (lt-leb _ mostRequests (c .if4 .taken)))))
+    (λ c κs. search needs)
+    (λ c. refused-with _ _ 22 (omega arith)
+    (λ L s e. past-count (c .before .before) L s ∙ fails _ _ _ ((rw (c .before .before .before .read-be3 .ensures .0) at (sym (c .before .offsets .ensures))) ∙ not-true _ (c .if5 .taken))))
+    (λ c κs. (c .before .before .if4 .left, rw (c .before .before .before .read-be3 .ensures .0) (start-is c .1)))
+    (λ c. refused-with _ _ 22 (omega arith)
+    (λ L s e. past-offsets (c .before .before) L s ∙ fails _ _ _ (rw (start-is (c .before .before) .0) (sym (said (c .before)) ∙ not-true _ (c .if6 .taken)))))
+    (λ c κs. search needs)
+    (λ c. refused-with _ _ 95 (omega arith)
+    (λ L s e. past-slots (c .before .before) L s ∙ fails _ _ _ (ne-eqb _ _ (λ z. c .if7 .taken (c .before .before .before .before .before .before .before .before .before .read-be2 .ensures .0 ∙ z ∙ ap oneIf e ∙ sym (c .before .flag-of .ensures .0))))))
+    returns-8)

@@ -44,16 +44,6 @@ service c =
 mchk-room : (c : tie.Joined1) (r : Record) → mchkOf (c .before .before .before .before .before .before .before .before .args .singles .now) ≡ some r → c .if1 .at + 72 ≤ length (c .before .before .before .before .before .before .before .before .args .out .now)
 mchk-room c r e = room-more _ _ _ _ (service c) _ r e _ (room (c .before .before))
 
-save-requires : tie.Need-save-requires
-save-requires c κs =
-    let d = c .before .before .before in
-    omega (arith, service-room (d .before) _ (service-there _ _ _ (d .has-service .ensures) (c .before .before .if1 .taken) (c .read-service .ensures)), wrote (d .before) .long)
-
-save-requires-2 : tie.Need-save-requires-2
-save-requires-2 c κs =
-    let d = c .before .before .before in
-    omega (arith, mchk-room (d .before) _ (mchk-there _ _ _ (d .has-mchk .ensures) (c .before .before .if2 .taken) (c .read-mchk .ensures)), service (d .before) .long)
-
 returns : tie.Need-returns
 returns c =
     let d = c .before .before .before in
@@ -63,16 +53,17 @@ returns c =
     let e = (mchk-there _ _ _ (f .has-mchk .ensures) (d .before .before .if2 .taken) (d .read-mchk .ensures)) in
     c .before .before .save2 .ensures ∙ wrote-all _ _ _ _ _ _ _ (t .pre .0) (one-more _ _ _ _ (service j) _ _ e (search needs) (mchk-room j _ e))
 
-returns-2 : tie.Need-returns-2
-returns-2 c =
-    let d = c .before .before .before .before .before .before .before .before .before .before in
-    wrote-all _ _ _ _ _ _ _ (d .pre .0) (none-more _ _ _ _ (service (c .before .before)) _ (mchk-absent _ _ (c .before .has-mchk .ensures) (c .if2 .left)))
-
 pub list-all-spec : {M : Type 1} → statement M
 list-all-spec =
     tie.close
     (tie.spec (λ c κs. (c .before .before .pre .0, fits c)) (λ c κs. search needs) (λ c. search needs)
-    (λ c κs. search needs) (λ c κs. search needs) save-requires (λ c. search needs) (λ c κs. search needs)
-    (λ c κs. search needs) save-requires-2
+    (λ c κs. search needs) (λ c κs. search needs)
+    (λ c κs. let d = c .before .before .before in
+    omega (arith, service-room (d .before) _ (service-there _ _ _ (d .has-service .ensures) (c .before .before .if1 .taken) (c .read-service .ensures)), wrote (d .before) .long))
+    (λ c. search needs) (λ c κs. search needs) (λ c κs. search needs)
+    (λ c κs. let d = c .before .before .before in
+    omega (arith, mchk-room (d .before) _ (mchk-there _ _ _ (d .has-mchk .ensures) (c .before .before .if2 .taken) (c .read-mchk .ensures)), service (d .before) .long))
     (λ c. let h = service (c .before .before .before .before .before .before .before) .long in search needs) returns
-    (λ c. service (c .before .before) .long) returns-2)
+    (λ c. service (c .before .before) .long)
+    (λ c. let d = c .before .before .before .before .before .before .before .before .before .before in
+    wrote-all _ _ _ _ _ _ _ (d .pre .0) (none-more _ _ _ _ (service (c .before .before)) _ (mchk-absent _ _ (c .before .has-mchk .ensures) (c .if2 .left)))))

@@ -22,8 +22,8 @@ asCase rules.Kind.service isc = Service
 asCase rules.Kind.mchk isc = MachineCheck
 asCase rules.Kind.other isc = Other
 
-abbrev pub kindOf : Record → Kind
-kindOf r = asCase (kind r) (subclass r)
+abbrev pub kindCase : Record → Kind
+kindCase r = asCase (kind r) (subclass r)
 
 -- 01, group 2: every record has an accepted type, and so many of them go to a queue; or the index of the first record
 -- of another type

@@ -10,7 +10,7 @@ ghost use Rattle.store_queues.specs.Slots.{slotCount};
 ghost use Rattle.store_queues.specs.Queues.{total, Held};
 ghost use Rattle.answers.specs.Answers.{Answers};
 ghost use Rattle.store.specs.Memory.{pendingOf};
-ghost use Rattle.record_add.specs.Cases.{kindOf, checkFrom, answerTo};
+ghost use Rattle.record_add.specs.Cases.{kindCase, checkFrom, answerTo};
 ghost use Rattle.store.specs.Lent.{before, after, HeldAfter, Stays};
 use answers::Answer;
 use answers::EBUSY;
@@ -43,7 +43,7 @@ fn subclass_at(b: &[u8], at: usize) -> Subclass
 // The kind of the record at index at of b.
 pub fn kind_at(b: &[u8], at: usize) -> Kind
     requires { ⌜ at + 72 ≤ length (now b) ⌝ }
-    ensures { λ r. ⌜ r ≡ kindOf (part at 72 (now (b .entry))) ⌝ }
+    ensures { λ r. ⌜ r ≡ kindCase (part at 72 (now (b .entry))) ⌝ }
 {
     let t = numbers::read_doubleword(b, at);
     if t <= 0xfffd_ffff {
@@ -114,9 +114,12 @@ fn add_one(
     at: usize,
     queued: usize,
 ) -> usize
-    requires { ⌜ (at + 72 ≤ length (now b)) × (queued ≡ total (now counts)) × Held (now order) (now counts) × (total (now counts) + wants (kind (part at 72 (now b))) ≤ slotCount) ⌝ }
-    ensures pending { λ _. ⌜ after order counts slots singles ≡ add (part at 72 (now (b .entry))) (before order counts slots singles) ⌝ }
-    ensures held { λ r. ⌜ HeldAfter order counts × (r ≡ total (now (counts .exit))) × (r ≡ queued + wants (kind (part at 72 (now (b .entry))))) ⌝ }
+    requires { ⌜ (at + 72 ≤ length (now b)) × (queued ≡ total (now counts)) × Held (now order) (now counts)
+        × (total (now counts) + wants (kind (part at 72 (now b))) ≤ slotCount) ⌝ }
+    ensures pending { λ _. ⌜ after order counts slots singles
+        ≡ add (part at 72 (now (b .entry))) (before order counts slots singles) ⌝ }
+    ensures held { λ r. ⌜ HeldAfter order counts × (r ≡ total (now (counts .exit)))
+        × (r ≡ queued + wants (kind (part at 72 (now (b .entry))))) ⌝ }
 {
     // Loaded in each case: loaded before the match, the merge of a machine check would split the copy for every kind.
     match kind_at(b, at) {
@@ -164,8 +167,10 @@ fn add_all(
     n: usize,
     queued: usize,
 )
-    requires { ⌜ (n * 72 ≤ enqueueBytes) × (n * 72 ≤ length (now b)) × (queued ≡ total (now counts)) × Held (now order) (now counts) × (total (now counts) + allWant (recordsIn n (now b)) ≤ slotCount) ⌝ }
-    ensures pending { λ _. ⌜ after order counts slots singles ≡ addAll (recordsIn n (now (b .entry))) (before order counts slots singles) ⌝ }
+    requires { ⌜ (n * 72 ≤ enqueueBytes) × (n * 72 ≤ length (now b)) × (queued ≡ total (now counts))
+        × Held (now order) (now counts) × (total (now counts) + allWant (recordsIn n (now b)) ≤ slotCount) ⌝ }
+    ensures pending { λ _. ⌜ after order counts slots singles
+        ≡ addAll (recordsIn n (now (b .entry))) (before order counts slots singles) ⌝ }
     ensures held { λ _. ⌜ HeldAfter order counts ⌝ }
     ensures kept { λ _. ⌜ (n ≡ 0 → Stays slots × Stays order × Stays counts × Stays singles) ⌝ }
 {
@@ -188,7 +193,11 @@ pub fn enqueue_irqs(
     payload: &[u8],
 ) -> Answer
     requires { ⌜ (room ≤ slotCount) × Held (now order) (now counts) ⌝ }
-    ensures { λ r. ⌜ ((L : Limits) (s : State) → L .room ≡ room → s .pending ≡ before order counts slots singles → Answers L s (now (payload .entry)) (request L s enqueue attr (now (payload .entry))) r (withPending (after order counts slots singles) s) (now (payload .entry))) × (HeldAfter order counts × ((r .code ≡ 0 → ⊥) → Stays slots × Stays order × Stays counts × Stays singles)) ⌝ }
+    ensures { λ r. ⌜ ((L : Limits) (s : State) → L .room ≡ room → s .pending ≡ before order counts slots singles
+        → Answers L s (now (payload .entry)) (request L s enqueue attr (now (payload .entry))) r
+        (withPending (after order counts slots singles) s) (now (payload .entry)))
+        × (HeldAfter order counts
+        × ((r .code ≡ 0 → ⊥) → Stays slots × Stays order × Stays counts × Stays singles)) ⌝ }
 {
     if attr == 0 {
         return answers::refuse(EINVAL);
@@ -230,8 +239,12 @@ pub fn append_interrupt(
     isc: Subclass,
     n: usize,
 )
-    requires { ⌜ (isc .0 ≤ 7) × (n ≡ total (now counts)) × (total (now counts) < slotCount) × Held (now order) (now counts) ⌝ }
-    ensures pending { λ _. ⌜ ((singles : List ℕ) → pendingOf (now (order .exit)) (now (counts .exit)) (now (slots .exit)) singles ≡ addIo (isc .0) (adapterInterrupt (isc .0)) (pendingOf (now (order .entry)) (now (counts .entry)) (now (slots .entry)) singles)) ⌝ }
+    requires { ⌜ (isc .0 ≤ 7) × (n ≡ total (now counts)) × (total (now counts) < slotCount)
+        × Held (now order) (now counts) ⌝ }
+    ensures pending { λ _. ⌜ ((singles : List ℕ)
+        → pendingOf (now (order .exit)) (now (counts .exit)) (now (slots .exit)) singles
+        ≡ addIo (isc .0) (adapterInterrupt (isc .0))
+        (pendingOf (now (order .entry)) (now (counts .entry)) (now (slots .entry)) singles)) ⌝ }
     ensures held { λ _. ⌜ HeldAfter order counts ⌝ }
 {
     store_queues::append(

@@ -38,7 +38,8 @@ pub fn read_mchk(g: &[u8; SINGLES_BYTES]) -> [u8; 72]
 
 // A service record comes: the first stays.
 pub fn add_service(g: &mut [u8; SINGLES_BYTES], r: [u8; 72])
-    ensures { λ _. ⌜ (serviceOf (now (g .exit)) ≡ some (firstOr (serviceOf (now (g .entry))) r)) × (mchkOf (now (g .exit)) ≡ mchkOf (now (g .entry))) ⌝ }
+    ensures { λ _. ⌜ (serviceOf (now (g .exit)) ≡ some (firstOr (serviceOf (now (g .entry))) r))
+        × (mchkOf (now (g .exit)) ≡ mchkOf (now (g .entry))) ⌝ }
 {
     if g[144] == 0 {
         numbers::save(g, 0, r);
@@ -48,7 +49,8 @@ pub fn add_service(g: &mut [u8; SINGLES_BYTES], r: [u8; 72])
 
 // ORs bytes 8 to 23 of r into the machine check: cr14 and mcic.
 fn merge(g: &mut [u8; SINGLES_BYTES], r: [u8; 72])
-    ensures { λ _. ⌜ now (g .exit) ≡ take 80 (now (g .entry)) ++ (zipWith bitOr (part 80 16 (now (g .entry))) (part 8 16 r) ++ drop 96 (now (g .entry))) ⌝ }
+    ensures { λ _. ⌜ now (g .exit) ≡ take 80 (now (g .entry))
+        ++ (zipWith bitOr (part 80 16 (now (g .entry))) (part 8 16 r) ++ drop 96 (now (g .entry))) ⌝ }
 {
     let mut i = 0;
     while i < 16 {
@@ -59,7 +61,8 @@ fn merge(g: &mut [u8; SINGLES_BYTES], r: [u8; 72])
 
 // A machine check comes: a second one's cr14 and mcic bits are added.
 pub fn add_mchk(g: &mut [u8; SINGLES_BYTES], r: [u8; 72])
-    ensures { λ _. ⌜ (mchkOf (now (g .exit)) ≡ some (mergedOr (mchkOf (now (g .entry))) r)) × (serviceOf (now (g .exit)) ≡ serviceOf (now (g .entry))) ⌝ }
+    ensures { λ _. ⌜ (mchkOf (now (g .exit)) ≡ some (mergedOr (mchkOf (now (g .entry))) r))
+        × (serviceOf (now (g .exit)) ≡ serviceOf (now (g .entry))) ⌝ }
 {
     if g[145] == 0 {
         numbers::save(g, 72, r);

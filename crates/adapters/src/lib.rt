@@ -3,7 +3,8 @@ ghost use mathlib.Core.Path.{_≡_};
 ghost use mathlib.Core.Bool.{true, false};
 ghost use Prim.Native.Nat.{_<_, _≤_};
 ghost use Rattle.rules.specs.State.{free, holds, bit, hasBit, withBit, withoutBit};
-ghost use Rattle.adapters.specs.Values.{placeOf, deviceOf, Canonical, maskedAs, modeSet, underAis, injectionOf, injectedDevice, withMasked};
+ghost use Rattle.adapters.specs.Values.{placeOf, deviceOf, Canonical, maskedAs, withMasked, modeSet};
+ghost use Rattle.adapters.specs.Values.{underAis, injectionOf, injectedDevice};
 use numbers::Subclass;
 
 // The masks and the page-fault flag.
@@ -138,7 +139,13 @@ pub fn apf_set(d: Device, on: bool) -> Device
 
 // A new adapter, unmasked.
 pub fn registered(isc: Subclass, maskable: bool, swap: bool, suppressible: bool) -> Place
-    ensures { λ r. ⌜ placeOf r ≡ holds (record { isc = isc .0; maskable = maskable; swap = swap; suppressible = suppressible; masked = false }) ⌝ }
+    ensures { λ r. ⌜ placeOf r ≡ holds (record {
+      isc = isc .0;
+      maskable = maskable;
+      swap = swap;
+      suppressible = suppressible;
+      masked = false;
+    }) ⌝ }
     ensures canonical { λ r. ⌜ (isc .0 ≤ 7 → Canonical r) ⌝ }
 {
     let masked = false;

@@ -4,7 +4,8 @@ ghost use mathlib.Core.Bool.{_&&_};
 ghost use Prim.Native.Nat.{_+_, _*_, _≤_, _<_};
 ghost use lib.ListN.{length, drop};
 ghost use lib.Dec.{leb, eqb};
-ghost use Rattle.rules.specs.MoveList.{oneIf, headerBytes, tableEntryBytes, tableOffsetIn, payloadOffsetIn, payloadOffset, tableEntriesIn, movable, formed, mostRequests};
+ghost use Rattle.rules.specs.MoveList.{oneIf, headerBytes, tableEntryBytes, tableOffsetIn, payloadOffsetIn};
+ghost use Rattle.rules.specs.MoveList.{payloadOffset, tableEntriesIn, movable, formed, mostRequests};
 ghost use Rattle.list_form.specs.Form.{slotAt, slotFormed, Form};
 use answers::E2BIG;
 use answers::EFAULT;
@@ -55,7 +56,8 @@ fn slot_formed(list: &[u8], place: usize, at: u64) -> bool
 // Entry by entry, and the last end.
 fn slots_formed(list: &[u8], count: usize) -> bool
     requires { ⌜ (count ≤ mostRequests) × (payloadOffset count ≤ length (now list)) ⌝ }
-    ensures { λ r. ⌜ r ≡ formed (length (now (list .entry))) (payloadOffset count) (tableEntriesIn count (drop headerBytes (now (list .entry)))) ⌝ }
+    ensures { λ r. ⌜ r ≡ formed (length (now (list .entry))) (payloadOffset count)
+        (tableEntriesIn count (drop headerBytes (now (list .entry)))) ⌝ }
 {
     let mut at = (20 + 24 * count) as u64;
     let mut i = 0;
@@ -72,7 +74,9 @@ fn slots_formed(list: &[u8], count: usize) -> bool
 // Both offsets are what the count says, and the payload offset is not above the total.
 fn offsets(list: &[u8], count: u64) -> bool
     requires { ⌜ (headerBytes ≤ length (now list)) × (count ≤ mostRequests) ⌝ }
-    ensures { λ r. ⌜ r ≡ (eqb (tableOffsetIn (now (list .entry))) headerBytes && (eqb (payloadOffsetIn (now (list .entry))) (payloadOffset count) && leb (payloadOffsetIn (now (list .entry))) (length (now (list .entry))))) ⌝ }
+    ensures { λ r. ⌜ r ≡ (eqb (tableOffsetIn (now (list .entry))) headerBytes
+        && (eqb (payloadOffsetIn (now (list .entry))) (payloadOffset count)
+        && leb (payloadOffsetIn (now (list .entry))) (length (now (list .entry))))) ⌝ }
 {
     if numbers::read_be(list, 8, 4) != 20 {
         return false;

@@ -15,7 +15,7 @@ use numbers::ROOM;
 use numbers::SLOT_BYTES;
 use numbers::Subclass;
 
-// Moves the entries from index lo + 1 up to index end + 1 down by one.
+// Moves the entries at indices lo + 1 to end down by one.
 pub fn move_down(o: &mut [u8], lo: usize, end: usize)
     requires { ⌜ (lo ≤ end) × (end + 1 ≤ length (now o)) ⌝ }
     ensures { λ _. ⌜ now (o .exit) ≡ paste (now (o .entry)) lo (drop (lo + 1) (now (o .entry))) (end - lo) ⌝ }

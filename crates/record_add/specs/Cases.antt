@@ -25,8 +25,8 @@ asCase rules.Kind.other isc = Other
 abbrev pub kindCase : Record → Kind
 kindCase r = asCase (kind r) (subclass r)
 
--- 01, group 2: every record has an accepted type, and so many of them go to a queue; or the index of the first record
--- of another type
+-- 01, group 2: the check of records from a place on, of which n go to a queue so far. Either every record has an accepted
+-- type, and the result is how many go to a queue; or it is the index of the first record of another type.
 unfoldable pub checkFrom : ℕ → ℕ → List Record → Checked
 checkFrom place n [] = Good n
 checkFrom place n (r ∷ rs) =

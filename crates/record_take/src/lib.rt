@@ -27,6 +27,7 @@ use numbers::SLOT_BYTES;
 use numbers::Subchannel;
 use store_search::Found;
 
+// 1 if it holds, else 0.
 fn one_if(t: bool) -> usize
     ensures { λ r. ⌜ (r ≡ oneIf t) × (r ≤ 1) ⌝ }
 {
@@ -62,7 +63,7 @@ pub fn pending_whole(
     pending(counts, singles)
 }
 
-// Group 3: nothing is pending any more.
+// Group 3: every pending record is removed.
 pub fn clear_irqs(
     order: &mut [u8; ORDER_BYTES],
     counts: &mut [usize; COUNTS],
@@ -86,7 +87,7 @@ pub fn clear_irqs(
     answers::accept(n as u64) // those removed
 }
 
-// Writes the listing to out.
+// Writes the listing to the start of out.
 pub fn list_all(
     slots: &[u8; SLOT_BYTES],
     order: &[u8; ORDER_BYTES],

@@ -1,6 +1,6 @@
 -- `adapter_requests::place_after` meets its contract: what REGISTER enters, what MODIFY of type 1 leaves, or the place
 -- as it was.
-use Rattle.numbers.proofs.Basics.{sym, _∙_, arith, needs, eq-eqb, ne-eqb}
+use Rattle.numbers.proofs.Basics.{sym, _∙_, needs, eq-eqb, ne-eqb}
 use Rattle.rules.specs.{Bytes.choose, Requests.adapterIn}
 use Rattle.rules.proofs.Checks.{chosen, passed}
 use Rattle.adapter_requests.specs.States.{placeAfter, changeOf}

@@ -1,6 +1,6 @@
 -- `adapter_requests::register_code` meets its contract: the checks one by one.
-use Rattle.numbers.proofs.Basics.{ℕ, _≡_, refl, ap, sym, _∙_, [], arith, true, getD, leb, needs, le-leb, lt-leb}
-use Rattle.rules.specs.{Bytes.choose, Bytes.byte, Bytes.field, State.Limits, State.State, State.free, State.withAdapter, Outcome.accept, Outcome.need_else_⨾_, Requests.adapterRegister, Requests.request, Requests.registers, Requests.adapterIn, Requests.isFree}
+use Rattle.numbers.proofs.Basics.{_≡_, refl, ap, _∙_, [], arith, getD, leb, needs, le-leb, lt-leb}
+use Rattle.rules.specs.{Bytes.choose, Bytes.byte, State.Limits, State.State, State.free, State.withAdapter, Outcome.accept, Outcome.need_else_⨾_, Requests.adapterRegister, Requests.request, Requests.registers, Requests.adapterIn, Requests.isFree}
 use Rattle.rules.proofs.Checks.{passes, fails}
 use Rattle.adapters.specs.Values.{placeOf}
 use Rattle.adapters.proofs.Laws.{place-used, place-free}

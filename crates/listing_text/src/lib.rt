@@ -40,6 +40,7 @@ fn append(out: &mut [u8], at: usize, s: &[u8]) -> usize
     at + i
 }
 
+// The character of a digit.
 fn letter(d: u64) -> u8
     requires { ⌜ d < 16 ⌝ }
     ensures { λ r. ⌜ r ≡ digit d ⌝ }

@@ -37,8 +37,8 @@ pub fn fresh_device() -> Device
     }
 }
 
-// Copies the device record field by field. A copy of the whole record would read bytes that were just written one by one
-// as one wider word, and would have to wait for them.
+// Copies the device record field by field. A copy of the whole record would read bytes that were just written one by
+// one as one wider word, and would have to wait for them.
 pub fn by_fields(d: Device) -> Device
     ensures { λ r. ⌜ r ≡ d ⌝ }
 {

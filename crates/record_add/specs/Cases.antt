@@ -25,7 +25,7 @@ asCase rules.Kind.other isc = Other
 abbrev pub kindCase : Record → Kind
 kindCase r = asCase (kind r) (subclass r)
 
--- 01, group 2: the check of records from a place on, of which n go to a queue so far. Either every record has an accepted
+-- 01, group 2: the check of records from a place on, after n that go to a queue. Either every record has an accepted
 -- type, and the result is how many go to a queue; or it is the index of the first record of another type.
 unfoldable pub checkFrom : ℕ → ℕ → List Record → Checked
 checkFrom place n [] = Good n

@@ -1,24 +1,25 @@
 -- A reply from the outcome that it tells, and what each request comes to once its checks are known.
 use Rattle.numbers.proofs.Basics.{leb, lt-leb, _<_, ℕ, zero, suc, _≤_, _≡_, refl, ap, sym, _∙_, subst, Bool, true, false}
 use Rattle.numbers.proofs.Basics.{true≢false, List, [], _∷_, arith, length, getD, set, drop, eqb, eq-eqb, ne-eqb}
-use Rattle.numbers.proofs.Basics.{eqb-true, eqb-false, le-leb}
+use Rattle.numbers.proofs.Basics.{eqb-true, eqb-false, le-leb, ltb, lt-ltb, le-ltb}
 use lib.Seq.{set-getD}
-use Rattle.rules.specs.{Bytes.choose, Bytes.byte, Bytes.field, Requests.setRequest, Requests.noRequest, Requests.withMask, State.Limits, State.Pending, State.State, Outcome.Outcome, Outcome.refuse, Outcome.accept, Outcome.need_else_⨾_, Outcome.result, Outcome.tell, Machine.answerOf}
+use Rattle.rules.specs.{Bytes.choose, Bytes.byte, Bytes.field, Requests.setRequest, Requests.noRequest, Requests.withMask, State.Limits, State.Pending, State.State, Outcome.Outcome, Outcome.refuse, Outcome.accept, Outcome.need_else_⨾_}
 use Rattle.rules.proofs.Checks.{passes, fails, chosen, passed}
 use Rattle.rules.specs.State as rules
 use Rattle.adapters.specs.{declared.Device.Device, declared.Place.Place, Values.placeOf, Values.deviceOf, Values.Canonical, Values.maskedAs, Values.modeSet}
 use Rattle.answers.specs.{declared.Answer.Answer, Answers.answered}
+use Rattle.answers.proofs.Laws.{refused-as, accepted as tells}
 use Rattle.adapter_requests.specs.declared.Reply.{Reply}
 use Rattle.adapter_requests.specs.States.{payloadId, onPlace, aboutOf, decided, withPlace, modesAfter, stateWith, Replied, Change, keeps, masks, enters, Within, changeOf}
 
 -- the state that the values stand for is the state itself
-pub as-it-was : (s : State) (id : ℕ) (device : Device) (place : Place) → s .device ≡ deviceOf device → getD (s .adapters) id rules.free ≡ placeOf place
-    → s ≡ stateWith s id (placeOf place) (s .pending) (deviceOf device)
-as-it-was s id device place d p =
+as-it-was : (s : State) (id : ℕ) (device : Device) (place : Place) (p : Pending) → s .device ≡ deviceOf device → getD (s .adapters) id rules.free ≡ placeOf place
+    → s .pending ≡ p → s ≡ stateWith s id (placeOf place) p (deviceOf device)
+as-it-was s id device place p d e q =
     λ i. record {
       ais = s .ais;
-      adapters = (sym (set-getD (s .adapters) id rules.free) ∙ ap (set (s .adapters) id) p) i;
-      pending = s .pending;
+      adapters = (sym (set-getD (s .adapters) id rules.free) ∙ ap (set (s .adapters) id) e) i;
+      pending = q i;
       device = d i;
     }
 
@@ -34,23 +35,6 @@ module _ (places room : ℕ) (ais : Bool) (device : Device) (place : Place) (id 
   Gives f = (L : Limits) (s : State) → L .places ≡ places → s .ais ≡ ais → s .device ≡ deviceOf device → getD (s .adapters) id rules.free ≡ placeOf place
       → o L s ≡ f L s
 
-  refuses : (code : ℕ) → Gives (λ L s. refuse code) → (p : Pending) (L : Limits) (s : State) → L .places ≡ places → s .ais ≡ ais → s .pending ≡ p
-      → s .device ≡ deviceOf device → getD (s .adapters) id rules.free ≡ placeOf place
-      → answerOf L s b (o L s) ≡ tell code 0 (stateWith s id (placeOf place) p (deviceOf device)) b
-  unfolding result
-  refuses code f p L s e1 e3 e4 e5 e6 =
-      ap (answerOf L s b) (f L s e1 e3 e5 e6)
-      ∙ (λ i. tell code 0 ((as-it-was s id device place e5 e6 ∙ ap (λ (q : Pending). stateWith s id (placeOf place) q (deviceOf device)) e4) i) b)
-
-  accepts : (device′ : Device) (place′ : Place) → Gives (λ L s. accept 0 (stateWith s id (placeOf place′) (s .pending) (deviceOf device′)) [])
-      → (p : Pending) (L : Limits) (s : State) → L .places ≡ places → s .ais ≡ ais → s .pending ≡ p
-      → s .device ≡ deviceOf device → getD (s .adapters) id rules.free ≡ placeOf place
-      → answerOf L s b (o L s) ≡ tell 0 0 (stateWith s id (placeOf place′) p (deviceOf device′)) b
-  unfolding result
-  accepts device′ place′ f p L s e1 e3 e4 e5 e6 =
-      ap (answerOf L s b) (f L s e1 e3 e5 e6)
-      ∙ (λ i. tell 0 0 (stateWith s id (placeOf place′) (e4 i) (deviceOf device′)) b)
-
   -- from what the calls that make a reply ensure
   pub refused : (code : ℕ) {change : Change} {a : Answer} {r : Reply} → a ≡ answered code 0 → r ≡ record { answer = a; device = device; place = place }
       → Gives (λ L s. refuse code) → Replied places room ais device place id b o change r
@@ -58,7 +42,7 @@ module _ (places room : ℕ) (ais : Bool) (device : Device) (place : Place) (id 
       subst (Replied places room ais device place id b o change)
       (sym (er ∙ ap (λ (x : Answer). record { answer = x; device = device; place = place }) ea))
       (record {
-        answer = λ p L s e1 e2 e3 e4 e5 e6. refuses code f p L s e1 e3 e4 e5 e6;
+        answer = λ p L s e1 e2 e3 e4 e5 e6. refused-as L s b _ _ code _ (as-it-was s id device place p e5 e6 e4) (f L s e1 e3 e5 e6) refl;
         kept = λ k. (refl, refl);
         canonical = λ k. k;
         within = within-same change place;
@@ -72,21 +56,18 @@ module _ (places room : ℕ) (ais : Bool) (device : Device) (place : Place) (id 
       subst (Replied places room ais device place id b o change)
       (sym (er ∙ ap (λ (x : Answer). record { answer = x; device = device′; place = place′ }) ea))
       (record {
-        answer = λ p L s e1 e2 e3 e4 e5 e6. accepts device′ place′ f p L s e1 e3 e4 e5 e6;
+        answer = λ p L s e1 e2 e3 e4 e5 e6.
+            tells L s b _ _ 0 _ [] b (f L s e1 e3 e5 e6 ∙ ap (λ (q : Pending). accept 0 (stateWith s id (placeOf place′) q (deviceOf device′)) []) e4) refl refl;
         kept = λ n. absurd (n refl);
         canonical = k;
         within = m;
       })
 
 -- ---- the state that an accepted request leaves
-pub nothing-done : (s : State) (id : ℕ) (device : Device) (place : Place) → s .device ≡ deviceOf device → getD (s .adapters) id rules.free ≡ placeOf place
-    → accept 0 s [] ≡ accept 0 (stateWith s id (placeOf place) (s .pending) (deviceOf device)) []
-nothing-done s id device place d p = ap (λ (t : State). accept 0 t []) (as-it-was s id device place d p)
-
 pub devised : (s : State) (id : ℕ) (d : rules.Device) (device : Device) (place : Place) → d ≡ deviceOf device
     → getD (s .adapters) id rules.free ≡ placeOf place
     → accept 0 (rules.withDevice d s) [] ≡ accept 0 (stateWith s id (placeOf place) (s .pending) (deviceOf device)) []
-devised s id d device place e p = nothing-done (rules.withDevice d s) id device place e p
+devised s id d device place e p = ap (λ (t : State). accept 0 t []) (as-it-was (rules.withDevice d s) id device place (s .pending) e p refl)
 
 -- ---- a code that is not 0, and 0
 pub not-accepted : {A : Type 0} {n : ℕ} → 0 < n → n ≡ 0 → A
@@ -148,9 +129,9 @@ module _ (group : ℕ) (b : List ℕ) (d : rules.Device) where
   after-flag n m = passed _ _ _ (ne-eqb group 9 n) ∙ passed _ _ _ (ne-eqb group 11 m)
 
 -- the place and the device record that an accepted request about a place leaves
-pub entered : (s : State) (id id′ : ℕ) (p : rules.Place) (device : Device) (place : Place) → id ≡ id′ → p ≡ placeOf place → s .device ≡ deviceOf device
-    → withPlace id p s ≡ stateWith s id′ (placeOf place) (s .pending) (deviceOf device)
-entered s id id′ p device place e h d = λ i. record { ais = s .ais; adapters = set (s .adapters) (e i) (h i); pending = s .pending; device = d i }
+pub entered : (s : State) (id : ℕ) (p : rules.Place) (device : Device) (place : Place) → p ≡ placeOf place → s .device ≡ deviceOf device
+    → withPlace id p s ≡ stateWith s id (placeOf place) (s .pending) (deviceOf device)
+entered s id p device place h d = λ i. record { ais = s .ais; adapters = set (s .adapters) id (h i); pending = s .pending; device = d i }
 
 -- ---- the checks that come first: the attribute, the capability, the lent length
 pub bad-attr : {attr : ℕ} (rest : Outcome State) → (attr ≡ 0 → ⊥) → (need eqb attr 0 else 22 ⨾ rest) ≡ refuse 22
@@ -172,6 +153,17 @@ module _ {attr n len : ℕ} {ais : Bool} (rest : Outcome State) (z : attr ≡ 0)
 
   pub opened-ais : n ≤ len → (need eqb attr 0 else 22 ⨾ need ais else 95 ⨾ need leb n len else 14 ⨾ rest) ≡ rest
   opened-ais h = passes _ _ _ (eq-eqb attr 0 z) ∙ passes _ _ _ a ∙ passes _ _ _ (le-leb n len h)
+
+-- the attribute, the lent length and the id of a request about an adapter's place
+module _ (L : Limits) (b : List ℕ) {attr n places id : ℕ} (rest : Outcome State) (z : attr ≡ 0) (l : n ≤ length b) (p : L .places ≡ places) (e : id ≡ field 0 4 b) where
+  abbrev checked : Outcome State
+  checked = need eqb attr 0 else 22 ⨾ need leb n (length b) else 14 ⨾ need ltb (field 0 4 b) (L .places) else 22 ⨾ rest
+
+  pub past-table : places ≤ id → checked ≡ refuse 22
+  past-table h = opened _ z l ∙ fails _ _ _ (le-ltb (field 0 4 b) (L .places) (omega (arith, h, p, e)))
+
+  pub in-table : id < places → checked ≡ rest
+  in-table h = opened _ z l ∙ passes _ _ _ (lt-ltb (field 0 4 b) (L .places) (omega (arith, h, p, e)))
 
 -- the payload's id, where there is one
 pub id-there : (b : List ℕ) → 4 ≤ length b → payloadId b ≡ field 0 4 b

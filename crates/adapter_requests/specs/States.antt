@@ -10,7 +10,7 @@ use Rattle.rules.specs.Bytes.{choose, byte, field}
 use Rattle.rules.specs.State as rules
 use Rattle.rules.specs.State.{Limits, Pending, State}
 use Rattle.rules.specs.Outcome.{Outcome, refuse, accept}
-use Rattle.rules.specs.Requests.{adapterIn, nonZero}
+use Rattle.rules.specs.Requests.{adapterIn, nonZero, setRequest, request}
 use Rattle.adapters.specs.declared.Device.{Device}
 use Rattle.adapters.specs.declared.Place.{Place}
 use Rattle.adapters.specs.Values.{placeOf, deviceOf, Canonical, withMasked, maskedAs, modeSet}
@@ -39,7 +39,9 @@ decided code next = choose (eqb code 0) (accept 0 next []) (refuse code)
 
 -- 01, groups 6 and 7: the place after an accepted request about it
 unfoldable pub placeAfter : ℕ → List ℕ → rules.Place → rules.Place
-placeAfter group b p = choose (eqb group 6) (rules.holds (adapterIn b)) (choose (eqb (byte 4 b) 1) (maskedAs p (nonZero (byte 5 b))) p)
+placeAfter group b p =
+    choose (eqb group 6) (rules.holds (adapterIn b))
+    (choose (eqb (byte 4 b) 1) (maskedAs p (nonZero (byte 5 b))) p)
 
 -- a state with another place at an id
 abbrev pub withPlace : ℕ → rules.Place → State → State
@@ -51,36 +53,51 @@ pub record PlaceAsked (group : ℕ) (b : List ℕ) (p : Place) : Type 0 where
   pub isc : group ≡ 6 → byte 4 b ≤ 7
   pub maskable : (group ≡ 6 → ⊥) → byte 4 b ≡ 1 → p .maskable ≡ true
 
+-- a code decides a request about a place, in every state that has this place under the payload's id
+abbrev pub DecidesPlace : (group places : ℕ) → Place → (attr : ℕ) → List ℕ → (code : ℕ) → Type 0
+DecidesPlace group places p attr b code =
+    (L : Limits) (s : State) → L .places ≡ places → getD (s .adapters) (payloadId b) rules.free ≡ placeOf p
+    → request L s (setRequest group) attr b
+    ≡ decided code (withPlace (payloadId b) (placeAfter group b (placeOf p)) s)
+
 -- 01, groups 4, 5, 9 and 11: the device record after an accepted request about it
 unfoldable pub modesAfter : ℕ → List ℕ → rules.Device → rules.Device
 modesAfter group b d =
     choose (eqb group 9) (modeSet d (byte 0 b) (eqb (field 2 2 b) 1))
-    (choose (eqb group 11) (record { simm = byte 0 b; nimm = byte 1 b; apf = d .apf }) (record { simm = d .simm; nimm = d .nimm; apf = eqb group 4 }))
+    (choose (eqb group 11) (record { simm = byte 0 b; nimm = byte 1 b; apf = d .apf })
+    (record { simm = d .simm; nimm = d .nimm; apf = eqb group 4 }))
 
 -- what is known of the payload of an accepted request about the device record
 pub record ModesAsked (group : ℕ) (b : List ℕ) : Type 0 where
   pub mode : group ≡ 9 → (4 ≤ length b) × (byte 0 b ≤ 7)
   pub masks : group ≡ 11 → 2 ≤ length b
 
+-- a code decides a request about the device record, in every state of this capability
+abbrev pub DecidesModes : (group : ℕ) → Bool → (attr : ℕ) → List ℕ → (code : ℕ) → Type 0
+DecidesModes group ais attr b code =
+    (L : Limits) (s : State) → s .ais ≡ ais
+    → request L s (setRequest group) attr b
+    ≡ decided code (rules.withDevice (modesAfter group b (s .device)) s)
+
 -- a state with another place at an id, other pending records and another device record
 abbrev pub stateWith : State → ℕ → rules.Place → Pending → rules.Device → State
-stateWith s id place pending device = record { ais = s .ais; adapters = set (s .adapters) id place; pending = pending; device = device }
+stateWith s id place pending device =
+    record { ais = s .ais; adapters = set (s .adapters) id place; pending = pending; device = device }
 
--- What a reply says, for every state that the code's values stand for: the outcome's answer and next state, and that the
--- payload is untouched.
--- `before` and `after` are the pending records, `id` is the place that the adapter is at.
-abbrev pub Replies : (places room : ℕ) (ais : Bool) (device : Device) (place : Place) (id : ℕ) (b : List ℕ) → (Limits → State → Outcome State)
-    → (before after : Pending) → Reply → Type 0
+-- What a reply says, in every state that the code's values stand for: the outcome's answer and next state, and that the
+-- payload stays as it is. `before` and `after` are the pending records, `id` is the adapter's place in the table.
+abbrev pub Replies : (places room : ℕ) (ais : Bool) (device : Device) (place : Place) (id : ℕ) (b : List ℕ)
+    → (Limits → State → Outcome State) → (before after : Pending) → Reply → Type 0
 Replies places room ais device place id b o before after r =
-    (L : Limits) (s : State) → L .places ≡ places → L .room ≡ room → s .ais ≡ ais → s .pending ≡ before → s .device ≡ deviceOf device
-    → getD (s .adapters) id rules.free ≡ placeOf place
+    (L : Limits) (s : State) → L .places ≡ places → L .room ≡ room → s .ais ≡ ais → s .pending ≡ before
+    → s .device ≡ deviceOf device → getD (s .adapters) id rules.free ≡ placeOf place
     → Answers L s b (o L s) (r .answer) (stateWith s id (placeOf (r .place)) after (deviceOf (r .device))) b
 
 -- What a set request may do to the place of its adapter: nothing, set its masked field, or enter another.
 pub data Change : Type 0 where
   keeps masks enters : Change
 
--- a place changed no more than so; of a place that is entered nothing is said here
+-- the second place differs from the first by no more than a change may do; of a place that is entered nothing is said
 abbrev pub Within : Change → Place → Place → Type 0
 Within keeps p p′ = p′ ≡ p
 Within masks p p′ = p′ ≡ withMasked (p′ .masked) p
@@ -90,10 +107,10 @@ Within enters p p′ = Unit
 unfoldable pub changeOf : ℕ → Change
 changeOf group = choose (eqb group 6) enters (choose (eqb group 7) masks keeps)
 
--- What a request that touches no pending record promises of its reply: the answer; a refusal leaves the values equal; a
--- place that a table may hold stays one;
--- the place changes no more than so.
-pub record Replied (places room : ℕ) (ais : Bool) (device : Device) (place : Place) (id : ℕ) (b : List ℕ) (o : Limits → State → Outcome State) (change : Change) (r : Reply) : Type 0 where
+-- What a request that touches no pending record promises of its reply: the answer; that a refusal leaves both values as
+-- they were; that a place which a table may hold stays one; and how much of the place may change.
+pub record Replied (places room : ℕ) (ais : Bool) (device : Device) (place : Place) (id : ℕ) (b : List ℕ)
+    (o : Limits → State → Outcome State) (change : Change) (r : Reply) : Type 0 where
   pub answer : (p : Pending) → Replies places room ais device place id b o p p r
   pub kept : (r .answer .code ≡ 0 → ⊥) → (r .device ≡ device) × (r .place ≡ place)
   pub canonical : Canonical place → Canonical (r .place)

@@ -5,12 +5,14 @@ ghost use mathlib.Core.List.{List};
 ghost use Prim.Native.Nat.{ℕ, _≤_};
 ghost use lib.Dec.{eqb};
 ghost use lib.ListN.{length, getD};
-ghost use Rattle.rules.specs.State.{Limits, State, free, withDevice};
+ghost use Rattle.rules.specs.State.{Limits, State, withDevice};
 ghost use Rattle.rules.specs.Bytes.{byte, field};
-ghost use Rattle.rules.specs.Requests.{apfEnable, apfDisableWait, adapterRegister, adapterModify, aism, setAismAll, getAismAll, setRequest, request};
+ghost use Rattle.rules.specs.Requests.{apfEnable, apfDisableWait, getAismAll, setRequest, request};
 ghost use Rattle.answers.specs.Answers.{Answers};
 ghost use Rattle.adapters.specs.Values.{placeOf, deviceOf, Canonical};
-ghost use Rattle.adapter_requests.specs.States.{payloadId, onPlace, aboutOf, decided, placeAfter, withPlace, PlaceAsked, modesAfter, ModesAsked, changeOf, Within, Replied};
+ghost use Rattle.adapter_requests.specs.States.{payloadId, onPlace, aboutOf, decided, placeAfter, PlaceAsked};
+ghost use Rattle.adapter_requests.specs.States.{DecidesPlace, modesAfter, ModesAsked, DecidesModes};
+ghost use Rattle.adapter_requests.specs.States.{changeOf, Within, Replied};
 use adapters::Device;
 use adapters::Place;
 use answers::Answer;
@@ -80,7 +82,7 @@ pub fn on_place(group: u32) -> bool
 
 // Group 6: the code of a REGISTER, 0 if accepted.
 fn register_code(places: u64, place: Place, attr: u64, payload: &[u8]) -> u32
-    ensures code { λ r. ⌜ ((L : Limits) (s : State) → L .places ≡ places → getD (s .adapters) (payloadId (now (payload .entry))) free ≡ placeOf place → request L s adapterRegister attr (now (payload .entry)) ≡ decided r (withPlace (payloadId (now (payload .entry))) (placeAfter 6 (now (payload .entry)) (placeOf place)) s)) ⌝ }
+    ensures code { λ r. ⌜ DecidesPlace 6 places place attr (now (payload .entry)) r ⌝ }
     ensures asked { λ r. ⌜ (r ≡ 0 → PlaceAsked 6 (now (payload .entry)) place) ⌝ }
 {
     if attr != 0 {
@@ -103,7 +105,7 @@ fn register_code(places: u64, place: Place, attr: u64, payload: &[u8]) -> u32
 
 // Group 7: the code of a MODIFY, 0 if accepted.
 fn modify_code(places: u64, place: Place, attr: u64, payload: &[u8]) -> u32
-    ensures code { λ r. ⌜ ((L : Limits) (s : State) → L .places ≡ places → getD (s .adapters) (payloadId (now (payload .entry))) free ≡ placeOf place → request L s adapterModify attr (now (payload .entry)) ≡ decided r (withPlace (payloadId (now (payload .entry))) (placeAfter 7 (now (payload .entry)) (placeOf place)) s)) ⌝ }
+    ensures code { λ r. ⌜ DecidesPlace 7 places place attr (now (payload .entry)) r ⌝ }
     ensures asked { λ r. ⌜ (r ≡ 0 → PlaceAsked 7 (now (payload .entry)) place) ⌝ }
 {
     if attr != 0 {
@@ -136,7 +138,8 @@ fn modify_code(places: u64, place: Place, attr: u64, payload: &[u8]) -> u32
 // The code of a request about an adapter's place, 0 if accepted.
 pub fn place_code(places: u64, place: Place, group: u32, attr: u64, payload: &[u8]) -> u32
     requires { ⌜ onPlace group ≡ true ⌝ }
-    ensures { λ r. ⌜ ((L : Limits) (s : State) → L .places ≡ places → getD (s .adapters) (payloadId (now (payload .entry))) free ≡ placeOf place → request L s (setRequest group) attr (now (payload .entry)) ≡ decided r (withPlace (payloadId (now (payload .entry))) (placeAfter group (now (payload .entry)) (placeOf place)) s)) × (r ≡ 0 → PlaceAsked group (now (payload .entry)) place) ⌝ }
+    ensures { λ r. ⌜ DecidesPlace group places place attr (now (payload .entry)) r
+        × (r ≡ 0 → PlaceAsked group (now (payload .entry)) place) ⌝ }
 {
     if group == ADAPTER_REGISTER {
         return register_code(places, place, attr, payload);
@@ -147,7 +150,8 @@ pub fn place_code(places: u64, place: Place, group: u32, attr: u64, payload: &[u
 // The place after an accepted request about it.
 pub fn place_after(place: Place, group: u32, payload: &[u8]) -> Place
     requires { ⌜ PlaceAsked group (now payload) place ⌝ }
-    ensures { λ r. ⌜ (placeOf r ≡ placeAfter group (now (payload .entry)) (placeOf place)) × (Canonical place → Canonical r) × (onPlace group ≡ true → Within (changeOf group) place r) ⌝ }
+    ensures { λ r. ⌜ (placeOf r ≡ placeAfter group (now (payload .entry)) (placeOf place))
+        × (Canonical place → Canonical r) × (onPlace group ≡ true → Within (changeOf group) place r) ⌝ }
 {
     if group == ADAPTER_REGISTER {
         return adapters::registered(
@@ -165,7 +169,7 @@ pub fn place_after(place: Place, group: u32, payload: &[u8]) -> Place
 
 // Group 9: the code of an AISM, 0 if accepted.
 fn mode_code(ais: bool, attr: u64, payload: &[u8]) -> u32
-    ensures code { λ r. ⌜ ((L : Limits) (s : State) → s .ais ≡ ais → request L s aism attr (now (payload .entry)) ≡ decided r (withDevice (modesAfter 9 (now (payload .entry)) (s .device)) s)) ⌝ }
+    ensures code { λ r. ⌜ DecidesModes 9 ais attr (now (payload .entry)) r ⌝ }
     ensures asked { λ r. ⌜ (r ≡ 0 → ModesAsked 9 (now (payload .entry))) ⌝ }
 {
     if attr != 0 {
@@ -188,7 +192,7 @@ fn mode_code(ais: bool, attr: u64, payload: &[u8]) -> u32
 
 // Group 11, set: the code, 0 if accepted.
 fn masks_code(ais: bool, attr: u64, payload: &[u8]) -> u32
-    ensures code { λ r. ⌜ ((L : Limits) (s : State) → s .ais ≡ ais → request L s setAismAll attr (now (payload .entry)) ≡ decided r (withDevice (modesAfter 11 (now (payload .entry)) (s .device)) s)) ⌝ }
+    ensures code { λ r. ⌜ DecidesModes 11 ais attr (now (payload .entry)) r ⌝ }
     ensures asked { λ r. ⌜ (r ≡ 0 → ModesAsked 11 (now (payload .entry))) ⌝ }
 {
     if attr != 0 {
@@ -205,7 +209,9 @@ fn masks_code(ais: bool, attr: u64, payload: &[u8]) -> u32
 
 // Groups 4 and 5: the code, 0 if accepted.
 fn flag_code(attr: u64) -> u32
-    ensures { λ r. ⌜ ((L : Limits) (s : State) (b : List ℕ) → (request L s apfEnable attr b ≡ decided r (withDevice (modesAfter 4 b (s .device)) s)) × (request L s apfDisableWait attr b ≡ decided r (withDevice (modesAfter 5 b (s .device)) s))) ⌝ }
+    ensures { λ r. ⌜ ((L : Limits) (s : State) (b : List ℕ)
+        → (request L s apfEnable attr b ≡ decided r (withDevice (modesAfter 4 b (s .device)) s))
+        × (request L s apfDisableWait attr b ≡ decided r (withDevice (modesAfter 5 b (s .device)) s))) ⌝ }
 {
     if attr != 0 {
         return EINVAL;
@@ -215,8 +221,10 @@ fn flag_code(attr: u64) -> u32
 
 // The code of a request about the device record, 0 if accepted. A group that is no request is refused here.
 pub fn modes_code(ais: bool, group: u32, attr: u64, payload: &[u8]) -> u32
-    requires { ⌜ (group ≡ 2 → ⊥) × (group ≡ 3 → ⊥) × (group ≡ 8 → ⊥) × (group ≡ 10 → ⊥) × (onPlace group ≡ false) ⌝ }
-    ensures { λ r. ⌜ ((L : Limits) (s : State) → s .ais ≡ ais → request L s (setRequest group) attr (now (payload .entry)) ≡ decided r (withDevice (modesAfter group (now (payload .entry)) (s .device)) s)) × (r ≡ 0 → ModesAsked group (now (payload .entry))) ⌝ }
+    requires { ⌜ (group ≡ 2 → ⊥) × (group ≡ 3 → ⊥) × (group ≡ 8 → ⊥) × (group ≡ 10 → ⊥)
+        × (onPlace group ≡ false) ⌝ }
+    ensures { λ r. ⌜ DecidesModes group ais attr (now (payload .entry)) r
+        × (r ≡ 0 → ModesAsked group (now (payload .entry))) ⌝ }
 {
     if group == APF_ENABLE {
         return flag_code(attr);
@@ -241,7 +249,8 @@ pub struct Mode {
 
 pub fn mode_in(payload: &[u8]) -> Mode
     requires { ⌜ 4 ≤ length (now payload) ⌝ }
-    ensures { λ r. ⌜ (r .isc .0 ≡ byte 0 (now (payload .entry))) × (r .single ≡ eqb (field 2 2 (now (payload .entry))) 1) ⌝ }
+    ensures { λ r. ⌜ (r .isc .0 ≡ byte 0 (now (payload .entry)))
+        × (r .single ≡ eqb (field 2 2 (now (payload .entry))) 1) ⌝ }
 {
     Mode {
         isc: Subclass(payload[0]),
@@ -283,7 +292,8 @@ pub fn modes_after(device: Device, group: u32, payload: &[u8]) -> Device
 
 // Group 11, get: both masks.
 pub fn get_masks(ais: bool, device: Device, attr: u64, out: &mut [u8]) -> Answer
-    ensures answer { λ r. ⌜ ((L : Limits) (s : State) → s .ais ≡ ais → s .device ≡ deviceOf device → Answers L s (now (out .entry)) (request L s getAismAll attr (now (out .entry))) r s (now (out .exit))) ⌝ }
+    ensures answer { λ r. ⌜ ((L : Limits) (s : State) → s .ais ≡ ais → s .device ≡ deviceOf device
+        → Answers L s (now (out .entry)) (request L s getAismAll attr (now (out .entry))) r s (now (out .exit))) ⌝ }
     ensures kept { λ r. ⌜ ((r .code ≡ 0 → ⊥) → now (out .exit) ≡ now (out .entry)) ⌝ }
 {
     if attr != 0 {
@@ -311,7 +321,9 @@ pub fn set_values(
     payload: &[u8],
 ) -> Reply
     requires { ⌜ (group ≡ 2 → ⊥) × (group ≡ 3 → ⊥) × (group ≡ 8 → ⊥) × (group ≡ 10 → ⊥) ⌝ }
-    ensures { λ r. ⌜ ((room : ℕ) → Replied places room ais device place (aboutOf group attr (now (payload .entry))) (now (payload .entry)) (λ L s. request L s (setRequest group) attr (now (payload .entry))) (changeOf group) r) ⌝ }
+    ensures { λ r. ⌜ ((room : ℕ)
+        → Replied places room ais device place (aboutOf group attr (now (payload .entry))) (now (payload .entry))
+        (λ L s. request L s (setRequest group) attr (now (payload .entry))) (changeOf group) r) ⌝ }
 {
     if on_place(group) {
         let code = place_code(places, place, group, attr, payload);

@@ -1,21 +1,18 @@
 -- Laws on the bits of a mask and on places.
-use Rattle.numbers.proofs.Basics.{ℕ, zero, suc, _+_, _≤_, _<_, _≡_, refl, Bool, true, false, arith, eqb-true}
-use Rattle.numbers.proofs.Basics.{eqb-false}
+use Rattle.numbers.proofs.{Basics.ℕ, Basics._+_, Basics._≤_, Basics._<_, Basics._≡_, Basics.refl, Basics.Bool, Basics.true, Basics.false, Basics.arith, Basics.eqb-true, Basics.eqb-false, Laws.each-subclass}
 use Rattle.rules.specs.{Bytes.choose, State.free, State.holds, State.bit, State.hasBit}
 use Rattle.adapters.specs.{declared.Place.Place, Values.adapterOf, Values.placeOf}
 
 -- a bit that is not set has room in a byte, and one that is set is at most the mask: by the eight subclasses
 pub bit-room : (n m : ℕ) → n ≤ 7 → m < 256 → (hasBit n m ≡ false → m + bit n < 256) × (hasBit n m ≡ true → bit n ≤ m)
 unfolding hasBit
-bit-room zero m h l = (λ e. omega (arith, eqb-false), λ e. omega (arith, eqb-true))
-bit-room (suc zero) m h l = (λ e. omega (arith, eqb-false), λ e. omega (arith, eqb-true))
-bit-room (suc (suc zero)) m h l = (λ e. omega (arith, eqb-false), λ e. omega (arith, eqb-true))
-bit-room (suc (suc (suc zero))) m h l = (λ e. omega (arith, eqb-false), λ e. omega (arith, eqb-true))
-bit-room (suc (suc (suc (suc zero)))) m h l = (λ e. omega (arith, eqb-false), λ e. omega (arith, eqb-true))
-bit-room (suc (suc (suc (suc (suc zero))))) m h l = (λ e. omega (arith, eqb-false), λ e. omega (arith, eqb-true))
-bit-room (suc (suc (suc (suc (suc (suc zero)))))) m h l = (λ e. omega (arith, eqb-false), λ e. omega (arith, eqb-true))
-bit-room (suc (suc (suc (suc (suc (suc (suc zero))))))) m h l = (λ e. omega (arith, eqb-false), λ e. omega (arith, eqb-true))
-bit-room (suc (suc (suc (suc (suc (suc (suc (suc n)))))))) m h l = absurd (omega arith)
+bit-room n m h l =
+    each-subclass (λ n. (hasBit n m ≡ false → m + bit n < 256) × (hasBit n m ≡ true → bit n ≤ m))
+    (λ e. omega (arith, eqb-false), λ e. omega (arith, eqb-true)) (λ e. omega (arith, eqb-false), λ e. omega (arith, eqb-true))
+    (λ e. omega (arith, eqb-false), λ e. omega (arith, eqb-true)) (λ e. omega (arith, eqb-false), λ e. omega (arith, eqb-true))
+    (λ e. omega (arith, eqb-false), λ e. omega (arith, eqb-true)) (λ e. omega (arith, eqb-false), λ e. omega (arith, eqb-true))
+    (λ e. omega (arith, eqb-false), λ e. omega (arith, eqb-true)) (λ e. omega (arith, eqb-false), λ e. omega (arith, eqb-true))
+    n h
 
 pub place-used : (p : Place) → p .used ≡ true → placeOf p ≡ holds (adapterOf p)
 unfolding placeOf choose

@@ -3,7 +3,8 @@ ghost use mathlib.Core.Path.{_≡_};
 ghost use mathlib.Core.Bool.{true, false};
 ghost use Prim.Native.Nat.{_<_, _≤_};
 ghost use Rattle.rules.specs.State.{free, holds, bit, hasBit, withBit, withoutBit};
-ghost use Rattle.adapters.specs.Values.{placeOf, deviceOf, Canonical, maskedAs, modeSet, underAis, injectionOf, injectedDevice, withMasked};
+ghost use Rattle.adapters.specs.Values.{placeOf, deviceOf, Canonical, maskedAs, withMasked, modeSet};
+ghost use Rattle.adapters.specs.Values.{underAis, injectionOf, injectedDevice};
 use numbers::Subclass;
 
 // The masks and the page-fault flag.
@@ -25,6 +26,7 @@ pub struct Place {
     pub masked: bool,
 }
 
+// The device record of a fresh controller.
 pub fn fresh_device() -> Device
     ensures { λ r. ⌜ r ≡ record { simm = 0; nimm = 0; apf = false } ⌝ }
 {
@@ -35,8 +37,8 @@ pub fn fresh_device() -> Device
     }
 }
 
-// Copies the device record field by field. A copy of the whole reads bytes that were just written one by one as a wider
-// word, and waits.
+// Copies the device record field by field. A copy of the whole record would read bytes that were just written one by
+// one as one wider word, and would have to wait for them.
 pub fn by_fields(d: Device) -> Device
     ensures { λ r. ⌜ r ≡ d ⌝ }
 {
@@ -47,6 +49,7 @@ pub fn by_fields(d: Device) -> Device
     }
 }
 
+// A place that no adapter has.
 pub fn free_place() -> Place
     ensures { λ r. ⌜ placeOf r ≡ free ⌝ }
     ensures canonical { λ r. ⌜ Canonical r ⌝ }
@@ -69,6 +72,7 @@ pub fn bit_of(isc: Subclass) -> u8
     1 << (7 - isc.0)
 }
 
+// Whether a mask has the bit of a subclass.
 pub fn has_bit(isc: Subclass, mask: u8) -> bool
     requires { ⌜ isc .0 ≤ 7 ⌝ }
     ensures { λ r. ⌜ r ≡ hasBit (isc .0) mask ⌝ }
@@ -76,6 +80,7 @@ pub fn has_bit(isc: Subclass, mask: u8) -> bool
     mask / bit_of(isc) % 2 == 1
 }
 
+// A mask with the bit of a subclass set.
 pub fn with_bit(isc: Subclass, mask: u8) -> u8
     requires { ⌜ isc .0 ≤ 7 ⌝ }
     ensures { λ r. ⌜ r ≡ withBit (isc .0) mask ⌝ }
@@ -86,6 +91,7 @@ pub fn with_bit(isc: Subclass, mask: u8) -> u8
     mask + bit_of(isc)
 }
 
+// A mask with the bit of a subclass cleared.
 pub fn without_bit(isc: Subclass, mask: u8) -> u8
     requires { ⌜ isc .0 ≤ 7 ⌝ }
     ensures { λ r. ⌜ r ≡ withoutBit (isc .0) mask ⌝ }
@@ -138,7 +144,13 @@ pub fn apf_set(d: Device, on: bool) -> Device
 
 // A new adapter, unmasked.
 pub fn registered(isc: Subclass, maskable: bool, swap: bool, suppressible: bool) -> Place
-    ensures { λ r. ⌜ placeOf r ≡ holds (record { isc = isc .0; maskable = maskable; swap = swap; suppressible = suppressible; masked = false }) ⌝ }
+    ensures { λ r. ⌜ placeOf r ≡ holds (record {
+      isc = isc .0;
+      maskable = maskable;
+      swap = swap;
+      suppressible = suppressible;
+      masked = false;
+    }) ⌝ }
     ensures canonical { λ r. ⌜ (isc .0 ≤ 7 → Canonical r) ⌝ }
 {
     let masked = false;
@@ -198,6 +210,7 @@ fn under_ais(ais: bool, p: Place, mask: u8) -> bool
     false
 }
 
+// What an injection for the adapter of a place comes to. `full` says whether the nine queues are full.
 pub fn inject(ais: bool, d: Device, p: Place, full: bool) -> Injection
     requires { ⌜ p .isc .0 ≤ 7 ⌝ }
     ensures { λ r. ⌜ r ≡ injectionOf ais d p full ⌝ }

@@ -8,7 +8,8 @@ use lib.Dec.{eqb}
 use Rattle.rules.specs.State.{Limits, State, fresh}
 use Rattle.rules.specs.Outcome.{refuse}
 use Rattle.rules.specs.Requests.{isZero}
-use Rattle.rules.specs.MoveList.{headerBytes, tableEntryBytes, countIn, payloadOffset, TableEntry, tableEntryIn, tableEntriesIn, movable, formed, requestsIn, applies, mostRequests, plays}
+use Rattle.rules.specs.MoveList.{headerBytes, tableEntryBytes, countIn, payloadOffset, TableEntry, tableEntryIn}
+use Rattle.rules.specs.MoveList.{tableEntriesIn, movable, formed, requestsIn, applies, mostRequests, plays}
 
 -- the table entry at a place, counted from 0; all table entries
 abbrev pub slotAt : ℕ → List ℕ → TableEntry

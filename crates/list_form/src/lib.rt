@@ -4,7 +4,8 @@ ghost use mathlib.Core.Bool.{_&&_};
 ghost use Prim.Native.Nat.{_+_, _*_, _≤_, _<_};
 ghost use lib.ListN.{length, drop};
 ghost use lib.Dec.{leb, eqb};
-ghost use Rattle.rules.specs.MoveList.{oneIf, headerBytes, tableEntryBytes, tableOffsetIn, payloadOffsetIn, payloadOffset, tableEntriesIn, movable, formed, mostRequests};
+ghost use Rattle.rules.specs.MoveList.{oneIf, headerBytes, tableEntryBytes, tableOffsetIn, payloadOffsetIn};
+ghost use Rattle.rules.specs.MoveList.{payloadOffset, tableEntriesIn, movable, formed, mostRequests};
 ghost use Rattle.list_form.specs.Form.{slotAt, slotFormed, Form};
 use answers::E2BIG;
 use answers::EFAULT;
@@ -12,13 +13,14 @@ use answers::EINVAL;
 use answers::EOPNOTSUPP;
 use numbers::MOST_REQUESTS;
 
+// 1 if it holds, else 0.
 pub fn flag_of(on: bool) -> u64
     ensures { λ r. ⌜ (r ≡ oneIf on) × (r ≤ 1) ⌝ }
 {
     if on { 1 } else { 0 }
 }
 
-// Group 2, 4, 6, 7 or 11.
+// Whether a list may hold a request of this group: 2, 4, 6, 7 or 11.
 fn is_movable(group: u64) -> bool
     ensures { λ r. ⌜ r ≡ movable group ⌝ }
 {
@@ -37,7 +39,7 @@ fn is_movable(group: u64) -> bool
     group == 11
 }
 
-// The table entry at a place has its payload at this offset, a zero word and a group that may be moved.
+// Whether the table entry at a place has its payload at this offset, a zero word and a group that may be moved.
 fn slot_formed(list: &[u8], place: usize, at: u64) -> bool
     requires { ⌜ (place < mostRequests) × (headerBytes + tableEntryBytes * (place + 1) ≤ length (now list)) ⌝ }
     ensures { λ r. ⌜ r ≡ slotFormed at (slotAt place (now (list .entry))) ⌝ }
@@ -52,10 +54,11 @@ fn slot_formed(list: &[u8], place: usize, at: u64) -> bool
     is_movable(numbers::read_be(list, e + 4, 4))
 }
 
-// Entry by entry, and the last end.
+// Whether every table entry is well formed and the last payload ends where the list ends.
 fn slots_formed(list: &[u8], count: usize) -> bool
     requires { ⌜ (count ≤ mostRequests) × (payloadOffset count ≤ length (now list)) ⌝ }
-    ensures { λ r. ⌜ r ≡ formed (length (now (list .entry))) (payloadOffset count) (tableEntriesIn count (drop headerBytes (now (list .entry)))) ⌝ }
+    ensures { λ r. ⌜ r ≡ formed (length (now (list .entry))) (payloadOffset count)
+        (tableEntriesIn count (drop headerBytes (now (list .entry)))) ⌝ }
 {
     let mut at = (20 + 24 * count) as u64;
     let mut i = 0;
@@ -69,10 +72,12 @@ fn slots_formed(list: &[u8], count: usize) -> bool
     at == list.len() as u64
 }
 
-// Both offsets are what the count says, and the payload offset is not above the total.
+// Whether both offsets are what the count says and the payload offset is not above the total.
 fn offsets(list: &[u8], count: u64) -> bool
     requires { ⌜ (headerBytes ≤ length (now list)) × (count ≤ mostRequests) ⌝ }
-    ensures { λ r. ⌜ r ≡ (eqb (tableOffsetIn (now (list .entry))) headerBytes && (eqb (payloadOffsetIn (now (list .entry))) (payloadOffset count) && leb (payloadOffsetIn (now (list .entry))) (length (now (list .entry))))) ⌝ }
+    ensures { λ r. ⌜ r ≡ (eqb (tableOffsetIn (now (list .entry))) headerBytes
+        && (eqb (payloadOffsetIn (now (list .entry))) (payloadOffset count)
+        && leb (payloadOffsetIn (now (list .entry))) (length (now (list .entry))))) ⌝ }
 {
     if numbers::read_be(list, 8, 4) != 20 {
         return false;
@@ -84,7 +89,7 @@ fn offsets(list: &[u8], count: u64) -> bool
     start <= list.len() as u64
 }
 
-// The checks of a list's form and of the capability, in order.
+// The code of a list by its form and by the capability, 0 if both are good.
 pub fn form(list: &[u8], ais: bool) -> u32
     ensures { λ r. ⌜ Form ais (now (list .entry)) r ⌝ }
 {

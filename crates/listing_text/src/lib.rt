@@ -7,7 +7,8 @@ ghost use Rattle.rules.specs.Bytes.{part};
 ghost use Rattle.rules.specs.State.{listing};
 ghost use Rattle.rules.specs.Requests.{recordsIn};
 ghost use Rattle.store_queues.specs.Slots.{mostPending};
-ghost use Rattle.rules.specs.Listing.{ascii, digit, digits, digitCount, decimal, hex8, line, recordLine, linesFrom, shown, refusal, printed};
+ghost use Rattle.rules.specs.Listing.{ascii, digit, digits, digitCount, decimal, hex8, line, recordLine};
+ghost use Rattle.rules.specs.Listing.{linesFrom, shown, refusal, printed};
 ghost use Rattle.store_queues.specs.Queues.{Held};
 ghost use Rattle.listing_text.specs.Wrote.{Wrote};
 ghost use Rattle.store.specs.Lent.{before};
@@ -39,6 +40,7 @@ fn append(out: &mut [u8], at: usize, s: &[u8]) -> usize
     at + i
 }
 
+// The character of a digit.
 fn letter(d: u64) -> u8
     requires { ⌜ d < 16 ⌝ }
     ensures { λ r. ⌜ r ≡ digit d ⌝ }
@@ -77,7 +79,8 @@ fn decimal_size(v: u64) -> usize
 // Writes a number in decimal, and what comes after it.
 fn write_decimal(out: &mut [u8], at: usize, v: u64, then: &[u8]) -> usize
     requires { ⌜ at + digitCount v v + length (now then) ≤ length (now out) ⌝ }
-    ensures { λ r. ⌜ Wrote (now (out .entry)) (now (out .exit)) at (decimal v ++ now (then .entry)) r × (r ≡ at + digitCount v v + length (now (then .entry))) ⌝ }
+    ensures { λ r. ⌜ Wrote (now (out .entry)) (now (out .exit)) at (decimal v ++ now (then .entry)) r
+        × (r ≡ at + digitCount v v + length (now (then .entry))) ⌝ }
 {
     let n = decimal_size(v);
     let i = spell(out, at, 10, n, v);
@@ -87,7 +90,8 @@ fn write_decimal(out: &mut [u8], at: usize, v: u64, then: &[u8]) -> usize
 // Writes a number as eight hex digits, and what comes after it.
 fn write_hex8(out: &mut [u8], at: usize, v: u64, then: &[u8]) -> usize
     requires { ⌜ at + 8 + length (now then) ≤ length (now out) ⌝ }
-    ensures { λ r. ⌜ Wrote (now (out .entry)) (now (out .exit)) at (hex8 v ++ now (then .entry)) r × (r ≡ at + 8 + length (now (then .entry))) ⌝ }
+    ensures { λ r. ⌜ Wrote (now (out .entry)) (now (out .exit)) at (hex8 v ++ now (then .entry)) r
+        × (r ≡ at + 8 + length (now (then .entry))) ⌝ }
 {
     let i = spell(out, at, 16, 8, v);
     append(out, i, then)
@@ -96,7 +100,8 @@ fn write_hex8(out: &mut [u8], at: usize, v: u64, then: &[u8]) -> usize
 // A line of a word and a number.
 fn write_number(out: &mut [u8], word: &[u8], v: u64) -> usize
     requires { ⌜ length (now word) + 22 ≤ length (now out) ⌝ }
-    ensures { λ r. ⌜ Wrote (now (out .entry)) (now (out .exit)) 0 (line (now (word .entry) ∷ decimal v ∷ [])) r × (r ≤ length (now (word .entry)) + 22) ⌝ }
+    ensures { λ r. ⌜ Wrote (now (out .entry)) (now (out .exit)) 0 (line (now (word .entry) ∷ decimal v ∷ [])) r
+        × (r ≤ length (now (word .entry)) + 22) ⌝ }
 {
     let i = append(out, 0, word);
     let j = append(out, i, b" ");
@@ -106,7 +111,8 @@ fn write_number(out: &mut [u8], word: &[u8], v: u64) -> usize
 // What follows the place of an I/O record: kind, subclass, type and word.
 fn write_io(out: &mut [u8], at: usize, isc: Subclass, t: u64, w: u64) -> usize
     requires { ⌜ (isc .0 < 8) × (at + 23 ≤ length (now out)) ⌝ }
-    ensures { λ r. ⌜ Wrote (now (out .entry)) (now (out .exit)) at (line (ascii "io" ∷ decimal (isc .0) ∷ hex8 t ∷ hex8 w ∷ [])) r × (r ≡ at + 23) ⌝ }
+    ensures { λ r. ⌜ Wrote (now (out .entry)) (now (out .exit)) at
+        (line (ascii "io" ∷ decimal (isc .0) ∷ hex8 t ∷ hex8 w ∷ [])) r × (r ≡ at + 23) ⌝ }
 {
     let i = append(out, at, b"io ");
     let j = write_decimal(out, i, numbers::subclass_byte(isc), b" ");
@@ -117,7 +123,9 @@ fn write_io(out: &mut [u8], at: usize, isc: Subclass, t: u64, w: u64) -> usize
 // The same for a record of another kind: no subclass and no word.
 fn write_other(out: &mut [u8], at: usize, name: &[u8], t: u64) -> usize
     requires { ⌜ at + length (now name) + 14 ≤ length (now out) ⌝ }
-    ensures { λ r. ⌜ Wrote (now (out .entry)) (now (out .exit)) at (line (now (name .entry) ∷ ascii "-" ∷ hex8 t ∷ ascii "-" ∷ [])) r × (r ≡ at + length (now (name .entry)) + 14) ⌝ }
+    ensures { λ r. ⌜ Wrote (now (out .entry)) (now (out .exit)) at
+        (line (now (name .entry) ∷ ascii "-" ∷ hex8 t ∷ ascii "-" ∷ [])) r
+        × (r ≡ at + length (now (name .entry)) + 14) ⌝ }
 {
     let i = append(out, at, name);
     let j = append(out, i, b" - ");
@@ -127,7 +135,8 @@ fn write_other(out: &mut [u8], at: usize, name: &[u8], t: u64) -> usize
 // The line of the record at index from of b, which is listed at a place.
 fn write_record(out: &mut [u8], at: usize, place: u64, b: &[u8], from: usize) -> usize
     requires { ⌜ (digitCount place place ≤ 3) × (from + 72 ≤ length (now b)) × (at + 27 ≤ length (now out)) ⌝ }
-    ensures { λ r. ⌜ Wrote (now (out .entry)) (now (out .exit)) at (recordLine place (part from 72 (now (b .entry)))) r × (r ≤ at + 27) ⌝ }
+    ensures { λ r. ⌜ Wrote (now (out .entry)) (now (out .exit)) at
+        (recordLine place (part from 72 (now (b .entry)))) r × (r ≤ at + 27) ⌝ }
 {
     let i = write_decimal(out, at, place, b" ");
     let t = numbers::read_be(b, from, 8);
@@ -166,7 +175,8 @@ pub fn write_pending(
     out: &mut [u8; TEXT_BYTES],
 ) -> usize
     requires { ⌜ Held (now order) (now counts) ⌝ }
-    ensures { λ r. ⌜ Wrote (now (out .entry)) (now (out .exit)) 0 (shown (listing (before order counts slots singles))) r ⌝ }
+    ensures { λ r. ⌜ Wrote (now (out .entry)) (now (out .exit)) 0
+        (shown (listing (before order counts slots singles))) r ⌝ }
 {
     let mut records = [0u8; LISTING_BYTES];
     let n = record_take::pending_whole(slots, order, counts, singles);
@@ -188,7 +198,8 @@ pub const MOST_BYTES: usize = 65536;
 // Plays the list in input on a fresh controller of its flag. Writes the listing, or the refusal, from the start of out,
 // and answers the length of the text.
 pub fn print_list(input: &[u8], out: &mut [u8; TEXT_BYTES]) -> usize
-    ensures text { λ r. ⌜ (r ≡ length (printed (now (input .entry)))) × (now (out .exit) ≡ printed (now (input .entry)) ++ drop r (now (out .entry))) ⌝ }
+    ensures text { λ r. ⌜ (r ≡ length (printed (now (input .entry))))
+        × (now (out .exit) ≡ printed (now (input .entry)) ++ drop r (now (out .entry))) ⌝ }
     ensures fits { λ r. ⌜ (r ≤ length (now (out .exit))) × (r ≡ length (take r (now (out .exit)))) ⌝ }
 {
     if MOST_BYTES < input.len() {

@@ -15,7 +15,7 @@ use Rattle.store_singles.specs.Singles.{serviceOf, mchkOf}
 use Rattle.numbers.specs.declared.Subclass.{Subclass}
 use Rattle.answers.specs.{declared.Answer.Answer, Answers.Answers, Answers.answered}
 use Rattle.answers.proofs.Laws.{refused, accepted}
-use Rattle.record_add.specs.{declared.Kind.Kind, declared.Kind.the-variants.Io, declared.Kind.the-variants.Done, declared.Kind.the-variants.Service, declared.Kind.the-variants.MachineCheck, declared.Kind.the-variants.Other, declared.Checked.Checked, declared.Checked.the-variants.Good, declared.Checked.the-variants.BadAt, Cases.asCase, Cases.kindOf, Cases.checkFrom, Cases.answerTo}
+use Rattle.record_add.specs.{declared.Kind.Kind, declared.Kind.the-variants.Io, declared.Kind.the-variants.Done, declared.Kind.the-variants.Service, declared.Kind.the-variants.MachineCheck, declared.Kind.the-variants.Other, declared.Checked.Checked, declared.Checked.the-variants.Good, declared.Checked.the-variants.BadAt, Cases.asCase, Cases.kindCase, Cases.checkFrom, Cases.answerTo}
 use Rattle.record_add.proofs.Kind.{the-type}
 use Rattle.store.specs.Memory.{pendingOf}
 
@@ -41,7 +41,7 @@ kind-known rules.Kind.mchk isc r e = rw e
 kind-known rules.Kind.other isc r e = rw e
 
 -- a case that the code found tells the kind, and of an I/O record the subclass
-pub io-told : (r : Record) (k : Kind) (s : Subclass) → k ≡ kindOf r → k ≡ Io s → (kind r ≡ rules.Kind.io) × (s .0 ≡ subclass r) × (s .0 < 8)
+pub io-told : (r : Record) (k : Kind) (s : Subclass) → k ≡ kindCase r → k ≡ Io s → (kind r ≡ rules.Kind.io) × (s .0 ≡ subclass r) × (s .0 < 8)
 unfolding asCase subclass
 io-told r k s e f =
     let g : kind r ≡ rules.Kind.io = kind-known (kind r) (subclass r) k e ∙ ap kindFor f in

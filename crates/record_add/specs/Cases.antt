@@ -22,11 +22,11 @@ asCase rules.Kind.service isc = Service
 asCase rules.Kind.mchk isc = MachineCheck
 asCase rules.Kind.other isc = Other
 
-abbrev pub kindOf : Record → Kind
-kindOf r = asCase (kind r) (subclass r)
+abbrev pub kindCase : Record → Kind
+kindCase r = asCase (kind r) (subclass r)
 
--- 01, group 2: every record has an accepted type, and so many of them go to a queue; or the index of the first record
--- of another type
+-- 01, group 2: the check of records from a place on, after n that go to a queue. Either every record has an accepted
+-- type, and the result is how many go to a queue; or it is the index of the first record of another type.
 unfoldable pub checkFrom : ℕ → ℕ → List Record → Checked
 checkFrom place n [] = Good n
 checkFrom place n (r ∷ rs) =

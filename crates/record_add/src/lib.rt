@@ -10,7 +10,7 @@ ghost use Rattle.store_queues.specs.Slots.{slotCount};
 ghost use Rattle.store_queues.specs.Queues.{total, Held};
 ghost use Rattle.answers.specs.Answers.{Answers};
 ghost use Rattle.store.specs.Memory.{pendingOf};
-ghost use Rattle.record_add.specs.Cases.{kindOf, checkFrom, answerTo};
+ghost use Rattle.record_add.specs.Cases.{kindCase, checkFrom, answerTo};
 ghost use Rattle.store.specs.Lent.{before, after, HeldAfter, Stays};
 use answers::Answer;
 use answers::EBUSY;
@@ -23,7 +23,7 @@ use numbers::SINGLES_BYTES;
 use numbers::SLOT_BYTES;
 use numbers::Subclass;
 
-// What kind of record there is, with the subclass of an I/O record.
+// The kind of a record, with the subclass of an I/O record.
 pub enum Kind {
     Io(Subclass),
     Done,
@@ -32,6 +32,7 @@ pub enum Kind {
     Other,
 }
 
+// The subclass of the I/O record at index at of b.
 fn subclass_at(b: &[u8], at: usize) -> Subclass
     requires { ⌜ at + 72 ≤ length (now b) ⌝ }
     ensures { λ r. ⌜ r ≡ record { 0 = subclass (part at 72 (now (b .entry))) } ⌝ }
@@ -43,7 +44,7 @@ fn subclass_at(b: &[u8], at: usize) -> Subclass
 // The kind of the record at index at of b.
 pub fn kind_at(b: &[u8], at: usize) -> Kind
     requires { ⌜ at + 72 ≤ length (now b) ⌝ }
-    ensures { λ r. ⌜ r ≡ kindOf (part at 72 (now (b .entry))) ⌝ }
+    ensures { λ r. ⌜ r ≡ kindCase (part at 72 (now (b .entry))) ⌝ }
 {
     let t = numbers::read_doubleword(b, at);
     if t <= 0xfffd_ffff {
@@ -61,8 +62,8 @@ pub fn kind_at(b: &[u8], at: usize) -> Kind
     Kind::Other
 }
 
-// Every record has an accepted type, and so many of them go to a queue; or the index of the first record of another
-// type.
+// What a check of records found. Good: every record has an accepted type, and this many of them go to a queue. BadAt:
+// the index of the first record of another type.
 pub enum Checked {
     Good(usize),
     BadAt(usize),
@@ -90,7 +91,7 @@ pub fn check(b: &[u8], n: usize) -> Checked
     Checked::Good(wanted)
 }
 
-// The answer to the first n records of b, where so many are queued.
+// The answer to an ENQUEUE of the first n records of b. `queued` records are queued before it.
 fn answer_to(b: &[u8], n: usize, queued: usize, room: usize) -> Answer
     requires { ⌜ (n * 72 ≤ enqueueBytes) × (n * 72 ≤ length (now b)) × (queued ≤ slotCount) ⌝ }
     ensures { λ r. ⌜ r ≡ answerTo (checkFrom 0 0 (recordsIn n (now (b .entry)))) n queued room ⌝ }
@@ -104,7 +105,7 @@ fn answer_to(b: &[u8], n: usize, queued: usize, room: usize) -> Answer
     answers::accept(n as u64)
 }
 
-// Adds the record at index `at` of b, where so many are queued, and answers how many are then.
+// Adds the record at index `at` of b. `queued` records are queued before; the answer is how many are queued after.
 fn add_one(
     slots: &mut [u8; SLOT_BYTES],
     order: &mut [u8; ORDER_BYTES],
@@ -114,11 +115,15 @@ fn add_one(
     at: usize,
     queued: usize,
 ) -> usize
-    requires { ⌜ (at + 72 ≤ length (now b)) × (queued ≡ total (now counts)) × Held (now order) (now counts) × (total (now counts) + wants (kind (part at 72 (now b))) ≤ slotCount) ⌝ }
-    ensures pending { λ _. ⌜ after order counts slots singles ≡ add (part at 72 (now (b .entry))) (before order counts slots singles) ⌝ }
-    ensures held { λ r. ⌜ HeldAfter order counts × (r ≡ total (now (counts .exit))) × (r ≡ queued + wants (kind (part at 72 (now (b .entry))))) ⌝ }
+    requires { ⌜ (at + 72 ≤ length (now b)) × (queued ≡ total (now counts)) × Held (now order) (now counts)
+        × (total (now counts) + wants (kind (part at 72 (now b))) ≤ slotCount) ⌝ }
+    ensures pending { λ _. ⌜ after order counts slots singles
+        ≡ add (part at 72 (now (b .entry))) (before order counts slots singles) ⌝ }
+    ensures held { λ r. ⌜ HeldAfter order counts × (r ≡ total (now (counts .exit)))
+        × (r ≡ queued + wants (kind (part at 72 (now (b .entry))))) ⌝ }
 {
-    // Loaded in each case: loaded before the match, the merge of a machine check would split the copy for every kind.
+    // The record is loaded in each case. If it were loaded before the match, the merge of a machine check would split
+    // the copy into bytes for every kind.
     match kind_at(b, at) {
         Kind::Io(isc) => {
             store_queues::append(
@@ -154,7 +159,7 @@ fn add_one(
     }
 }
 
-// Adds the first n records of b in order, where so many are queued.
+// Adds the first n records of b in order. `queued` records are queued before.
 fn add_all(
     slots: &mut [u8; SLOT_BYTES],
     order: &mut [u8; ORDER_BYTES],
@@ -164,8 +169,10 @@ fn add_all(
     n: usize,
     queued: usize,
 )
-    requires { ⌜ (n * 72 ≤ enqueueBytes) × (n * 72 ≤ length (now b)) × (queued ≡ total (now counts)) × Held (now order) (now counts) × (total (now counts) + allWant (recordsIn n (now b)) ≤ slotCount) ⌝ }
-    ensures pending { λ _. ⌜ after order counts slots singles ≡ addAll (recordsIn n (now (b .entry))) (before order counts slots singles) ⌝ }
+    requires { ⌜ (n * 72 ≤ enqueueBytes) × (n * 72 ≤ length (now b)) × (queued ≡ total (now counts))
+        × Held (now order) (now counts) × (total (now counts) + allWant (recordsIn n (now b)) ≤ slotCount) ⌝ }
+    ensures pending { λ _. ⌜ after order counts slots singles
+        ≡ addAll (recordsIn n (now (b .entry))) (before order counts slots singles) ⌝ }
     ensures held { λ _. ⌜ HeldAfter order counts ⌝ }
     ensures kept { λ _. ⌜ (n ≡ 0 → Stays slots × Stays order × Stays counts × Stays singles) ⌝ }
 {
@@ -177,7 +184,7 @@ fn add_all(
     }
 }
 
-// Group 2: all records are added where the answer is 0, and none otherwise.
+// Group 2: all records are added if the code is 0, and none otherwise.
 pub fn enqueue_irqs(
     slots: &mut [u8; SLOT_BYTES],
     order: &mut [u8; ORDER_BYTES],
@@ -188,7 +195,11 @@ pub fn enqueue_irqs(
     payload: &[u8],
 ) -> Answer
     requires { ⌜ (room ≤ slotCount) × Held (now order) (now counts) ⌝ }
-    ensures { λ r. ⌜ ((L : Limits) (s : State) → L .room ≡ room → s .pending ≡ before order counts slots singles → Answers L s (now (payload .entry)) (request L s enqueue attr (now (payload .entry))) r (withPending (after order counts slots singles) s) (now (payload .entry))) × (HeldAfter order counts × ((r .code ≡ 0 → ⊥) → Stays slots × Stays order × Stays counts × Stays singles)) ⌝ }
+    ensures { λ r. ⌜ ((L : Limits) (s : State) → L .room ≡ room → s .pending ≡ before order counts slots singles
+        → Answers L s (now (payload .entry)) (request L s enqueue attr (now (payload .entry))) r
+        (withPending (after order counts slots singles) s) (now (payload .entry)))
+        × (HeldAfter order counts
+        × ((r .code ≡ 0 → ⊥) → Stays slots × Stays order × Stays counts × Stays singles)) ⌝ }
 {
     if attr == 0 {
         return answers::refuse(EINVAL);
@@ -222,7 +233,7 @@ fn interrupt(isc: Subclass) -> [u8; 72]
     r
 }
 
-// Group 10, where n records are queued and there is room: the interrupt joins the queue of its subclass.
+// Group 10: the interrupt joins the queue of its subclass. n records are queued before, and there is room.
 pub fn append_interrupt(
     slots: &mut [u8; SLOT_BYTES],
     order: &mut [u8; ORDER_BYTES],
@@ -230,8 +241,12 @@ pub fn append_interrupt(
     isc: Subclass,
     n: usize,
 )
-    requires { ⌜ (isc .0 ≤ 7) × (n ≡ total (now counts)) × (total (now counts) < slotCount) × Held (now order) (now counts) ⌝ }
-    ensures pending { λ _. ⌜ ((singles : List ℕ) → pendingOf (now (order .exit)) (now (counts .exit)) (now (slots .exit)) singles ≡ addIo (isc .0) (adapterInterrupt (isc .0)) (pendingOf (now (order .entry)) (now (counts .entry)) (now (slots .entry)) singles)) ⌝ }
+    requires { ⌜ (isc .0 ≤ 7) × (n ≡ total (now counts)) × (total (now counts) < slotCount)
+        × Held (now order) (now counts) ⌝ }
+    ensures pending { λ _. ⌜ ((singles : List ℕ)
+        → pendingOf (now (order .exit)) (now (counts .exit)) (now (slots .exit)) singles
+        ≡ addIo (isc .0) (adapterInterrupt (isc .0))
+        (pendingOf (now (order .entry)) (now (counts .entry)) (now (slots .entry)) singles)) ⌝ }
     ensures held { λ _. ⌜ HeldAfter order counts ⌝ }
 {
     store_queues::append(

@@ -27,6 +27,7 @@ use numbers::SLOT_BYTES;
 use numbers::Subchannel;
 use store_search::Found;
 
+// 1 if it holds, else 0.
 fn one_if(t: bool) -> usize
     ensures { λ r. ⌜ (r ≡ oneIf t) × (r ≤ 1) ⌝ }
 {
@@ -36,7 +37,9 @@ fn one_if(t: bool) -> usize
 // How many records are pending.
 pub fn pending(counts: &[usize; COUNTS], singles: &[u8; SINGLES_BYTES]) -> usize
     requires { ⌜ Counted (now counts) ⌝ }
-    ensures { λ r. ⌜ ((order slots : List ℕ) → Held order (now (counts .entry)) → r ≡ length (listing (pendingOf order (now (counts .entry)) slots (now (singles .entry))))) × (r ≤ mostPending) ⌝ }
+    ensures { λ r. ⌜ ((order slots : List ℕ) → Held order (now (counts .entry))
+        → r ≡ length (listing (pendingOf order (now (counts .entry)) slots (now (singles .entry)))))
+        × (r ≤ mostPending) ⌝ }
 {
     store_queues::queued(counts)
         + one_if(store_singles::has_service(singles))
@@ -52,14 +55,15 @@ pub fn pending_whole(
     singles: &[u8; SINGLES_BYTES],
 ) -> usize
     requires { ⌜ Held (now order) (now counts) × (length (now slots) ≡ slotCount * 72) ⌝ }
-    ensures { λ r. ⌜ (r ≡ length (listing (before order counts slots singles))) × All Whole (listing (before order counts slots singles)) × (r ≤ mostPending) ⌝ }
+    ensures { λ r. ⌜ (r ≡ length (listing (before order counts slots singles)))
+        × All Whole (listing (before order counts slots singles)) × (r ≤ mostPending) ⌝ }
 {
     // Borrowed as a slice: the proof learns the array's length from the borrow.
     let _g: &[u8] = singles;
     pending(counts, singles)
 }
 
-// Group 3: nothing is pending any more.
+// Group 3: every pending record is removed.
 pub fn clear_irqs(
     order: &mut [u8; ORDER_BYTES],
     counts: &mut [usize; COUNTS],
@@ -67,7 +71,11 @@ pub fn clear_irqs(
     attr: u64,
 ) -> Answer
     requires { ⌜ Held (now order) (now counts) ⌝ }
-    ensures { λ r. ⌜ ((L : Limits) (s : State) (slots b : List ℕ) → s .pending ≡ pendingOf (now (order .entry)) (now (counts .entry)) slots (now (singles .entry)) → Answers L s b (request L s clearIrqs attr b) r (withPending (pendingOf (now (order .exit)) (now (counts .exit)) slots (now (singles .exit))) s) b) × (HeldAfter order counts × ((r .code ≡ 0 → ⊥) → Stays order × Stays counts × Stays singles)) ⌝ }
+    ensures { λ r. ⌜ ((L : Limits) (s : State) (slots b : List ℕ)
+        → s .pending ≡ pendingOf (now (order .entry)) (now (counts .entry)) slots (now (singles .entry))
+        → Answers L s b (request L s clearIrqs attr b) r
+        (withPending (pendingOf (now (order .exit)) (now (counts .exit)) slots (now (singles .exit))) s) b)
+        × (HeldAfter order counts × ((r .code ≡ 0 → ⊥) → Stays order × Stays counts × Stays singles)) ⌝ }
 {
     if attr != 0 {
         return answers::refuse(EINVAL);
@@ -79,7 +87,7 @@ pub fn clear_irqs(
     answers::accept(n as u64) // those removed
 }
 
-// Writes the listing to out.
+// Writes the listing to the start of out.
 pub fn list_all(
     slots: &[u8; SLOT_BYTES],
     order: &[u8; ORDER_BYTES],
@@ -87,8 +95,10 @@ pub fn list_all(
     singles: &[u8; SINGLES_BYTES],
     out: &mut [u8],
 )
-    requires { ⌜ Held (now order) (now counts) × (72 * length (listing (pendingOf (now order) (now counts) (now slots) (now singles))) ≤ length (now out)) ⌝ }
-    ensures { λ _. ⌜ now (out .exit) ≡ flatten (listing (before order counts slots singles)) ++ drop (72 * length (listing (before order counts slots singles))) (now (out .entry)) ⌝ }
+    requires { ⌜ Held (now order) (now counts)
+        × (72 * length (listing (pendingOf (now order) (now counts) (now slots) (now singles))) ≤ length (now out)) ⌝ }
+    ensures { λ _. ⌜ now (out .exit) ≡ flatten (listing (before order counts slots singles))
+        ++ drop (72 * length (listing (before order counts slots singles))) (now (out .entry)) ⌝ }
 {
     store_queues::list(slots, order, counts, out);
     let mut at = store_queues::queued(counts) * 72;
@@ -111,7 +121,8 @@ pub fn get_all(
     out: &mut [u8],
 ) -> Answer
     requires { ⌜ Held (now order) (now counts) ⌝ }
-    ensures answer { λ r. ⌜ ((L : Limits) (s : State) → s .pending ≡ before order counts slots singles → Answers L s (now (out .entry)) (request L s getAllIrqs attr (now (out .entry))) r s (now (out .exit))) ⌝ }
+    ensures answer { λ r. ⌜ ((L : Limits) (s : State) → s .pending ≡ before order counts slots singles
+        → Answers L s (now (out .entry)) (request L s getAllIrqs attr (now (out .entry))) r s (now (out .exit))) ⌝ }
     ensures kept { λ r. ⌜ ((r .code ≡ 0 → ⊥) → Stays out) ⌝ }
 {
     if attr == 0 {
@@ -138,7 +149,12 @@ pub fn clear_io(
     payload: &[u8],
 ) -> Answer
     requires { ⌜ Held (now order) (now counts) ⌝ }
-    ensures { λ r. ⌜ ((L : Limits) (s : State) (singles : List ℕ) → s .pending ≡ pendingOf (now (order .entry)) (now (counts .entry)) (now (slots .entry)) singles → Answers L s (now (payload .entry)) (request L s clearIoIrq attr (now (payload .entry))) r (withPending (pendingOf (now (order .exit)) (now (counts .exit)) (now (slots .entry)) singles) s) (now (payload .entry))) × (HeldAfter order counts × ((r .code ≡ 0 → ⊥) → Stays order × Stays counts)) ⌝ }
+    ensures { λ r. ⌜ ((L : Limits) (s : State) (singles : List ℕ)
+        → s .pending ≡ pendingOf (now (order .entry)) (now (counts .entry)) (now (slots .entry)) singles
+        → Answers L s (now (payload .entry)) (request L s clearIoIrq attr (now (payload .entry))) r
+        (withPending (pendingOf (now (order .exit)) (now (counts .exit)) (now (slots .entry)) singles) s)
+        (now (payload .entry)))
+        × (HeldAfter order counts × ((r .code ≡ 0 → ⊥) → Stays order × Stays counts)) ⌝ }
 {
     if attr < 4 {
         return answers::refuse(EINVAL);
@@ -183,7 +199,11 @@ fn next_queued(
 ) -> Next
     requires { ⌜ Held (now order) (now counts) ⌝ }
     ensures place { λ r. ⌜ NextIn (now (counts .entry)) r ⌝ }
-    ensures hands { λ r. ⌜ ((singles : List ℕ) → handsQueued (pendingOf (now (order .entry)) (now (counts .entry)) (now (slots .entry)) singles) subclasses external ≡ handedNext r (queues (now (order .entry)) (now (counts .entry)) (now (slots .entry))) (pendingOf (now (order .entry)) (now (counts .entry)) (now (slots .entry)) singles)) ⌝ }
+    ensures hands { λ r. ⌜ ((singles : List ℕ)
+        → handsQueued (pendingOf (now (order .entry)) (now (counts .entry)) (now (slots .entry)) singles)
+        subclasses external
+        ≡ handedNext r (queues (now (order .entry)) (now (counts .entry)) (now (slots .entry)))
+        (pendingOf (now (order .entry)) (now (counts .entry)) (now (slots .entry)) singles)) ⌝ }
 {
     if external && 0 < store_queues::count(counts, store_queues::done()) {
         return Next::At(store_queues::done(), 0);
@@ -208,7 +228,12 @@ pub fn take(
     out: &mut [u8],
 ) -> Answer
     requires { ⌜ Held (now order) (now counts) ⌝ }
-    ensures { λ r. ⌜ ((L : Limits) (s : State) → s .pending ≡ before order counts slots singles → Answers L s (now (out .entry)) (takes s subclasses external mcheck (now (out .entry))) r (withPending (pendingOf (now (order .exit)) (now (counts .exit)) (now (slots .entry)) (now (singles .exit))) s) (now (out .exit))) × (HeldAfter order counts × ((r .code ≡ 0 → ⊥) → Stays order × Stays counts × Stays singles × Stays out)) ⌝ }
+    ensures { λ r. ⌜ ((L : Limits) (s : State) → s .pending ≡ before order counts slots singles
+        → Answers L s (now (out .entry)) (takes s subclasses external mcheck (now (out .entry))) r
+        (withPending (pendingOf (now (order .exit)) (now (counts .exit)) (now (slots .entry)) (now (singles .exit))) s)
+        (now (out .exit)))
+        × (HeldAfter order counts
+        × ((r .code ≡ 0 → ⊥) → Stays order × Stays counts × Stays singles × Stays out)) ⌝ }
 {
     if out.len() < 72 {
         return answers::refuse(EFAULT);

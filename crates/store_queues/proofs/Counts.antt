@@ -40,11 +40,6 @@ all-zero [] e = refl
 all-zero (n ∷ ns) e = λ i. (let z : n ≡ 0 = omega arith in z) i ∷ all-zero ns (omega arith) i
 
 -- ---- bits
-some-small : (n : ℕ) → some n ≤ 1
-unfolding some
-some-small zero = omega arith
-some-small (suc n) = omega arith
-
 pub some-zero : (n : ℕ) → n ≡ 0 → some n ≡ 0
 unfolding some
 some-zero zero e = refl
@@ -101,14 +96,6 @@ module _ (ns : List ℕ) where
       each-subclass (λ i. bits 128 ns / bit i % 2 ≡ some (getD ns i 0))
       (omega arith) (omega arith) (omega arith) (omega arith) (omega arith) (omega arith) (omega arith) (omega arith)
 
--- the bit of a queue that has records is in the mask
-pub bit-there : (c : List ℕ) → Counted c → (i : ℕ) → i < 9 → (getD c i 0 ≡ 0 → ⊥) → 128 / 2 ^ i ≤ waiting c
-bit-there c h i k f =
-    let l : length (each c) ≡ 9 = length-take-le 9 c (omega (arith, h .long)) in
-    let e : getD (each c) i 0 ≡ getD c i 0 = getD-take 9 c i 0 k in
-    omega (arith, rw (e, some-one (getD c i 0) f, some-zero 0 refl) at (bits-set 128 (each c) i 0 (omega arith)), h .marked)
-
--- a queue's bit of the mask says whether it has records
 module _ (c : List ℕ) (h : Counted c) where
   pub length-each : length (each c) ≡ 9
   length-each = length-take-le 9 c (omega (arith, h .long))
@@ -119,10 +106,15 @@ module _ (c : List ℕ) (h : Counted c) where
   pub waiting-small : waiting c < 256
   waiting-small = omega (arith, h .marked, bits-small 128 (each c))
 
+  -- the bit of a queue that has records is in the mask
+  pub bit-there : (i : ℕ) → i < 9 → (getD c i 0 ≡ 0 → ⊥) → 128 / 2 ^ i ≤ waiting c
+  bit-there i k f =
+      omega (arith, rw (getD-take 9 c i 0 k, some-one (getD c i 0) f, some-zero 0 refl) at (bits-set 128 (each c) i 0 (omega (arith, length-each))), h .marked)
+
   pub waiting-bit : (i : ℕ) → i ≤ 7 → (getD c i 0 ≡ 0 → ⊥) → hasBit i (waiting c) ≡ true
   unfolding hasBit
   waiting-bit i k f =
-      let s : (i : ℕ) → some (getD (each c) i 0) ≤ 1 = λ i. some-small (getD (each c) i 0) in
+      let s : (i : ℕ) → some (getD (each c) i 0) ≤ 1 = λ i. omega (arith, some-times (getD (each c) i 0) 1) in
       let e : waiting c / bit i % 2 ≡ some (getD c i 0) = rw (h .marked, ← getD-take 9 c i 0 (omega arith)) (digit (each c) (s 0, s 1, s 2, s 3, s 4, s 5, s 6, s 7) i k) in
       eq-eqb _ 1 (e ∙ some-one (getD c i 0) f)
 

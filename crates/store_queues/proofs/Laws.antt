@@ -1,6 +1,6 @@
 -- Laws of the queues: what the order and the counts say of them, and what a record more and a record less leave.
 use Rattle.numbers.proofs.Basics.{_≡_, refl, sym, ap, _∙_, subst, Bool, true, false, List, [], _∷_, _++_, flatten}
-use Rattle.numbers.proofs.Basics.{map, map-append, append-assoc, append-nil, ℕ, zero, suc, _+_, _-_, _*_, _/_, _^_}
+use Rattle.numbers.proofs.Basics.{map, map-append, append-assoc, append-nil, zero-add, ℕ, zero, suc, _+_, _-_, _*_, _/_, _^_}
 use Rattle.numbers.proofs.Basics.{_≤_, _<_, not-suc-le-zero, le-of-suc-le-suc, add-one, arith, length, take, drop}
 use Rattle.numbers.proofs.Basics.{getD, set, replicate, length-append, length-drop, length-map, length-set, getD-take}
 use Rattle.numbers.proofs.Basics.{getD-drop, take-all, take-suc, paste, length-paste, take-paste, eqb, eqb-true}
@@ -46,7 +46,7 @@ module _ (o c : List ℕ) (h : Held o c) where
   count-fits q k = omega (arith, count-small c (h .counted) q k, h .counted .few)
 
   row-used : (q : ℕ) → q < 9 → getD (used o c) q [] ≡ row o q (getD c q 0)
-  row-used q k = rows-at o 0 (each c) q (omega (arith, eachs)) ∙ rw (getD-take 9 c q 0 k, let z : 0 + q ≡ q = omega arith in z)
+  row-used q k = rows-at o 0 (each c) q (omega (arith, eachs)) ∙ rw (getD-take 9 c q 0 k, zero-add q)
 
   length-used : length (used o c) ≡ 9
   length-used = length-rows o 0 (each c) ∙ eachs
@@ -111,7 +111,7 @@ module _ (o c : List ℕ) (h : Held o c) where
       used-more =
           ap (rows u 0) (d .each-is)
           ∙ rows-changed u o 0 (each c) q (getD c q 0 + 1) _ (omega (arith, eachs))
-          (rw (let z : 0 + q ≡ q = omega arith in z) (row-stored o q (within q (omega arith)) (getD c q 0) next not-full))
+          (rw (zero-add q) (row-stored o q (within q (omega arith)) (getD c q 0) next not-full))
           (λ j ne l. row-beside o (0 + j) q (getD c q 0) next _ (λ e. ne (omega (arith, e))) not-full
           (rw (getD-take 9 c j 0 (omega (arith, eachs))) (count-fits j (omega (arith, eachs)))))
 
@@ -194,7 +194,7 @@ module _ (o c : List ℕ) (h : Held o c) where
       used-less =
           ap (rows y 0) (d .each-is)
           ∙ rows-changed y o 0 (each c) q (getD c q 0 - 1) _ (omega (arith, eachs))
-          (rw (let z : 0 + q ≡ q = omega arith in z) (kept q (getD c q 0 - 1) k (omega (arith, count-fits q k)) ∙ row-down o q (within q (omega arith)) (getD c q 0) at f (count-fits q k)))
+          (rw (zero-add q) (kept q (getD c q 0 - 1) k (omega (arith, count-fits q k)) ∙ row-down o q (within q (omega arith)) (getD c q 0) at f (count-fits q k)))
           (λ j ne l.
           let j9 : j < 9 = omega (arith, eachs, l) in
           let z : 0 + j ≡ j = omega arith in

@@ -3,7 +3,7 @@ use Rattle.numbers.proofs.Basics.{_≡_, refl, sym, ap, _∙_, Bool, true, fals
 use Rattle.numbers.proofs.Basics.{flatten, ℕ, zero, suc, _+_, _-_, _*_, _≤_, _<_, zero-add, suc-add, not-suc-le-zero}
 use Rattle.numbers.proofs.Basics.{le-of-suc-le-suc, suc-mul, mul-le-mul-right, add-one, decLt, arith, length, take}
 use Rattle.numbers.proofs.Basics.{drop, getD, set, length-drop, split-at, getD-drop, length-take-le, paste, eqb}
-use Rattle.numbers.proofs.{Basics.eqb-false, Basics.eq-eqb, Laws.map-take, Laws.map-drop, Laws.paste-more, Laws.drop-past, Laws.getD-past, Laws.part-same, Laws.part-before}
+use Rattle.numbers.proofs.{Basics.eqb-false, Basics.eq-eqb, Laws.map-take, Laws.map-drop, Laws.paste-more, Laws.drop-past, Laws.getD-past, Laws.part-before}
 use Rattle.rules.specs.Bytes.{choose}
 use Rattle.store_queues.specs.Slots.{removeAt, slot, occurs}
 
@@ -77,11 +77,7 @@ module _ {A : Type 0} (f g : ℕ → A) (x : ℕ) (e : (s : ℕ) → (s ≡ x �
       let both = occurs-append x l (flatten ls) in
       λ k. map-lacks l (omega arith) k ∷ maps-lack ls (omega arith) k
 
--- ---- a slot that is written, and the others
-pub slot-same : (w : ℕ) (b r : List ℕ) (x : ℕ) → x * w ≤ length b → length r ≡ w → slot w (paste b (x * w) r w) x ≡ r
-unfolding slot
-slot-same w b r x h l = part-same b (x * w) r w h l
-
+-- ---- a slot beside the one that is written
 pub slot-other : (w : ℕ) (b r : List ℕ) (x s : ℕ) → x * w ≤ length b → length r ≡ w → (s ≡ x → ⊥) → slot w (paste b (x * w) r w) s ≡ slot w b s
 unfolding slot
 slot-other w b r x s h l ne =

@@ -5,7 +5,8 @@ ghost use lib.ListN.{length, drop, getD};
 ghost use lib.Seq.{paste};
 ghost use Rattle.store_queues.specs.Slots.{slot, Stored, slotCount};
 ghost use mathlib.Core.List.{[], _++_, flatten};
-ghost use Rattle.store_queues.specs.Queues.{row, total, waiting, queues, listed, upFrom, Counted, Held, Appended, Removed, Emptied};
+ghost use Rattle.store_queues.specs.Queues.{row, total, waiting, queues, listed, upFrom};
+ghost use Rattle.store_queues.specs.Queues.{Counted, Held, Appended, Removed, Emptied};
 use numbers::COUNTS;
 use numbers::ORDER_BYTES;
 use numbers::QUEUES;
@@ -14,7 +15,7 @@ use numbers::ROOM;
 use numbers::SLOT_BYTES;
 use numbers::Subclass;
 
-// Moves the entries from index lo + 1 up to index end + 1 down by one.
+// Moves the entries at indices lo + 1 to end down by one.
 pub fn move_down(o: &mut [u8], lo: usize, end: usize)
     requires { ⌜ (lo ≤ end) × (end + 1 ≤ length (now o)) ⌝ }
     ensures { λ _. ⌜ now (o .exit) ≡ paste (now (o .entry)) lo (drop (lo + 1) (now (o .entry))) (end - lo) ⌝ }
@@ -98,7 +99,8 @@ pub fn append(
     r: [u8; 72],
 )
     requires { ⌜ (q .0 < 9) × (n ≡ total (now c)) × (n < slotCount) × Held (now o) (now c) ⌝ }
-    ensures { λ _. ⌜ Appended (q .0) r (now (o .entry)) (now (c .entry)) (now (b .entry)) (now (o .exit)) (now (c .exit)) (now (b .exit)) ⌝ }
+    ensures { λ _. ⌜ Appended (q .0) r (now (o .entry)) (now (c .entry)) (now (b .entry))
+        (now (o .exit)) (now (c .exit)) (now (b .exit)) ⌝ }
 {
     let s = o[ORDER_BYTES - 1 - n];
     write_slot(b, s, r);
@@ -156,8 +158,10 @@ fn list_queue(
     out: &mut [u8],
     at: usize,
 )
-    requires { ⌜ (q .0 < 9) × (n ≤ slotCount) × (length (now o) ≡ 10 * slotCount) × (at + n * 72 ≤ length (now out)) ⌝ }
-    ensures { λ _. ⌜ now (out .exit) ≡ paste (now (out .entry)) at (flatten (listed (now (b .entry)) (row (now (o .entry)) (q .0) n))) (n * 72) ⌝ }
+    requires { ⌜ (q .0 < 9) × (n ≤ slotCount) × (length (now o) ≡ 10 * slotCount)
+        × (at + n * 72 ≤ length (now out)) ⌝ }
+    ensures { λ _. ⌜ now (out .exit)
+        ≡ paste (now (out .entry)) at (flatten (listed (now (b .entry)) (row (now (o .entry)) (q .0) n))) (n * 72) ⌝ }
     ensures long { λ _. ⌜ length (flatten (listed (now (b .entry)) (row (now (o .entry)) (q .0) n))) ≡ n * 72 ⌝ }
 {
     let mut k = 0;
@@ -170,7 +174,8 @@ fn list_queue(
 // Writes all records to out, one after the other, in listing order.
 pub fn list(b: &[u8; SLOT_BYTES], o: &[u8; ORDER_BYTES], c: &[usize; COUNTS], out: &mut [u8])
     requires { ⌜ Held (now o) (now c) × (total (now c) * 72 ≤ length (now out)) ⌝ }
-    ensures { λ _. ⌜ now (out .exit) ≡ flatten (flatten (queues (now (o .entry)) (now (c .entry)) (now (b .entry)))) ++ drop (total (now (c .entry)) * 72) (now (out .entry)) ⌝ }
+    ensures { λ _. ⌜ now (out .exit) ≡ flatten (flatten (queues (now (o .entry)) (now (c .entry)) (now (b .entry))))
+        ++ drop (total (now (c .entry)) * 72) (now (out .entry)) ⌝ }
 {
     let mut at = 0;
     let mut i = 0;

@@ -36,8 +36,12 @@ pub fn find(
     word: Subchannel,
 ) -> Found
     requires { ⌜ Held (now o) (now c) ⌝ }
-    ensures clears { λ r. ⌜ (any ≡ false → subclasses ≡ 255 → withoutFirst (isForWord (word .0)) (take 8 (queues (now (o .entry)) (now (c .entry)) (now (b .entry)))) ≡ leftAt r (take 8 (queues (now (o .entry)) (now (c .entry)) (now (b .entry))))) ⌝ }
-    ensures hands { λ r. ⌜ (any ≡ true → firstAllowed 0 subclasses (take 8 (queues (now (o .entry)) (now (c .entry)) (now (b .entry)))) ≡ handedAt r (take 8 (queues (now (o .entry)) (now (c .entry)) (now (b .entry))))) ⌝ }
+    ensures clears { λ r. ⌜ (any ≡ false → subclasses ≡ 255
+        → withoutFirst (isForWord (word .0)) (take 8 (queues (now (o .entry)) (now (c .entry)) (now (b .entry))))
+        ≡ leftAt r (take 8 (queues (now (o .entry)) (now (c .entry)) (now (b .entry))))) ⌝ }
+    ensures hands { λ r. ⌜ (any ≡ true
+        → firstAllowed 0 subclasses (take 8 (queues (now (o .entry)) (now (c .entry)) (now (b .entry))))
+        ≡ handedAt r (take 8 (queues (now (o .entry)) (now (c .entry)) (now (b .entry))))) ⌝ }
     ensures place { λ r. ⌜ FoundIn (now (c .entry)) r ⌝ }
 {
     let mut found = Found::None;

@@ -1,5 +1,5 @@
-// Inner crate: the service record and the machine check, at most one of each, in lent bytes: the service record from 0,
-// the machine check from 72, and at 144 and 145 whether each is there, not 0 or 0.
+// Inner crate: the service record and the machine check, at most one of each, in lent bytes. The service record stands
+// from byte 0, the machine check from byte 72. Bytes 144 and 145 say whether each is there: 0 if not.
 ghost use mathlib.Core.Path.{_≡_};
 ghost use mathlib.Core.Bool.{not};
 ghost use mathlib.Core.Option.{none, some};
@@ -36,9 +36,10 @@ pub fn read_mchk(g: &[u8; SINGLES_BYTES]) -> [u8; 72]
     numbers::load(g, 72)
 }
 
-// A service record comes: the first stays.
+// Adds a service record. The first one stays.
 pub fn add_service(g: &mut [u8; SINGLES_BYTES], r: [u8; 72])
-    ensures { λ _. ⌜ (serviceOf (now (g .exit)) ≡ some (firstOr (serviceOf (now (g .entry))) r)) × (mchkOf (now (g .exit)) ≡ mchkOf (now (g .entry))) ⌝ }
+    ensures { λ _. ⌜ (serviceOf (now (g .exit)) ≡ some (firstOr (serviceOf (now (g .entry))) r))
+        × (mchkOf (now (g .exit)) ≡ mchkOf (now (g .entry))) ⌝ }
 {
     if g[144] == 0 {
         numbers::save(g, 0, r);
@@ -46,9 +47,10 @@ pub fn add_service(g: &mut [u8; SINGLES_BYTES], r: [u8; 72])
     }
 }
 
-// ORs bytes 8 to 23 of r into the machine check: cr14 and mcic.
+// ORs bytes 8 to 23 of r, cr14 and mcic, into the machine check.
 fn merge(g: &mut [u8; SINGLES_BYTES], r: [u8; 72])
-    ensures { λ _. ⌜ now (g .exit) ≡ take 80 (now (g .entry)) ++ (zipWith bitOr (part 80 16 (now (g .entry))) (part 8 16 r) ++ drop 96 (now (g .entry))) ⌝ }
+    ensures { λ _. ⌜ now (g .exit) ≡ take 80 (now (g .entry))
+        ++ (zipWith bitOr (part 80 16 (now (g .entry))) (part 8 16 r) ++ drop 96 (now (g .entry))) ⌝ }
 {
     let mut i = 0;
     while i < 16 {
@@ -57,9 +59,10 @@ fn merge(g: &mut [u8; SINGLES_BYTES], r: [u8; 72])
     }
 }
 
-// A machine check comes: a second one's cr14 and mcic bits are added.
+// Adds a machine check. Of a second one the bits of cr14 and mcic are added to the first.
 pub fn add_mchk(g: &mut [u8; SINGLES_BYTES], r: [u8; 72])
-    ensures { λ _. ⌜ (mchkOf (now (g .exit)) ≡ some (mergedOr (mchkOf (now (g .entry))) r)) × (serviceOf (now (g .exit)) ≡ serviceOf (now (g .entry))) ⌝ }
+    ensures { λ _. ⌜ (mchkOf (now (g .exit)) ≡ some (mergedOr (mchkOf (now (g .entry))) r))
+        × (serviceOf (now (g .exit)) ≡ serviceOf (now (g .entry))) ⌝ }
 {
     if g[145] == 0 {
         numbers::save(g, 72, r);

@@ -1,4 +1,4 @@
--- `adapter_requests::mode_code` meets its contract.
+-- `adapter_requests::mode_code` meets its contract: the checks one by one.
 use Rattle.numbers.proofs.Basics.{_≤_, _≡_, ap, _∙_, [], arith, needs, le-leb, lt-leb, not-true, not-false}
 use Rattle.rules.specs.{Bytes.choose, Bytes.byte, Bytes.field, State.Limits, State.State, State.withDevice, Outcome.accept, Requests.aism, Requests.request, Requests.setsMode}
 use Rattle.rules.specs.State as rules
@@ -12,22 +12,6 @@ begun : (c : tie.Else3) (L : Limits) (s : State) → let a = c .before .before .
     s .ais ≡ a .ais → request L s aism (a .attr) (a .payload .now) ≡ setsMode s (byte 0 (a .payload .now)) (field 2 2 (a .payload .now))
 unfolding request
 begun c L s e = opened-ais _ (c .before .before .if1 .left) (e ∙ not-false _ (c .before .if2 .left)) (c .if3 .left)
-
-returns : tie.Need-returns
-unfolding request decided choose
-returns c = (λ L s e. bad-attr _ (c .if1 .taken), not-accepted (omega arith))
-
-returns-2 : tie.Need-returns-2
-unfolding request decided choose
-returns-2 c = (λ L s e. no-ais _ (c .before .if1 .left) (e ∙ not-true _ (c .if2 .taken)), not-accepted (omega arith))
-
-returns-3 : tie.Need-returns-3
-unfolding request decided choose
-returns-3 c = (λ L s e. short-ais _ (c .before .before .if1 .left) (e ∙ not-false _ (c .before .if2 .left)) (c .if3 .taken), not-accepted (omega arith))
-
-returns-4 : tie.Need-returns-4
-unfolding setsMode decided choose
-returns-4 c = (λ L s e. begun (c .before .before) L s e ∙ fails _ _ _ (lt-leb _ _ (c .if4 .taken)), not-accepted (omega arith))
 
 returns-5 : tie.Need-returns-5
 unfolding setsMode decided choose
@@ -51,4 +35,12 @@ returns-6 c =
     )
 
 pub mode-code-spec : {M : Type 1} → statement M
-mode-code-spec = tie.close (tie.spec returns returns-2 returns-3 (λ c. search needs) returns-4 (λ c κs. search needs) returns-5 returns-6)
+mode-code-spec =
+    tie.close
+    (tie.spec
+    (λ c. unfold request decided choose in (λ L s e. bad-attr _ (c .if1 .taken), not-accepted (omega arith)))
+    (λ c. unfold request decided choose in (λ L s e. no-ais _ (c .before .if1 .left) (e ∙ not-true _ (c .if2 .taken)), not-accepted (omega arith)))
+    (λ c. unfold request decided choose in (λ L s e. short-ais _ (c .before .before .if1 .left) (e ∙ not-false _ (c .before .if2 .left)) (c .if3 .taken), not-accepted (omega arith)))
+    (λ c. search needs)
+    (λ c. unfold setsMode decided choose in (λ L s e. begun (c .before .before) L s e ∙ fails _ _ _ (lt-leb _ _ (c .if4 .taken)), not-accepted (omega arith)))
+    (λ c κs. search needs) returns-5 returns-6)

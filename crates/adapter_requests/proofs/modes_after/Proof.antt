@@ -4,27 +4,15 @@ use Rattle.adapters.specs.Values.{deviceOf}
 use Rattle.adapter_requests.proofs.{Laws.after-mode, Laws.after-masks, Laws.after-flag, modes_after.Statement.statement}
 use Rattle.adapter_requests.proofs.modes_after.Tie as tie
 
-mode-in-requires : tie.Need-mode-in-requires
-mode-in-requires c κs = c .before .before .pre .mode (c .if1 .taken) .0
-
-mode-set-requires : tie.Need-mode-set-requires
-mode-set-requires c κs = omega (arith, c .mode-in .ensures .0, c .before .before .before .pre .mode (c .before .if1 .taken) .1)
-
-returns : tie.Need-returns
-returns c =
-    let m = c .before .mode-in in
-    c .mode-set .ensures ∙ rw (m .ensures .0, m .ensures .1) (sym (after-mode _ _ _ (c .before .before .if1 .taken)))
-
-masks-in-requires : tie.Need-masks-in-requires
-masks-in-requires c κs = c .before .before .before .pre .masks (c .if2 .taken)
-
-returns-2 : tie.Need-returns-2
-returns-2 c =
-    let m = c .before .masks-in in
-    ap deviceOf (c .masks-set .ensures) ∙ rw (m .ensures .0, m .ensures .1) (sym (after-masks _ _ _ (c .before .before .before .if1 .left) (c .before .before .if2 .taken)))
-
-returns-3 : tie.Need-returns-3
-returns-3 c = ap deviceOf (c .apf-set .ensures) ∙ sym (after-flag _ _ _ (c .before .before .if1 .left) (c .before .if2 .left))
-
 pub modes-after-spec : {M : Type 1} → statement M
-modes-after-spec = tie.close (tie.spec mode-in-requires mode-set-requires returns masks-in-requires (λ c κs. search needs) returns-2 (λ c κs. search needs) returns-3)
+modes-after-spec =
+    tie.close
+    (tie.spec (λ c κs. c .before .before .pre .mode (c .if1 .taken) .0)
+    (λ c κs. omega (arith, c .mode-in .ensures .0, c .before .before .before .pre .mode (c .before .if1 .taken) .1))
+    (λ c. let m = c .before .mode-in in
+    c .mode-set .ensures ∙ rw (m .ensures .0, m .ensures .1) (sym (after-mode _ _ _ (c .before .before .if1 .taken))))
+    (λ c κs. c .before .before .before .pre .masks (c .if2 .taken)) (λ c κs. search needs)
+    (λ c. let m = c .before .masks-in in
+    ap deviceOf (c .masks-set .ensures) ∙ rw (m .ensures .0, m .ensures .1) (sym (after-masks _ _ _ (c .before .before .before .if1 .left) (c .before .before .if2 .taken))))
+    (λ c κs. search needs)
+    (λ c. ap deviceOf (c .apf-set .ensures) ∙ sym (after-flag _ _ _ (c .before .before .if1 .left) (c .before .if2 .left))))

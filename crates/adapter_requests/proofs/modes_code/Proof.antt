@@ -1,29 +1,13 @@
 -- `adapter_requests::modes_code` meets its contract: each group's own code, and 22 for a number that is no group.
-use Rattle.numbers.proofs.Basics.{arith, needs}
+use Rattle.numbers.proofs.Basics.{arith, needs, _≡_, ℕ, List}
 use Rattle.rules.specs.{Bytes.choose, Requests.request}
-use Rattle.adapter_requests.specs.States.{decided}
+use Rattle.adapter_requests.specs.States.{decided, ModesAsked}
 use Rattle.adapter_requests.proofs.{Laws.not-accepted, Laws.not-on-place, Laws.no-set, modes_code.Statement.statement}
 use Rattle.adapter_requests.proofs.modes_code.Tie as tie
 
-returns : tie.Need-returns
-returns c =
-    rw (c .before .if1 .taken) (
-      λ L s e. c .flag-code .ensures L s _ .0,
-      λ z. record { mode = λ e. not-accepted {n = 5} (omega arith) (omega (arith, e)); masks = λ e. not-accepted {n = 7} (omega arith) (omega (arith, e)) },
-    )
-
-returns-2 : tie.Need-returns-2
-returns-2 c =
-    rw (c .before .if2 .taken) (
-      λ L s e. c .flag-code2 .ensures L s _ .1,
-      λ z. record { mode = λ e. not-accepted {n = 4} (omega arith) (omega (arith, e)); masks = λ e. not-accepted {n = 6} (omega arith) (omega (arith, e)) },
-    )
-
-returns-3 : tie.Need-returns-3
-returns-3 c = rw (c .before .if3 .taken) (c .mode-code .ensures)
-
-returns-4 : tie.Need-returns-4
-returns-4 c = rw (c .before .if4 .taken) (c .masks-code .ensures)
+-- groups 4 and 5 ask nothing of a payload
+no-payload : {g : ℕ} {b : List ℕ} → (g ≡ 9 → ⊥) → (g ≡ 11 → ⊥) → ModesAsked g b
+no-payload h k = record { mode = λ e. absurd (h e); masks = λ e. absurd (k e) }
 
 returns-5 : tie.Need-returns-5
 unfolding request decided choose
@@ -35,4 +19,11 @@ returns-5 c =
     )
 
 pub modes-code-spec : {M : Type 1} → statement M
-modes-code-spec = tie.close (tie.spec (λ c κs. search needs) returns (λ c κs. search needs) returns-2 (λ c κs. search needs) returns-3 (λ c κs. search needs) returns-4 returns-5)
+modes-code-spec =
+    tie.close
+    (tie.spec (λ c κs. search needs)
+    (λ c. rw (c .before .if1 .taken) (λ L s e. c .flag-code .ensures L s _ .0, λ z. no-payload (λ e. omega (arith, e)) (λ e. omega (arith, e))))
+    (λ c κs. search needs)
+    (λ c. rw (c .before .if2 .taken) (λ L s e. c .flag-code2 .ensures L s _ .1, λ z. no-payload (λ e. omega (arith, e)) (λ e. omega (arith, e))))
+    (λ c κs. search needs) (λ c. rw (c .before .if3 .taken) (c .mode-code .ensures)) (λ c κs. search needs)
+    (λ c. rw (c .before .if4 .taken) (c .masks-code .ensures)) returns-5)

@@ -5,13 +5,8 @@ use Rattle.adapter_requests.specs.States.{payloadId}
 use Rattle.adapter_requests.proofs.{Laws.id-there, payload_id.Statement.statement}
 use Rattle.adapter_requests.proofs.payload_id.Tie as tie
 
-returns : tie.Need-returns
-unfolding payloadId
-returns c = sym (passed _ _ _ (lt-leb 4 _ (c .if1 .taken)))
-
-returns-2 : tie.Need-returns-2
-unfolding payloadId
-returns-2 c = c .read-be .ensures .0 ∙ sym (id-there (c .before .before .before .args .payload .now) (c .before .if1 .left))
-
 pub payload-id-spec : {M : Type 1} → statement M
-payload-id-spec = tie.close (tie.spec returns (λ c κs. search needs) returns-2)
+payload-id-spec =
+    tie.close
+    (tie.spec (λ c. unfold payloadId in sym (passed _ _ _ (lt-leb 4 _ (c .if1 .taken)))) (λ c κs. search needs)
+    (λ c. c .read-be .ensures .0 ∙ sym (id-there (c .before .before .before .args .payload .now) (c .before .if1 .left))))

@@ -1,50 +1,31 @@
--- `adapter_requests::place_after` meets its contract: what REGISTER enters, what MODIFY of type 1 leaves, or the place as it was.
-use Rattle.numbers.proofs.Basics.{sym, _∙_, arith, needs, eq-eqb, ne-eqb}
+-- `adapter_requests::place_after` meets its contract: what REGISTER enters, what MODIFY of type 1 leaves, or the place
+-- as it was.
+use Rattle.numbers.proofs.Basics.{sym, _∙_, needs, eq-eqb, ne-eqb}
 use Rattle.rules.specs.{Bytes.choose, Requests.adapterIn}
 use Rattle.rules.proofs.Checks.{chosen, passed}
 use Rattle.adapter_requests.specs.States.{placeAfter, changeOf}
 use Rattle.adapter_requests.proofs.{Laws.on-place-7, Laws.within-same, place_after.Statement.statement}
 use Rattle.adapter_requests.proofs.place_after.Tie as tie
 
-reads : tie.Need-shared-slice-read-t6
-reads c = omega (arith, c .before .before .before .pre .long)
-
-reads-2 : tie.Need-shared-slice-read-registered
-reads-2 c = omega (arith, c .before .before .before .before .pre .long)
-
-reads-3 : tie.Need-shared-slice-read-registered-2
-reads-3 c = omega (arith, c .before .before .before .before .before .pre .long)
-
-reads-4 : tie.Need-shared-slice-read-registered-3
-reads-4 c = omega (arith, c .before .before .before .before .before .before .pre .long)
-
 returns : tie.Need-returns
 unfolding placeAfter adapterIn changeOf choose
 returns c =
     let t = c .before .before .before .before .before in
-    let f = t .before .before in
     let e = t .if1 .taken in (
       c .registered .ensures .0 ∙ sym (chosen _ _ _ (eq-eqb _ 6 e)),
-      λ k. c .registered .ensures .1 (f .pre .isc e),
+      λ k. c .registered .ensures .1 (t .before .before .pre .isc e),
       λ o. rw e tt,
     )
-
-reads-5 : tie.Need-shared-slice-read-if2
-reads-5 c = omega (arith, c .before .before .before .pre .long)
-
-reads-6 : tie.Need-shared-slice-read-mask-set
-reads-6 c = omega (arith, c .before .before .before .before .before .pre .long)
 
 returns-2 : tie.Need-returns-2
 unfolding placeAfter changeOf choose
 returns-2 c =
     let t = c .before .before in
     let n = t .before .before in
-    let f = n .before .before in
     let m = c .mask-set .ensures in (
       m .0 ∙ sym (passed _ _ _ (ne-eqb _ 6 (n .if1 .left)) ∙ chosen _ _ _ (eq-eqb _ 1 (t .if2 .taken))),
-      λ k. m .1 .0 k (λ on. f .pre .maskable (n .if1 .left) (t .if2 .taken)),
-      λ o. rw (on-place-7 (f .args .group) o (n .if1 .left)) (m .1 .1),
+      λ k. m .1 .0 k (λ on. n .before .before .pre .maskable (n .if1 .left) (t .if2 .taken)),
+      λ o. rw (on-place-7 _ o (n .if1 .left)) (m .1 .1),
     )
 
 returns-3 : tie.Need-returns-3
@@ -57,4 +38,7 @@ returns-3 c =
     )
 
 pub place-after-spec : {M : Type 1} → statement M
-place-after-spec = tie.close (tie.spec reads reads-2 reads-3 reads-4 (λ c κs. search needs) returns reads-5 reads-6 (λ c κs. search needs) returns-2 returns-3)
+place-after-spec =
+    tie.close
+    (tie.spec (λ c. search needs) (λ c. search needs) (λ c. search needs) (λ c. search needs) (λ c κs. search needs)
+    returns (λ c. search needs) (λ c. search needs) (λ c κs. search needs) returns-2 returns-3)

@@ -3,11 +3,8 @@ use borrow.Author.Needs.{needs}
 use Rattle.adapter_requests.proofs.{Laws.on-place-7, place_code.Statement.statement}
 use Rattle.adapter_requests.proofs.place_code.Tie as tie
 
-returns : tie.Need-returns
-returns c = rw (c .before .if1 .taken) (c .register-code .ensures)
-
-returns-2 : tie.Need-returns-2
-returns-2 c = let f = c .before .before .before in rw (on-place-7 (f .args .group) (f .pre) (c .before .if1 .left)) (c .modify-code .ensures)
-
 pub place-code-spec : {M : Type 1} → statement M
-place-code-spec = tie.close (tie.spec (λ c κs. search needs) returns (λ c κs. search needs) returns-2)
+place-code-spec =
+    tie.close
+    (tie.spec (λ c κs. search needs) (λ c. rw (c .before .if1 .taken) (c .register-code .ensures)) (λ c κs. search needs)
+    (λ c. rw (on-place-7 _ (c .before .before .before .pre) (c .before .if1 .left)) (c .modify-code .ensures)))

@@ -5,9 +5,7 @@ use Rattle.adapters.specs.Values.{placeOf}
 use Rattle.adapters.proofs.free_place.Statement.{statement}
 use Rattle.adapters.proofs.free_place.Tie as tie
 
-returns : tie.Need-returns
-unfolding placeOf choose
-returns c = (refl, record { unusedOne = λ e. refl; iscSmall = search needs; maskedMaskable = λ e. e })
-
 pub free-place-spec : {M : Type 1} → statement M
-free-place-spec = tie.close (tie.spec returns)
+free-place-spec =
+    tie.close
+    (tie.spec (λ c. unfold placeOf choose in (refl, record { unusedOne = λ e. refl; iscSmall = search needs; maskedMaskable = λ e. e })))

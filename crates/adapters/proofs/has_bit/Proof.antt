@@ -4,9 +4,5 @@ use Rattle.rules.specs.State.{hasBit}
 use Rattle.adapters.proofs.has_bit.Statement.{statement}
 use Rattle.adapters.proofs.has_bit.Tie as tie
 
-returns : tie.Need-returns
-unfolding hasBit
-returns c = rw (c .bit-of .ensures .0)
-
 pub has-bit-spec : {M : Type 1} → statement M
-has-bit-spec = tie.close (tie.spec (λ c κs. search needs) (λ c. search needs) returns)
+has-bit-spec = tie.close (tie.spec (λ c κs. search needs) (λ c. search needs) (λ c. unfold hasBit in rw (c .bit-of .ensures .0)))

@@ -5,13 +5,9 @@ use Rattle.adapters.specs.Values.{modeSet}
 use Rattle.adapters.proofs.mode_set.Statement.{statement}
 use Rattle.adapters.proofs.mode_set.Tie as tie
 
-returns : tie.Need-returns
-unfolding modeSet choose
-returns c = rw (c .before .if1 .taken, c .with-bit .ensures, c .before .before .without-bit .ensures)
-
-returns-2 : tie.Need-returns-2
-unfolding modeSet choose
-returns-2 c = rw (c .before .if1 .left, c .without-bit2 .ensures, c .before .before .without-bit .ensures)
-
 pub mode-set-spec : {M : Type 1} → statement M
-mode-set-spec = tie.close (tie.spec (λ c κs. search needs) (λ c κs. search needs) returns (λ c κs. search needs) returns-2)
+mode-set-spec =
+    tie.close
+    (tie.spec (λ c κs. search needs) (λ c κs. search needs)
+    (λ c. unfold modeSet choose in rw (c .before .if1 .taken, c .with-bit .ensures, c .before .before .without-bit .ensures)) (λ c κs. search needs)
+    (λ c. unfold modeSet choose in rw (c .before .if1 .left, c .without-bit2 .ensures, c .before .before .without-bit .ensures)))

@@ -5,9 +5,8 @@ use Rattle.adapters.specs.Values.{placeOf}
 use Rattle.adapters.proofs.registered.Statement.{statement}
 use Rattle.adapters.proofs.registered.Tie as tie
 
-returns : tie.Need-returns
-unfolding placeOf choose
-returns c = (refl, λ h. record { unusedOne = λ e. absurd (true≢false e); iscSmall = h; maskedMaskable = λ e. absurd (false≢true e) })
-
 pub registered-spec : {M : Type 1} → statement M
-registered-spec = tie.close (tie.spec returns)
+registered-spec =
+    tie.close
+    (tie.spec (λ c. unfold placeOf choose in
+    (refl, λ h. record { unusedOne = λ e. absurd (true≢false e); iscSmall = h; maskedMaskable = λ e. absurd (false≢true e) })))

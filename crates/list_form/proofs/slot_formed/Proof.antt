@@ -4,17 +4,6 @@ use Rattle.list_form.specs.Form.{slotAt}
 use Rattle.list_form.proofs.{Laws.inside, slot_formed.Statement.statement}
 use Rattle.list_form.proofs.slot_formed.Tie as tie
 
-returns : tie.Need-returns
-returns c =
-    let a = c .before .before .before .args in
-    rw (ne-eqb (slotAt (a .place) (a .list .now) .at) (a .at) (λ e. c .if1 .taken (c .before .read-be .ensures .0 ∙ e)))
-
-returns-2 : tie.Need-returns-2
-returns-2 c =
-    let a = c .before .before .before .before .before .args in
-    let s = slotAt (a .place) (a .list .now) in
-    rw (eq-eqb (s .at) (a .at) (sym (c .before .before .before .read-be .ensures .0) ∙ c .before .before .if1 .left), ne-eqb (s .zeroWord) 0 (λ e. c .if2 .taken (c .before .read-be2 .ensures .0 ∙ inside (20 + 24 * a .place) 12 4 (a .list .now) ∙ e)))
-
 returns-3 : tie.Need-returns-3
 returns-3 c =
     let a = c .before .before .before .before .before .before .before .args in
@@ -29,5 +18,11 @@ returns-3 c =
 pub slot-formed-spec : {M : Type 1} → statement M
 slot-formed-spec =
     tie.close
-    (tie.spec (λ c. search needs) (λ c. search needs) (λ c κs. search needs) returns (λ c. search needs) (λ c κs. search needs) returns-2
+    (tie.spec (λ c. search needs) (λ c. search needs) (λ c κs. search needs)
+    (λ c. let a = c .before .before .before .args in
+    rw (ne-eqb (slotAt (a .place) (a .list .now) .at) (a .at) (λ e. c .if1 .taken (c .before .read-be .ensures .0 ∙ e))))
+    (λ c. search needs) (λ c κs. search needs)
+    (λ c. let a = c .before .before .before .before .before .args in
+    let s = slotAt (a .place) (a .list .now) in
+    rw (eq-eqb (s .at) (a .at) (sym (c .before .before .before .read-be .ensures .0) ∙ c .before .before .if1 .left), ne-eqb (s .zeroWord) 0 (λ e. c .if2 .taken (c .before .read-be2 .ensures .0 ∙ inside (20 + 24 * a .place) 12 4 (a .list .now) ∙ e))))
     (λ c. search needs) (λ c κs. search needs) (λ c κs. search needs) returns-3)

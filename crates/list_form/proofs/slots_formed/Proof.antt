@@ -14,12 +14,6 @@ Inv-loop list count at₀ i₀ at i =
 abbrev μ-loop : tie.MeasureT-loop
 μ-loop list count at₀ i₀ at i = count - i
 
-returns : tie.Need-returns Inv-loop μ-loop
-returns c =
-    let a = c .before .before .before .before .before .args in
-    let l = c .before .before .before .loop in
-    sym (l .inv .2 ∙ formed-stops (length (a .list .now)) (l .at) (l .i) (a .count) (a .list .now) (c .before .before .loop-test .taken) (sym (c .before .slot-formed .ensures) ∙ not-true _ (c .if1 .taken)))
-
 loop-again : tie.Need-loop-again Inv-loop μ-loop
 loop-again c =
     let a = c .before .before .before .before .before .before .args in
@@ -32,16 +26,16 @@ loop-again c =
           (l .inv .2 ∙ formed-next (length (a .list .now)) (l .at) (l .i) (a .count) (a .list .now) (c .before .before .before .loop-test .taken) (sym (c .before .before .slot-formed .ensures) ∙ not-false _ (c .before .if1 .left))),
     )
 
-returns-2 : tie.Need-returns-2 Inv-loop μ-loop
-returns-2 c =
-    let a = c .before .before .before .args in
-    let l = c .before .loop in
-    sym (l .inv .2 ∙ formed-ends (length (a .list .now)) (l .at) (l .i) (a .count) (a .list .now) (c .loop-test .left))
-
 pub slots-formed-spec : {M : Type 1} → statement M
 slots-formed-spec =
     tie.close
-    (tie.spec Inv-loop μ-loop (λ c. search needs) (λ c. search needs) (λ c. (omega arith, omega arith, rw slots-all))
-    (λ c κs. (omega arith, omega arith)) returns (λ c. search needs) (λ c. search needs)
-    (λ c κs. (omega arith, omega arith)) (λ c. omega (arith, c .read-be .ensures .1)) (λ c. search needs)
-    (λ c. search needs) loop-again returns-2)
+    (tie.spec Inv-loop μ-loop (λ c. search needs) (λ c. search needs)
+    (λ c. (omega arith, omega arith, rw slots-all)) (λ c κs. (omega arith, omega arith))
+    (λ c. let a = c .before .before .before .before .before .args in
+    let l = c .before .before .before .loop in
+    sym (l .inv .2 ∙ formed-stops (length (a .list .now)) (l .at) (l .i) (a .count) (a .list .now) (c .before .before .loop-test .taken) (sym (c .before .slot-formed .ensures) ∙ not-true _ (c .if1 .taken))))
+    (λ c. search needs) (λ c. search needs) (λ c κs. (omega arith, omega arith))
+    (λ c. omega (arith, c .read-be .ensures .1)) (λ c. search needs) (λ c. search needs) loop-again
+    (λ c. let a = c .before .before .before .args in
+    let l = c .before .loop in
+    sym (l .inv .2 ∙ formed-ends (length (a .list .now)) (l .at) (l .i) (a .count) (a .list .now) (c .loop-test .left))))

@@ -12,17 +12,13 @@ answered : (c : tie.After-play-fresh) → let p = c .play-fresh in
     ≡ choose (eqb (p .result .code) 0) (shown (listing (pendingOf (p .last .1 .0) (p .last .1 .1 .0) (p .last .0) (p .last .1 .1 .1 .0)))) (refusal (p .result .code))
 answered c = printed-is _ _ _ (c .before .before .before .before .before .if1 .left) (c .play-fresh .ensures .1)
 
-returns-2 : tie.Need-returns-2
-returns-2 c = whole _ (c .write-refusal2 .ensures) (answered (c .before .before .before) ∙ passed _ _ _ (ne-eqb _ 0 (c .before .before .if2 .taken)))
-
-returns-3 : tie.Need-returns-3
-returns-3 c =
-    let d = c .before .before .before .before .before .before in
-    whole _ (c .write-pending .ensures) (answered (d .before) ∙ chosen _ _ _ (eq-eqb _ 0 (d .if2 .left)))
-
 pub print-list-spec : {M : Type 1} → statement M
 print-list-spec =
     tie.close
     (tie.spec (λ c κs. search needs)
     (λ c. whole _ (c .write-refusal .ensures) (too-long _ (c .before .before .if1 .taken))) (λ c κs. search needs)
-    (λ c κs. search needs) returns-2 (λ c κs. search needs) returns-3)
+    (λ c κs. search needs)
+    (λ c. whole _ (c .write-refusal2 .ensures) (answered (c .before .before .before) ∙ passed _ _ _ (ne-eqb _ 0 (c .before .before .if2 .taken))))
+    (λ c κs. search needs)
+    (λ c. let d = c .before .before .before .before .before .before in
+    whole _ (c .write-pending .ensures) (answered (d .before) ∙ chosen _ _ _ (eq-eqb _ 0 (d .if2 .left)))))

@@ -8,13 +8,6 @@ use Rattle.listing_text.proofs.write_io.Tie as tie
 one : (c : tie.After-subclass-byte) → digitCount (c .subclass-byte .result) (c .subclass-byte .result) ≡ 1
 one c = size-one (c .subclass-byte .result) (c .subclass-byte .result) (omega arith)
 
-write-hex8-requires-2 : tie.Need-write-hex8-requires-2
-write-hex8-requires-2 c κs =
-    let d = c .before .before .before .before in
-    let e = d .before .before .before .before .before in
-    let f = e .before .before .before .before .before .before in
-    omega (arith, f .append .ensures .ends, e .write-decimal .ensures .1, one (e .before .before), d .write-hex8 .ensures .1)
-
 returns : tie.Need-returns
 unfolding ascii
 returns c =
@@ -31,4 +24,8 @@ write-io-spec =
     (tie.spec (λ c. search needs) (λ c κs. search needs) (λ c κs. search needs) (λ c. search needs)
     (λ c κs. omega (arith, one (c .before))) (λ c. search needs)
     (λ c κs. omega (arith, one (c .before .before .before .before .before .before))) (λ c. search needs)
-    write-hex8-requires-2 (λ c. search needs) returns)
+    (λ c κs. let d = c .before .before .before .before in
+    let e = d .before .before .before .before .before in
+    let f = e .before .before .before .before .before .before in
+    omega (arith, f .append .ensures .ends, e .write-decimal .ensures .1, one (e .before .before), d .write-hex8 .ensures .1))
+    (λ c. search needs) returns)

@@ -8,20 +8,13 @@ use Rattle.listing_text.proofs.write_number.Tie as tie
 few : (c : tie.Start) → digitCount (c .args .v) (c .args .v) ≤ 20
 few c = size-most 19 (c .args .v) (c .args .v) (omega arith)
 
-write-decimal-requires : tie.Need-write-decimal-requires
-write-decimal-requires c κs =
-    omega (arith, few (c .before .before .before .before .before .before .before .before .before .before .before .before .before))
-
-returns : tie.Need-returns
-unfolding ascii
-returns c =
-    let d = c .before .before .before .before .before .before .before in
-    let e = d .before .before .before .before .before in
-    let w = wrote-then (wrote-then (e .append .ensures) (d .append2 .ensures)) (c .before .before .write-decimal .ensures .0) in
-    (rw (← number-text) w, omega (arith, few (e .before .before .before .before)))
-
 pub write-number-spec : {M : Type 1} → statement M
 write-number-spec =
     tie.close
-    (tie.spec (λ c κs. search needs) (λ c. search needs) (λ c κs. search needs) (λ c. search needs) write-decimal-requires
-    (λ c. search needs) returns)
+    (tie.spec (λ c κs. search needs) (λ c. search needs) (λ c κs. search needs) (λ c. search needs)
+    (λ c κs. omega (arith, few (c .before .before .before .before .before .before .before .before .before .before .before .before .before)))
+    (λ c. search needs)
+    (λ c. unfold ascii in let d = c .before .before .before .before .before .before .before in
+    let e = d .before .before .before .before .before in
+    let w = wrote-then (wrote-then (e .append .ensures) (d .append2 .ensures)) (c .before .before .write-decimal .ensures .0) in
+    (rw (← number-text) w, omega (arith, few (e .before .before .before .before)))))

@@ -39,35 +39,22 @@ other e y f n w =
     let g = e .before .before .before .before in
     rw (← other-line _ _ _ _ (e .before .read-be .ensures .0) _ y (e .kind-at .ensures) f n) (wrote-then (g .write-decimal .ensures .0) w)
 
-returns-2 : tie.Need-returns-2
-unfolding ascii name ofIo
-returns-2 c =
-    let d = c .before .before .before .before .before in
-    (other (d .before .before) Done (d .enum-told .given .1) (λ w. refl) (c .before .before .write-other .ensures .0), omega arith)
-
-returns-3 : tie.Need-returns-3
-unfolding ascii name ofIo
-returns-3 c =
-    let d = c .before .before .before .before .before in
-    (other (d .before .before) Service (d .enum-told2 .given .1) (λ w. refl) (c .before .before .write-other2 .ensures .0), omega arith)
-
-returns-4 : tie.Need-returns-4
-unfolding ascii name ofIo
-returns-4 c =
-    let d = c .before .before .before .before .before in
-    (other (d .before .before) MachineCheck (d .enum-told3 .given .1) (λ w. refl) (c .before .before .write-other3 .ensures .0), omega arith)
-
-returns-5 : tie.Need-returns-5
-unfolding ascii name ofIo
-returns-5 c =
-    let d = c .before .before .before .before .before in
-    (other (d .before .before) Other (d .enum-told4 .given .1) (λ w. refl) (c .before .before .write-other4 .ensures .0), omega arith)
-
 pub write-record-spec : {M : Type 1} → statement M
 write-record-spec =
     tie.close
-    (tie.spec (λ c. search needs) (λ c κs. search needs) (λ c κs. search needs) (λ c κs. search needs) (λ c. search needs)
-    (λ c. search needs) (λ c κs. search needs) write-io-requires (λ c. search needs) (λ c. search needs) (λ c κs. search needs)
-    (λ c. search needs) (λ c. search needs) (λ c κs. search needs) (λ c. search needs) (λ c. search needs) (λ c κs. search needs)
-    (λ c. search needs) (λ c. search needs) (λ c κs. search needs) (λ c. search needs) returns (λ c. search needs) returns-2
-    (λ c. search needs) returns-3 (λ c. search needs) returns-4 (λ c. search needs) returns-5)
+    (tie.spec (λ c. search needs) (λ c κs. search needs) (λ c κs. search needs) (λ c κs. search needs)
+    (λ c. search needs) (λ c. search needs) (λ c κs. search needs) write-io-requires (λ c. search needs)
+    (λ c. search needs) (λ c κs. search needs) (λ c. search needs) (λ c. search needs) (λ c κs. search needs)
+    (λ c. search needs) (λ c. search needs) (λ c κs. search needs) (λ c. search needs) (λ c. search needs)
+    (λ c κs. search needs) (λ c. search needs) returns (λ c. search needs)
+    (λ c. unfold ascii name ofIo in let d = c .before .before .before .before .before in
+    (other (d .before .before) Done (d .enum-told .given .1) (λ w. refl) (c .before .before .write-other .ensures .0), omega arith))
+    (λ c. search needs)
+    (λ c. unfold ascii name ofIo in let d = c .before .before .before .before .before in
+    (other (d .before .before) Service (d .enum-told2 .given .1) (λ w. refl) (c .before .before .write-other2 .ensures .0), omega arith))
+    (λ c. search needs)
+    (λ c. unfold ascii name ofIo in let d = c .before .before .before .before .before in
+    (other (d .before .before) MachineCheck (d .enum-told3 .given .1) (λ w. refl) (c .before .before .write-other3 .ensures .0), omega arith))
+    (λ c. search needs)
+    (λ c. unfold ascii name ofIo in let d = c .before .before .before .before .before in
+    (other (d .before .before) Other (d .enum-told4 .given .1) (λ w. refl) (c .before .before .write-other4 .ensures .0), omega arith)))

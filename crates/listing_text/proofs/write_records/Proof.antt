@@ -9,32 +9,20 @@ abbrev Inv-loop : tie.InvT-loop
 Inv-loop out₀ at b n end₀ i₀ out end i =
     (i ≤ n) × (end ≤ at + i * 27) × (length out ≡ length out₀) × Wrote out₀ out at (linesFrom 0 (recordsIn i b)) end
 
-abbrev μ-loop : tie.MeasureT-loop
-μ-loop out₀ at b n end₀ i₀ out end i = n - i
-
-loop-holds : tie.Need-loop-holds Inv-loop μ-loop
-unfolding linesFrom recordsIn
-loop-holds c =
-    let a = c .before .before .args in
-    (omega arith, omega arith, refl, record { ends = omega arith; fits = omega arith; now = paste-zero (a .out .now) (a .at) [] })
-
-loop-again : tie.Need-loop-again Inv-loop μ-loop
-loop-again c =
-    let d = c .before .before .before .before .before in
-    let l = d .loop in
-    let x = c .before .before .write-record .ensures in
-    let w = wrote-then (l .inv .3) (x .0) in
-    (omega arith, omega arith, wrote-long (x .0) ∙ l .inv .2, rw (← lines-next (l .i) (d .before .before .before .args .b .now)) w)
-
-returns : tie.Need-returns Inv-loop μ-loop
-returns c =
-    let l = c .before .loop in
-    let e : l .i ≡ c .before .before .before .before .args .n = omega arith in
-    rw e at (l .inv .3)
-
 pub write-records-spec : {M : Type 1} → statement M
 write-records-spec =
     tie.close
-    (tie.spec Inv-loop μ-loop loop-holds (λ c. search needs)
-    (λ c κs. (size-most 2 _ _ (omega arith), omega arith, omega arith)) (λ c. search needs) (λ c. search needs)
-    loop-again (λ c. search needs) returns)
+    (tie.spec Inv-loop (λ out₀ at b n end₀ i₀ out end i. n - i)
+    (λ c. unfold linesFrom recordsIn in let a = c .before .before .args in
+    (omega arith, omega arith, refl, record { ends = omega arith; fits = omega arith; now = paste-zero (a .out .now) (a .at) [] }))
+    (λ c. search needs) (λ c κs. (size-most 2 _ _ (omega arith), omega arith, omega arith)) (λ c. search needs)
+    (λ c. search needs)
+    (λ c. let d = c .before .before .before .before .before in
+    let l = d .loop in
+    let x = c .before .before .write-record .ensures in
+    let w = wrote-then (l .inv .3) (x .0) in
+    (omega arith, omega arith, wrote-long (x .0) ∙ l .inv .2, rw (← lines-next (l .i) (d .before .before .before .args .b .now)) w))
+    (λ c. search needs)
+    (λ c. let l = c .before .loop in
+    let e : l .i ≡ c .before .before .before .before .args .n = omega arith in
+    rw e at (l .inv .3)))

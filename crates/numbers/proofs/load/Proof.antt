@@ -6,24 +6,11 @@ use Rattle.numbers.proofs.load.Tie as tie
 abbrev Inv-loop : tie.InvT-loop
 Inv-loop src from r₀ i₀ r i = (i ≤ 72) × (length r ≡ length r₀) × (r ≡ paste r₀ 0 (drop from src) i)
 
-abbrev μ-loop : tie.MeasureT-loop
-μ-loop src from r₀ i₀ r i = 72 - i
-
-loop-again : tie.Need-loop-again Inv-loop μ-loop
-loop-again c =
-    let a = c .before .before .before .args in
-    let l = c .before .before .loop in
-    let s = drop (a .from) (a .src .now) in
-    rw (← getD-drop) (paste-more (l .r) _ 0 s (l .i) (l .i) 72 0 (omega arith) (omega arith) (simp length-drop (omega arith)) (omega arith) (l .inv .1) (l .inv .2))
-
-returns : tie.Need-returns Inv-loop μ-loop
-returns c =
-    let a = c .before .before .args in
-    let l = c .before .loop in
-    paste-all (l .r) _ (drop (a .from) (a .src .now)) (l .i) 72 (omega arith) (search needs) (l .inv .2)
-
 pub load-spec : {M : Type 1} → statement M
 load-spec =
     tie.close
-    (tie.spec Inv-loop μ-loop (λ c. search needs) (λ c. search needs) (λ c. search needs)
-    (λ c. search needs) (λ c. search needs) (λ c. search needs) loop-again returns)
+    (tie.spec Inv-loop (λ src from r₀ i₀ r i. 72 - i) (λ c. search needs) (λ c. search needs) (λ c. search needs)
+    (λ c. search needs) (λ c. search needs) (λ c. search needs)
+    (λ c. let l = c .before .before .loop in
+    rw (← getD-drop) (paste-more (l .r) _ 0 _ (l .i) (l .i) 72 0 (omega arith) (omega arith) (simp length-drop (omega arith)) (omega arith) (l .inv .1) (l .inv .2)))
+    (λ c. let l = c .before .loop in paste-all (l .r) _ _ (l .i) 72 (omega arith) (search needs) (l .inv .2)))

@@ -15,16 +15,6 @@ Inv-loop slots₀ order₀ counts₀ singles₀ b n queued held₀ i₀ slots or
 abbrev μ-loop : tie.MeasureT-loop
 μ-loop slots₀ order₀ counts₀ singles₀ b n queued held₀ i₀ slots order counts singles held i = n - i
 
-loop-holds : tie.Need-loop-holds Inv-loop μ-loop
-loop-holds c = (omega arith, c .before .pre .2, c .before .pre .3, rw records-all (c .before .pre .4), rw records-all, λ z. (refl, refl, refl, refl))
-
-add-one-requires : tie.Need-add-one-requires Inv-loop μ-loop
-add-one-requires c κs =
-    let j = c .before .before .before .before .before in
-    let f = j .before .before in
-    let v = j .loop .inv in
-    (omega arith, v .1, v .2, omega (arith, v .3, want-next (j .loop .i) (f .args .n) (f .args .b .now) (c .before .before .before .before .loop-test .taken)))
-
 loop-again : tie.Need-loop-again Inv-loop μ-loop
 loop-again c =
     let j = c .before .before .before .before .before in
@@ -39,13 +29,17 @@ loop-again c =
       λ z. let u : ⊥ = omega (arith, z, j .loop-test .taken) in absurd u,
     )
 
-returns : tie.Need-returns Inv-loop μ-loop
-returns c =
-    let f = c .before .before .before in
-    let v = c .before .loop .inv in
-    (sym (v .4 ∙ add-ends (c .before .loop .i) (f .args .n) (f .args .b .now) _ (c .loop-test .left)), (v .2, v .5))
-
 pub add-all-spec : {M : Type 1} → statement M
 add-all-spec =
     tie.close
-    (tie.spec Inv-loop μ-loop loop-holds (λ c. search needs) add-one-requires (λ c. search needs) (λ c. search needs) loop-again returns)
+    (tie.spec Inv-loop μ-loop
+    (λ c. (omega arith, c .before .pre .2, c .before .pre .3, rw records-all (c .before .pre .4), rw records-all, λ z. (refl, refl, refl, refl)))
+    (λ c. search needs)
+    (λ c κs. let j = c .before .before .before .before .before in
+    let f = j .before .before in
+    let v = j .loop .inv in
+    (omega arith, v .1, v .2, omega (arith, v .3, want-next (j .loop .i) (f .args .n) (f .args .b .now) (c .before .before .before .before .loop-test .taken))))
+    (λ c. search needs) (λ c. search needs) loop-again
+    (λ c. let f = c .before .before .before in
+    let v = c .before .loop .inv in
+    (sym (v .4 ∙ add-ends (c .before .loop .i) (f .args .n) (f .args .b .now) _ (c .loop-test .left)), (v .2, v .5))))

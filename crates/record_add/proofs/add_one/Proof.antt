@@ -14,22 +14,6 @@ given f = part (f .args .at) 72 (f .args .b .now)
 known : (m : tie.After-kind-at) (y : Kind) → m .kind-at .result ≡ y → kind (given (m .before .before)) ≡ kindFor y
 known m y e = let r = given (m .before .before) in kind-known (kind r) (subclass r) _ (m .kind-at .ensures) ∙ ap kindFor e
 
-append-requires : tie.Need-append-requires
-unfolding wants
-append-requires c κs =
-    let j = c .before .before .before .before .before .before in
-    let f = j .before .before .before .before in
-    let k = io-told (given f) _ (j .isc .given .0 .0) (j .before .before .kind-at .ensures) (j .isc .given .1) in
-    (rw (c .before .of .ensures) (omega (arith, k .2)), f .pre .1, omega (arith, f .pre .1, rw (k .0) at (f .pre .3)), f .pre .2)
-
-append-requires-2 : tie.Need-append-requires-2
-unfolding wants
-append-requires-2 c κs =
-    let j = c .before .before .before .before .before in
-    let f = j .before .before .before .before in
-    let k = known (j .before .before) _ (j .enum-told .given .1) in
-    (rw (c .before .done .ensures) (omega arith), f .pre .1, omega (arith, f .pre .1, rw k at (f .pre .3)), f .pre .2)
-
 returns : tie.Need-returns
 unfolding wants
 returns c =
@@ -50,33 +34,30 @@ returns-2 c =
       (c .append2 .ensures .held, omega (arith, f .pre .1, c .append2 .ensures .count), rw k),
     )
 
-returns-3 : tie.Need-returns-3
-unfolding wants
-returns-3 c =
-    let m = c .before .before .before .before .before in
-    let k = known m _ (c .before .before .before .enum-told2 .given .1) in
-    let f = m .before .before in
-    (adds-service _ _ _ _ (given f) _ (c .before .load3 .ensures) _ k (c .add-service .ensures), (f .pre .2, f .pre .1, rw k (omega arith)))
-
-returns-4 : tie.Need-returns-4
-unfolding wants
-returns-4 c =
-    let m = c .before .before .before .before .before in
-    let k = known m _ (c .before .before .before .enum-told3 .given .1) in
-    let f = m .before .before in
-    (adds-mchk _ _ _ _ (given f) _ (c .before .load4 .ensures) _ k (c .add-mchk .ensures), (f .pre .2, f .pre .1, rw k (omega arith)))
-
-returns-5 : tie.Need-returns-5
-unfolding wants
-returns-5 c =
-    let m = c .before .before in
-    let k = known m _ (c .enum-told4 .given .1) in
-    let f = m .before .before in
-    (adds-other _ _ _ _ (given f) _ refl k, (f .pre .2, f .pre .1, rw k (omega arith)))
-
 pub add-one-spec : {M : Type 1} → statement M
 add-one-spec =
     tie.close
-    (tie.spec (λ c κs. search needs) (λ c. search needs) (λ c κs. search needs) (λ c κs. search needs) append-requires (λ c. search needs) (λ c. search needs)
-    (λ c κs. search needs) (λ c κs. search needs) append-requires-2 (λ c. search needs) (λ c. search needs) (λ c κs. search needs) (λ c κs. search needs) (λ c. search needs)
-    (λ c κs. search needs) (λ c κs. search needs) (λ c. search needs) returns returns-2 returns-3 returns-4 returns-5)
+    (tie.spec (λ c κs. search needs) (λ c. search needs) (λ c κs. search needs) (λ c κs. search needs)
+    (λ c κs. unfold wants in let j = c .before .before .before .before .before .before in
+    let f = j .before .before .before .before in
+    let k = io-told (given f) _ (j .isc .given .0 .0) (j .before .before .kind-at .ensures) (j .isc .given .1) in
+    (rw (c .before .of .ensures) (omega (arith, k .2)), f .pre .1, omega (arith, f .pre .1, rw (k .0) at (f .pre .3)), f .pre .2))
+    (λ c. search needs) (λ c. search needs) (λ c κs. search needs) (λ c κs. search needs)
+    (λ c κs. unfold wants in let j = c .before .before .before .before .before in
+    let f = j .before .before .before .before in
+    let k = known (j .before .before) _ (j .enum-told .given .1) in
+    (rw (c .before .done .ensures) (omega arith), f .pre .1, omega (arith, f .pre .1, rw k at (f .pre .3)), f .pre .2))
+    (λ c. search needs) (λ c. search needs) (λ c κs. search needs) (λ c κs. search needs) (λ c. search needs)
+    (λ c κs. search needs) (λ c κs. search needs) (λ c. search needs) returns returns-2
+    (λ c. unfold wants in let m = c .before .before .before .before .before in
+    let k = known m _ (c .before .before .before .enum-told2 .given .1) in
+    let f = m .before .before in
+    (adds-service _ _ _ _ (given f) _ (c .before .load3 .ensures) _ k (c .add-service .ensures), (f .pre .2, f .pre .1, rw k (omega arith))))
+    (λ c. unfold wants in let m = c .before .before .before .before .before in
+    let k = known m _ (c .before .before .before .enum-told3 .given .1) in
+    let f = m .before .before in
+    (adds-mchk _ _ _ _ (given f) _ (c .before .load4 .ensures) _ k (c .add-mchk .ensures), (f .pre .2, f .pre .1, rw k (omega arith))))
+    (λ c. unfold wants in let m = c .before .before in
+    let k = known m _ (c .enum-told4 .given .1) in
+    let f = m .before .before in
+    (adds-other _ _ _ _ (given f) _ refl k, (f .pre .2, f .pre .1, rw k (omega arith)))))

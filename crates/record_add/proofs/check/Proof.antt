@@ -34,14 +34,11 @@ loop-again c =
     (c .match .came) in
     (omega arith, omega arith, j .loop .inv .2 ∙ check-next (j .loop .place) (a .n) _ (a .b .now) _ (c .before .before .loop-test .taken) (u .0) (u .1))
 
-returns-2 : tie.Need-returns-2 Inv-loop μ-loop
-returns-2 c =
-    let f = c .before .before .before in
-    sym (c .before .loop .inv .2 ∙ check-ends (c .before .loop .place) (f .args .n) _ (f .args .b .now) (c .loop-test .left))
-
 pub check-spec : {M : Type 1} → statement M
 check-spec =
     tie.close
     (tie.spec Inv-loop μ-loop (λ c. (omega arith, omega arith, rw records-all)) (λ c. search needs)
     (λ c κs. search needs) (λ c. search needs) (λ c. search needs) returns (λ c. search needs) (λ c. search needs)
-    loop-again returns-2)
+    loop-again
+    (λ c. let f = c .before .before .before in
+    sym (c .before .loop .inv .2 ∙ check-ends (c .before .loop .place) (f .args .n) _ (f .args .b .now) (c .loop-test .left))))

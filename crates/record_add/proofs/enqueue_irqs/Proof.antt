@@ -10,20 +10,6 @@ use Rattle.record_add.specs.Cases.{checkFrom, answerTo}
 use Rattle.record_add.proofs.{Laws.queued-total, Laws.add-none, Laws.told, Laws.answer-good, Laws.enqueuing, Laws.enqueue-bad, Laws.enqueue-good, enqueue_irqs.Statement.statement}
 use Rattle.record_add.proofs.enqueue_irqs.Tie as tie
 
-returns : tie.Need-returns
-unfolding request
-returns c = (
-  λ L s er ep. refused L s _ _ _ 22 _ ep (fails _ _ _ (rw (eq-eqb _ 0 (c .before .if1 .taken)))) (c .refuse .ensures),
-  (c .before .before .before .pre .1, λ k. (refl, refl, refl, refl)),
-)
-
-returns-2 : tie.Need-returns-2
-unfolding request
-returns-2 c = (
-  λ L s er ep. refused L s _ _ _ 22 _ ep (fails _ _ _ (rw (ne-eqb _ 0 (c .before .before .if1 .left), lt-leb _ enqueueBytes (c .before .if2 .taken)))) (c .refuse2 .ensures),
-  (c .before .before .before .before .pre .1, λ k. (refl, refl, refl, refl)),
-)
-
 returns-3 : tie.Need-returns-3
 unfolding request
 returns-3 c =
@@ -62,12 +48,6 @@ added-fit j =
     (λ t. (omega arith, omega arith, omega (arith, f .pre .1 .counted .few, ap (λ (n : ℕ). allWant (recordsIn n b)) (t .1))))
     (j .if5 .came)
 
-add-all-requires : tie.Need-add-all-requires
-add-all-requires c κs =
-    let j = c .before .before .before .before in
-    let e = added-fit j in
-    (e .0, e .1, j .before .before .before .queued .ensures, start j .pre .1, e .2)
-
 returns-5 : tie.Need-returns-5
 returns-5 c =
     let j = c .before .before .before .before .before in
@@ -92,5 +72,18 @@ returns-5 c =
 pub enqueue-irqs-spec : {M : Type 1} → statement M
 enqueue-irqs-spec =
     tie.close
-    (tie.spec (λ c κs. search needs) returns (λ c κs. search needs) returns-2 (λ c κs. search needs) returns-3
-    (λ c κs. search needs) returns-4 (λ c κs. search needs) (λ c κs. search needs) add-all-requires returns-5)
+    (tie.spec (λ c κs. search needs)
+    (λ c. unfold request in (
+      λ L s er ep. refused L s _ _ _ 22 _ ep (fails _ _ _ (rw (eq-eqb _ 0 (c .before .if1 .taken)))) (c .refuse .ensures),
+      (c .before .before .before .pre .1, λ k. (refl, refl, refl, refl)),
+    ))
+    (λ c κs. search needs)
+    (λ c. unfold request in (
+      λ L s er ep. refused L s _ _ _ 22 _ ep (fails _ _ _ (rw (ne-eqb _ 0 (c .before .before .if1 .left), lt-leb _ enqueueBytes (c .before .if2 .taken)))) (c .refuse2 .ensures),
+      (c .before .before .before .before .pre .1, λ k. (refl, refl, refl, refl)),
+    ))
+    (λ c κs. search needs) returns-3 (λ c κs. search needs) returns-4 (λ c κs. search needs) (λ c κs. search needs)
+    (λ c κs. let j = c .before .before .before .before in
+    let e = added-fit j in
+    (e .0, e .1, j .before .before .before .queued .ensures, start j .pre .1, e .2))
+    returns-5)

@@ -10,27 +10,12 @@ use Rattle.record_add.proofs.kind_at.Tie as tie
 known : (c : tie.After-read-doubleword) → let a = c .before .before .args in kind (part (a .at) 72 (a .b .now)) ≡ rules.kindOf (c .read-doubleword .result)
 known c = let a = c .before .before .args in kind-at-is (a .at) _ (a .b .now) (c .read-doubleword .ensures .0)
 
-returns : tie.Need-returns
-unfolding asCase choose rules.kindOf
-returns c = rw (known (c .before .before), le-leb _ 0xfffdffff (c .before .if1 .taken), c .subclass-at .ensures)
-
-returns-2 : tie.Need-returns-2
-unfolding asCase choose rules.kindOf
-returns-2 c = rw (known (c .before .before), lt-leb _ 0xfffdffff (c .before .if1 .left), eq-eqb _ 0xfffe0005 (c .if2 .taken))
-
-returns-3 : tie.Need-returns-3
-unfolding asCase choose rules.kindOf
-returns-3 c = rw (known (c .before .before .before), lt-leb _ 0xfffdffff (c .before .before .if1 .left), ne-eqb _ 0xfffe0005 (c .before .if2 .left), eq-eqb _ 0xfffe1000 (c .if3 .taken))
-
-returns-4 : tie.Need-returns-4
-unfolding asCase choose rules.kindOf
-returns-4 c = rw (known (c .before .before .before .before), lt-leb _ 0xfffdffff (c .before .before .before .if1 .left), ne-eqb _ 0xfffe0005 (c .before .before .if2 .left), ne-eqb _ 0xfffe1000 (c .before .if3 .left), eq-eqb _ 0xffff2401 (c .if4 .taken))
-
-returns-5 : tie.Need-returns-5
-unfolding asCase choose rules.kindOf
-returns-5 c = rw (known (c .before .before .before .before), lt-leb _ 0xfffdffff (c .before .before .before .if1 .left), ne-eqb _ 0xfffe0005 (c .before .before .if2 .left), ne-eqb _ 0xfffe1000 (c .before .if3 .left), ne-eqb _ 0xffff2401 (c .if4 .left))
-
 pub kind-at-spec : {M : Type 1} → statement M
 kind-at-spec =
     tie.close
-    (tie.spec (λ c κs. search needs) (λ c κs. search needs) returns returns-2 returns-3 returns-4 returns-5)
+    (tie.spec (λ c κs. search needs) (λ c κs. search needs)
+    (λ c. unfold asCase choose rules.kindOf in rw (known (c .before .before), le-leb _ 0xfffdffff (c .before .if1 .taken), c .subclass-at .ensures))
+    (λ c. unfold asCase choose rules.kindOf in rw (known (c .before .before), lt-leb _ 0xfffdffff (c .before .if1 .left), eq-eqb _ 0xfffe0005 (c .if2 .taken)))
+    (λ c. unfold asCase choose rules.kindOf in rw (known (c .before .before .before), lt-leb _ 0xfffdffff (c .before .before .if1 .left), ne-eqb _ 0xfffe0005 (c .before .if2 .left), eq-eqb _ 0xfffe1000 (c .if3 .taken)))
+    (λ c. unfold asCase choose rules.kindOf in rw (known (c .before .before .before .before), lt-leb _ 0xfffdffff (c .before .before .before .if1 .left), ne-eqb _ 0xfffe0005 (c .before .before .if2 .left), ne-eqb _ 0xfffe1000 (c .before .if3 .left), eq-eqb _ 0xffff2401 (c .if4 .taken)))
+    (λ c. unfold asCase choose rules.kindOf in rw (known (c .before .before .before .before), lt-leb _ 0xfffdffff (c .before .before .before .if1 .left), ne-eqb _ 0xfffe0005 (c .before .before .if2 .left), ne-eqb _ 0xfffe1000 (c .before .if3 .left), ne-eqb _ 0xffff2401 (c .if4 .left))))

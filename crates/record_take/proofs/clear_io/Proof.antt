@@ -6,17 +6,6 @@ use Rattle.answers.proofs.Laws.{refused, accepted, not-refused}
 use Rattle.record_take.proofs.{Laws.word-zero, Laws.clears-none, Laws.clears-one, clear_io.Statement.statement}
 use Rattle.record_take.proofs.clear_io.Tie as tie
 
-returns : tie.Need-returns
-unfolding request clearsIo
-returns c = (λ L s g e. refused L s _ _ _ 22 _ e (fails _ _ _ (lt-leb 4 _ (c .before .if1 .taken))) (c .refuse .ensures), (c .before .before .before .pre, λ k. (refl, refl)))
-
-returns-2 : tie.Need-returns-2
-unfolding request clearsIo
-returns-2 c = (
-  λ L s g e. refused L s _ _ _ 14 _ e (passes _ _ _ (le-leb 4 _ (c .before .before .if1 .left)) ∙ fails _ _ _ (lt-leb 4 _ (c .before .if2 .taken))) (c .refuse2 .ensures),
-  (c .before .before .before .before .pre, λ k. (refl, refl)),
-)
-
 returns-3 : tie.Need-returns-3
 unfolding request clearsIo
 returns-3 c =
@@ -49,13 +38,6 @@ found : (c : tie.After-isc) → let a = c .before .before .before .before .befor
     (c .isc .given .0 .0 .0 < 8) × (c .isc .given .0 .1 .0 < getD (a .counts .now) (c .isc .given .0 .0 .0) 0)
 found c = rw (c .isc .given .1) at (c .before .before .find .ensures .1 .1)
 
-remove-requires : tie.Need-remove-requires
-remove-requires c κs =
-    let j = c .before .before .before .before in
-    let f = j .before .before .before .before .before .before .before .before .before .before in
-    let p = found j in
-    rw (c .of .ensures) (omega (arith, p .0), p .1, f .pre)
-
 returns-5 : tie.Need-returns-5
 returns-5 c =
     let m = c .before in
@@ -76,5 +58,17 @@ returns-5 c =
 pub clear-io-spec : {M : Type 1} → statement M
 clear-io-spec =
     tie.close
-    (tie.spec (λ c κs. search needs) returns (λ c κs. search needs) returns-2 (λ c κs. search needs) (λ c κs. search needs) returns-3 (λ c κs. search needs) (λ c. search needs)
-    (λ c. search needs) (λ c κs. search needs) returns-4 (λ c κs. search needs) remove-requires (λ c κs. search needs) returns-5)
+    (tie.spec (λ c κs. search needs)
+    (λ c. unfold request clearsIo in (λ L s g e. refused L s _ _ _ 22 _ e (fails _ _ _ (lt-leb 4 _ (c .before .if1 .taken))) (c .refuse .ensures), (c .before .before .before .pre, λ k. (refl, refl))))
+    (λ c κs. search needs)
+    (λ c. unfold request clearsIo in (
+      λ L s g e. refused L s _ _ _ 14 _ e (passes _ _ _ (le-leb 4 _ (c .before .before .if1 .left)) ∙ fails _ _ _ (lt-leb 4 _ (c .before .if2 .taken))) (c .refuse2 .ensures),
+      (c .before .before .before .before .pre, λ k. (refl, refl)),
+    ))
+    (λ c κs. search needs) (λ c κs. search needs) returns-3 (λ c κs. search needs) (λ c. search needs)
+    (λ c. search needs) (λ c κs. search needs) returns-4 (λ c κs. search needs)
+    (λ c κs. let j = c .before .before .before .before in
+    let f = j .before .before .before .before .before .before .before .before .before .before in
+    let p = found j in
+    rw (c .of .ensures) (omega (arith, p .0), p .1, f .pre))
+    (λ c κs. search needs) returns-5)

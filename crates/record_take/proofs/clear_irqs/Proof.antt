@@ -7,13 +7,6 @@ use Rattle.store.proofs.Laws.{none-left}
 use Rattle.record_take.proofs.{Laws.clears-all, clear_irqs.Statement.statement}
 use Rattle.record_take.proofs.clear_irqs.Tie as tie
 
-returns : tie.Need-returns
-unfolding request
-returns c = (
-  λ L s slots b e. refused L s b _ _ 22 _ e (fails _ _ _ (ne-eqb _ 0 (c .before .if1 .taken))) (c .refuse .ensures),
-  (c .before .before .pre, λ k. (refl, refl, refl)),
-)
-
 returns-2 : tie.Need-returns-2
 unfolding request
 returns-2 c =
@@ -34,4 +27,10 @@ returns-2 c =
 pub clear-irqs-spec : {M : Type 1} → statement M
 clear-irqs-spec =
     tie.close
-    (tie.spec (λ c κs. search needs) returns (λ c κs. search needs) (λ c κs. search needs) (λ c κs. search needs) (λ c κs. search needs) (λ c κs. search needs) returns-2)
+    (tie.spec (λ c κs. search needs)
+    (λ c. unfold request in (
+      λ L s slots b e. refused L s b _ _ 22 _ e (fails _ _ _ (ne-eqb _ 0 (c .before .if1 .taken))) (c .refuse .ensures),
+      (c .before .before .pre, λ k. (refl, refl, refl)),
+    ))
+    (λ c κs. search needs) (λ c κs. search needs) (λ c κs. search needs) (λ c κs. search needs)
+    (λ c κs. search needs) returns-2)

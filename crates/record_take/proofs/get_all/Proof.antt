@@ -14,21 +14,6 @@ room c =
     let a = f .args in
     omega (arith, c .before .before .pending .ensures .0 (a .order .now) (a .slots .now) (f .pre))
 
-returns : tie.Need-returns
-unfolding request
-returns c = (λ L s e. refused L s _ _ _ 22 _ refl (fails _ _ _ (ap not (eq-eqb _ 0 (c .before .if1 .taken)))) (c .refuse .ensures), λ k. refl)
-
-returns-2 : tie.Need-returns-2
-unfolding request
-returns-2 c = (λ L s e. refused L s _ _ _ 14 _ refl (passes _ _ _ (ap not (ne-eqb _ 0 (c .before .before .if1 .left))) ∙ fails _ _ _ (lt-leb _ _ (c .before .if2 .taken))) (c .refuse2 .ensures), λ k. refl)
-
-returns-3 : tie.Need-returns-3
-unfolding request
-returns-3 c =
-    let d = c .before .before .before in
-    let f = d .before .before .before in
-    (λ L s e. refused L s _ _ _ 12 _ refl (passes _ _ _ (ap not (ne-eqb _ 0 (d .before .if1 .left))) ∙ passes _ _ _ (le-leb _ _ (d .if2 .left)) ∙ lists-none s _ _ _ e (c .before .before .pending .ensures .0 (f .args .order .now) (f .args .slots .now) (f .pre)) (c .before .if3 .taken)) (c .refuse3 .ensures), λ k. refl)
-
 returns-4 : tie.Need-returns-4
 unfolding request
 returns-4 c =
@@ -48,7 +33,13 @@ returns-4 c =
 pub get-all-spec : {M : Type 1} → statement M
 get-all-spec =
     tie.close
-    (tie.spec (λ c κs. search needs) returns (λ c κs. search needs) returns-2 (λ c κs. search needs)
-    (λ c. search needs) (λ c κs. search needs) returns-3
+    (tie.spec (λ c κs. search needs)
+    (λ c. unfold request in (λ L s e. refused L s _ _ _ 22 _ refl (fails _ _ _ (ap not (eq-eqb _ 0 (c .before .if1 .taken)))) (c .refuse .ensures), λ k. refl))
+    (λ c κs. search needs)
+    (λ c. unfold request in (λ L s e. refused L s _ _ _ 14 _ refl (passes _ _ _ (ap not (ne-eqb _ 0 (c .before .before .if1 .left))) ∙ fails _ _ _ (lt-leb _ _ (c .before .if2 .taken))) (c .refuse2 .ensures), λ k. refl))
+    (λ c κs. search needs) (λ c. search needs) (λ c κs. search needs)
+    (λ c. unfold request in let d = c .before .before .before in
+    let f = d .before .before .before in
+    (λ L s e. refused L s _ _ _ 12 _ refl (passes _ _ _ (ap not (ne-eqb _ 0 (d .before .if1 .left))) ∙ passes _ _ _ (le-leb _ _ (d .if2 .left)) ∙ lists-none s _ _ _ e (c .before .before .pending .ensures .0 (f .args .order .now) (f .args .slots .now) (f .pre)) (c .before .if3 .taken)) (c .refuse3 .ensures), λ k. refl))
     (λ c κs. (c .before .before .before .before .before .before .pre, room c)) (λ c κs. search needs)
     (λ c. search needs) returns-4)

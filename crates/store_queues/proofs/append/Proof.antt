@@ -13,11 +13,6 @@ room c =
     let f = start c in
     omega (arith, count-small (f .args .c .now) (f .pre .3 .counted) (f .args .q .0) (f .pre .0), f .pre .1, f .pre .2)
 
-add-c-3 : tie.Need-add-c-3
-add-c-3 c =
-    let f = start (c .before) in
-    omega (arith, waiting-small (f .args .c .now) (f .pre .3 .counted), div-le-self 128 (2 ^ (f .args .q .0)))
-
 returns : tie.Need-returns
 returns c =
     let f = start (c .before) in
@@ -42,4 +37,7 @@ append-spec =
     (tie.spec (λ c. search needs) (λ c. search needs) (λ c. search needs) (λ c κs. search needs) (λ c. search needs)
     (λ c. search needs) (λ c. search needs) (λ c. search needs) (λ c. omega (arith, room c))
     (λ c. omega (arith, room c)) (λ c. omega (arith, room c)) (λ c. search needs) (λ c. search needs)
-    (λ c. search needs) (λ c. search needs) (λ c. search needs) add-c-3 (λ c. search needs) returns returns-2)
+    (λ c. search needs) (λ c. search needs) (λ c. search needs)
+    (λ c. let f = start (c .before) in
+    omega (arith, waiting-small (f .args .c .now) (f .pre .3 .counted), div-le-self 128 (2 ^ (f .args .q .0))))
+    (λ c. search needs) returns returns-2)

@@ -20,12 +20,6 @@ room c =
     let l = c .before .loop in
     queue-fits (a .o .now) (a .c .now) (a .b .now) (f .pre .0) (a .out .now) (l .out) (l .i) (l .at) (omega arith) (l .inv .1) (f .pre .1)
 
-list-queue-requires : tie.Need-list-queue-requires Inv-loop μ-loop
-list-queue-requires c κs =
-    let i = c .before .before in
-    let f = i .before .before .before in
-    (omega arith, count-fits (f .args .o .now) (f .args .c .now) (f .pre .0) (i .before .loop .i) (omega arith), f .pre .0 .long, omega (arith, room i, i .before .loop .inv .2))
-
 loop-again : tie.Need-loop-again Inv-loop μ-loop
 loop-again c =
     let q = c .before .before in
@@ -49,6 +43,9 @@ pub list-spec : {M : Type 1} → statement M
 list-spec =
     tie.close
     (tie.spec Inv-loop μ-loop (λ c. unfold flatten sum in search needs) (λ c. search needs) (λ c. search needs)
-    list-queue-requires (λ c. omega (arith, room (c .before .before .before .before .before)))
+    (λ c κs. let i = c .before .before in
+    let f = i .before .before .before in
+    (omega arith, count-fits (f .args .o .now) (f .args .c .now) (f .pre .0) (i .before .loop .i) (omega arith), f .pre .0 .long, omega (arith, room i, i .before .loop .inv .2)))
+    (λ c. omega (arith, room (c .before .before .before .before .before)))
     (λ c. omega (arith, room (c .before .before .before .before .before))) (λ c. search needs) (λ c. search needs)
     loop-again (λ c. search needs) returns)

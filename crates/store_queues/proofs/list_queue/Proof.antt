@@ -13,10 +13,6 @@ Inv-loop b o q n out₀ at k₀ out k =
 abbrev μ-loop : tie.MeasureT-loop
 μ-loop b o q n out₀ at k₀ out k = n - k
 
-loop-holds : tie.Need-loop-holds Inv-loop μ-loop
-unfolding flatten
-loop-holds c = (omega arith, refl, refl, paste-zero (c .before .args .out .now) (c .before .args .at) [])
-
 loop-again : tie.Need-loop-again Inv-loop μ-loop
 loop-again c =
     let r = c .before .before .before in
@@ -44,5 +40,7 @@ returns c =
 pub list-queue-spec : {M : Type 1} → statement M
 list-queue-spec =
     tie.close
-    (tie.spec Inv-loop μ-loop loop-holds (λ c. search needs) (λ c. search needs) (λ c κs. search needs) (λ c κs. search needs) (λ c κs. search needs) (λ c. search needs)
-    (λ c. search needs) loop-again (λ c. search needs) returns)
+    (tie.spec Inv-loop μ-loop
+    (λ c. unfold flatten in (omega arith, refl, refl, paste-zero (c .before .args .out .now) (c .before .args .at) []))
+    (λ c. search needs) (λ c. search needs) (λ c κs. search needs) (λ c κs. search needs) (λ c κs. search needs)
+    (λ c. search needs) (λ c. search needs) loop-again (λ c. search needs) returns)

@@ -15,11 +15,6 @@ few f = (count-small (f .args .c .now) (f .pre .2 .counted) (f .args .q .0) (f .
 there : (f : tie.Start) → 128 / 2 ^ (f .args .q .0) ≤ waiting (f .args .c .now)
 there f = bit-there (f .args .c .now) (f .pre .2 .counted) (f .args .q .0) (f .pre .0) (λ z. omega (arith, z, f .pre .1))
 
-move-down-requires : tie.Need-move-down-requires
-move-down-requires c κs =
-    let f = c .before .before .before .before .before in
-    (omega arith, omega (arith, few f, f .pre .2 .long))
-
 returns : tie.Need-returns
 returns c =
     let f = start (c .before) in
@@ -46,7 +41,9 @@ remove-spec =
     (tie.spec (λ c. search needs) (λ c. omega (arith, few c)) (λ c. omega (arith, few c)) (λ c. search needs)
     (λ c. search needs) (λ c. search needs) (λ c. search needs) (λ c. search needs)
     (λ c. omega (arith, few (c .before .before .before .before .before)))
-    (λ c. omega (arith, few (c .before .before .before .before .before))) move-down-requires (λ c. search needs)
-    (λ c. omega (arith, few (start c))) (λ c. search needs) (λ c. search needs) (λ c. omega (arith, few (start c)))
-    (λ c. search needs) (λ c. search needs) (λ c. omega (arith, there (start (c .before)))) (λ c. search needs)
-    returns returns-2)
+    (λ c. omega (arith, few (c .before .before .before .before .before)))
+    (λ c κs. let f = c .before .before .before .before .before in
+    (omega arith, omega (arith, few f, f .pre .2 .long)))
+    (λ c. search needs) (λ c. omega (arith, few (start c))) (λ c. search needs) (λ c. search needs)
+    (λ c. omega (arith, few (start c))) (λ c. search needs) (λ c. search needs)
+    (λ c. omega (arith, there (start (c .before)))) (λ c. search needs) returns returns-2)

@@ -74,16 +74,6 @@ loop-holds c =
       rw (c .has-bit .ensures) (s .search .inv .2 ∙ search-queue (queues (a .o .now) (a .c .now) (a .b .now)) _ _ _ (i .search-test .taken) (length-queues (a .o .now) (a .c .now) (f .pre) (a .b .now))),
     )
 
-slot-of-requires : tie.Need-slot-of-requires Inv-loop μ-loop Inv-search μ-search
-slot-of-requires c κs =
-    let z = size (c .before .before .before .before .before) in
-    (omega (arith, z .2), omega (arith, ltb-true, z .1))
-
-add-k : tie.Need-add-k Inv-loop μ-loop Inv-search μ-search
-add-k c =
-    let z = size (c .before .before .before .before .before .before .before .before) in
-    omega (arith, ltb-true, z .1)
-
 -- the record that is looked at
 looked : (c : tie.After-is-for Inv-loop μ-loop Inv-search μ-search)
     → let l = c .before .before .before .before .before in
@@ -146,6 +136,10 @@ pub find-spec : {M : Type 1} → statement M
 find-spec =
     tie.close
     (tie.spec Inv-loop μ-loop Inv-search μ-search (λ c. (omega arith, refl, refl)) (λ c κs. search needs)
-    (λ c κs. rw (c .of .ensures) (omega arith)) (λ c κs. search needs) loop-holds slot-of-requires
-    (λ c κs. search needs) add-k (λ c. omega (arith, ltb-true)) loop-again (λ c. search needs) (λ c. search needs)
-    search-again returns returns-2)
+    (λ c κs. rw (c .of .ensures) (omega arith)) (λ c κs. search needs) loop-holds
+    (λ c κs. let z = size (c .before .before .before .before .before) in
+    (omega (arith, z .2), omega (arith, ltb-true, z .1)))
+    (λ c κs. search needs)
+    (λ c. let z = size (c .before .before .before .before .before .before .before .before) in
+    omega (arith, ltb-true, z .1))
+    (λ c. omega (arith, ltb-true)) loop-again (λ c. search needs) (λ c. search needs) search-again returns returns-2)

@@ -6,25 +6,16 @@ use Rattle.store_singles.proofs.merge.Tie as tie
 abbrev Inv-loop : tie.InvT-loop
 Inv-loop g₀ r i₀ g i = (i ≤ 16) × (length g ≡ length g₀) × (g ≡ paste g₀ 80 (ors g₀ r) i)
 
-abbrev μ-loop : tie.MeasureT-loop
-μ-loop g₀ r i₀ g i = 16 - i
-
-loop-again : tie.Need-loop-again Inv-loop μ-loop
-loop-again c =
-    let a = c .before .before .before .args in
-    let l = c .before .before .loop in
-    (omega arith, simp length-set (l .inv .1), merge-turn (a .g .now) (a .t2) (omega arith) (l .g) (l .i) (omega arith) (l .inv .1) (l .inv .2))
-
-returns : tie.Need-returns Inv-loop μ-loop
-returns c =
-    let a = c .before .before .args in
-    let e : c .before .loop .i ≡ 16 = omega arith in
-    rw (← merge-all (a .g .now) (a .t2)) (rw e at (c .before .loop .inv .2))
-
 pub merge-spec : {M : Type 1} → statement M
 merge-spec =
     tie.close
-    (tie.spec Inv-loop μ-loop
+    (tie.spec Inv-loop (λ g₀ r i₀ g i. 16 - i)
     (λ c. (omega arith, refl, paste-zero (c .args .g .now) 80 (ors (c .args .g .now) (c .args .t2))))
     (λ c. search needs) (λ c. search needs) (λ c. search needs) (λ c. search needs) (λ c. search needs)
-    (λ c. search needs) (λ c. search needs) (λ c. search needs) loop-again returns)
+    (λ c. search needs) (λ c. search needs) (λ c. search needs)
+    (λ c. let a = c .before .before .before .args in
+    let l = c .before .before .loop in
+    (omega arith, simp length-set (l .inv .1), merge-turn (a .g .now) (a .t2) (omega arith) (l .g) (l .i) (omega arith) (l .inv .1) (l .inv .2)))
+    (λ c. let a = c .before .before .args in
+    let e : c .before .loop .i ≡ 16 = omega arith in
+    rw (← merge-all (a .g .now) (a .t2)) (rw e at (c .before .loop .inv .2))))

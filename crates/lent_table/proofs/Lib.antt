@@ -7,6 +7,7 @@ pub mod Gives
 pub mod Called
 pub mod Locals
 pub mod Count
+pub mod Plain
 pub mod Modes
 pub mod Record
 pub mod Tables

@@ -1,58 +1,133 @@
--- What the mode functions of three parameters share: the record behind `d: &mut Device` is copied out, a function by value is called with it and the two others,
--- and what that gives is stored. The two others, of any types τ₂ and τ₃, hold v₂ and v₃.
-use Rattle.lent_table.proofs.Walk.{refl, ap, subst, ℕ, [], _∷_, List, URA, fullShare, named, tyUnit, tyRef, mut, Ty, Val, vunit, vptr, SProp, ent, emp, GName, Lft, Share, Fml, ftrue, flft, fobs, fbor, fobor, fauth, fat, Heap, Env, Calls, Loops, Atoms, Given, Item, Sq, runs, mean, atRet, ‵, ⋆, _$_, !, by, move, drop, rewrite, look, look-raw, store-raw, init, stop, hop, from, load, unit-lit, of-opd, assigns, land, returns, Opds, Body, FmC, Is, shows, mem, cellAt, pointee, only, opens, closes, owned, peeks, spelt, Contract, Triple}
-use mir.Syntax.{Name, place as local, deref, copy, rvOpd, opdUnit, Body as Code, Opd as Operand, seq, assign, call, return}
+-- What the mode functions share: the record behind `d: &mut Device` is copied out, a function by value is called with it and the other parameters, which are plain data Ds,
+-- and what that gives is stored.
+use Rattle.lent_table.proofs.Walk.{_≡_, refl, sym, subst, ℕ, [], _∷_, List, _++_, getD, Ty, URA, fullShare, named, tyUnit, tyRef, mut, Val, vunit, vptr, SProp, ent, emp, sep, GName, Lft, Share, ftrue, flft, fobs, fbor, fact, Heap, Env, Calls, Loops, WpFn, Atoms, Given, Item, Sq, runs, atRet, givenOf, tables, tablesOf, ‵, ⋆, _⊛_, _$_, _∵_, !, qed, by, move, keep, drop, use0, split, join, fsplit, fsplit3, fjoin, fjoin3, feqI, suffices, frame, done, look, look-raw, store-raw, init, forget, stop, hop, from, load, unit-lit, of-opd, assigns, land, returns, enter, free1, free0, Opds, Body, FmC, owns, Is, shows, mem, pointee, unit, RefT, MutRef, ptr-vals, mut-tells, plain, opens, closes, owned, peeks, nothing, spelt, onEntry, tripleOf, Triple, says, Stays, stay-ref, walkOf, goes-ref, ends-at, yes}
+use mir.Syntax.{Name, Fn, Step as PStep, Local, local, valueLocal, place, deref, copy, rvOpd, opdUnit, Body as Code, Opd as Operand, seq, assign, call, return}
+use Prim.Native.Nat.{suc}
+use prog.{Wp.Closed, Wp.Spot, Wp.spotOf, Wp.noLocal, Model.Model, Routine.Env as Routines}
+use contract.{Running.Running, Running.GhostRules, Lifetimes.Lfts}
+use types.Run.{Walks, Finds}
+use denote.Ref.{now}
+use denote.{Signature.mutRefTo, Signature.typesAt, Triple.End.all, Triple.Clauses.Clauses, Triple.Clauses.Ended, Triple.Clauses.closing, Triple.Walked.hasOf}
 use denote.Struct.Laws as LL
 use Rattle.adapters.specs.declared.Device.{Device}
 use Rattle.adapters.proofs.Device as D
-use Rattle.lent_table.proofs.{Called.Told, Called.calls-plain, Locals.Content, Locals.blank, Locals.holds, Locals.locals, Locals.frees-all, Locals.swaps}
+use Rattle.lent_table.proofs.{Ends.concludes, Locals.Blocks, Locals.placed, Locals.Content, Locals.blank, Locals.holds, Locals.all-hold, Locals.local-at, Locals.locals, Locals.sets-up, Locals.frees-some, Locals.swaps}
+use Rattle.lent_table.proofs.Plain.{Data, struct, slots, dropped, Values, spells, tellss, lows, passing, Fit, same, drop-fits, all-go, has-none, typed-in, locals-of, past, found-past, Asks, Plainly, calls-data}
 
 -- the record's machine value, that it is one, and the record behind its reference
+abbrev pub device : Data
+device = struct D.the-type D.Laws.the-laws D.Laws.the-plain refl
+
 abbrev pub FitsDevice : Device → Type 0
 FitsDevice d = Is D.the-row d (D.Laws.lowered d ∷ [])
 
 abbrev pub Had : {M : Type 1} {𝓤 : URA M} (κ : Lft) (q : Share) (b o : ℕ) (γ : GName) → Device → List (Item 𝓤) → List (Item 𝓤)
 Had κ q b o γ d Γ = ‵ (fobs γ (D.the-row .coded .code d)) ∷ ‵ (fbor κ (Body (mem D.the-row) b o γ)) ∷ ‵ (flft κ q) ∷ Γ
 
-module _ {M : Type 1} (𝓤 : URA M) (H : Heap 𝓤) (A : Atoms 𝓤) (W : Given 𝓤 H A) (κ : Lft) (q : Share) (b o : ℕ) (γ : GName) (h : Device) (τ₂ τ₃ : Ty) (v₂ v₃ : Val) (Post : Val → SProp 𝓤)
-    (C : Calls 𝓤 H) (Λ : Loops 𝓤 H) (fm : FmC 𝓤 H (W .laws) C) (l₀ l₁ l₂ l₃ l₄ l₅ : ℕ) where
-  abbrev E : Env 𝓤 H
-  E = (tyUnit, l₀) ∷ (tyRef (named 0) mut (pointee (D.the-row .written)), l₁) ∷ (τ₂, l₂) ∷ (τ₃, l₃) ∷ (D.Laws.mir, l₄) ∷ (D.Laws.mir, l₅) ∷ []
+-- a place of a local that is found in the environment
+from-at : {M : Type 1} {𝓤 : URA M} {H : Heap 𝓤} {A : Atoms 𝓤} {K : Type 0} {W : Given 𝓤 H A} {Γ : List (Item 𝓤)} {E : Env 𝓤 H} → K → {i : ℕ} {st : List PStep} {sp : Spot 𝓤 H} (e : Ty × ℕ)
+    → getD E i (noLocal 𝓤 H) ≡ e → Walks K W Γ E (e .0, e .1, 0) st sp → Finds K W Γ E (place i st) sp
+from-at {K = K} {W = W} {Γ = Γ} {E = E} t {st = st} {sp = sp} e is w = from t (subst (λ (u : Ty × ℕ). Walks K W Γ E (u .0, u .1, 0) st sp) (sym is) w)
 
-  -- what the locals hold, by the contents of the result, of what is called for and of the copy
-  abbrev held : Content → Content → Content → List Content
-  held v₀ v₄ v₅ = v₀ ∷ holds (vptr b o) ∷ holds v₂ ∷ holds v₃ ∷ v₄ ∷ v₅ ∷ []
+module _ (Ds : List Data) where
+  abbrev Lending : Ended
+  Lending = record { signature = record { lifetimes = 1; outlives = []; params = mutRefTo (0 ∷ []) tt (plain (λ _. D.the-row)) ∷ slots 1 Ds; result = plain (λ _. unit) }; kept = (yes, all yes (slots 1 Ds)) }
+
+  abbrev stayed : Stays (Lending .signature .params) (Lending .kept)
+  stayed = (stay-ref (0 ∷ []) tt (plain (λ _. D.the-row)), dropped 1 Ds)
+
+  -- the locals: the result, the parameters, then what is called for and the copy
+  abbrev ps : List Local
+  ps = local (tyRef (named 0) mut (pointee (D.the-row .written))) valueLocal ∷ locals-of Ds
+
+  abbrev ls : List Local
+  ls = local D.Laws.mir valueLocal ∷ local D.Laws.mir valueLocal ∷ []
 
   abbrev ends : Code
-  ends = seq (assign (local 1 (deref D.Laws.mir ∷ [])) (rvOpd (copy (local 4 [])))) (seq (assign (local 0 []) (rvOpd opdUnit)) return)
+  ends = seq (assign (place 1 (deref D.Laws.mir ∷ [])) (rvOpd (copy (place (suc (suc (past Ds 0))) [])))) (seq (assign (place 0 []) (rvOpd opdUnit)) return)
 
-  abbrev body : Name → List Operand → Code
-  body f xs = seq (assign (local 5 []) (rvOpd (copy (local 1 (deref D.Laws.mir ∷ []))))) (seq (call f xs (local 4 [])) ends)
+  abbrev function : Name → List Operand → Fn
+  function f xs = record {
+    lifetimes = 1;
+    outlives = [];
+    params = suc (past Ds 0);
+    locals = local tyUnit valueLocal ∷ (ps ++ ls);
+    body = seq (assign (place (suc (suc (past Ds 1))) []) (rvOpd (copy (place 1 (deref D.Laws.mir ∷ []))))) (seq (call f xs (place (suc (suc (past Ds 0))) [])) ends);
+  }
 
-  -- the record opened: [its cell; what it owns; the open borrow; obs; auth; the locals]
-  abbrev Opened : List Content → List (Item 𝓤)
-  Opened vs = ‵ (cellAt fullShare (D.the-row .mir) (D.Laws.lowered h ∷ []) b o) ∷ ‵ (D.the-row .own h (D.Laws.lowered h ∷ [])) ∷ ‵ (fobor κ q (Body (mem D.the-row) b o γ))
-      ∷ ‵ (fobs γ (D.the-row .coded .code h)) ∷ ‵ (fauth γ (D.the-row .coded .code h)) ∷ locals E vs []
+  -- the environment, and what the locals hold, by the contents of the result, of what is called for and of the copy
+  module _ (l₀ : ℕ) (bs : Blocks ps) (cs : Blocks ls) where
+    abbrev E : List (Ty × ℕ)
+    E = (tyUnit, l₀) ∷ (placed ps bs ++ placed ls cs)
 
-  -- what was called for is stored, and the borrow is closed at it
-  stores : (z : Device) → FitsDevice z → ent 𝓤 (⋆ 𝓤 H A (Had κ q b o γ z [])) (Post vunit)
-      → Sq W (Opened (held blank (holds (D.Laws.lowered z)) (holds (D.Laws.lowered h)))) (runs C Λ E ends (atRet E Post))
-  stores z g shown =
-      assigns ! (of-opd ! (load ! (from ! (stop !)) (look ! 13 refl))) (from ! (hop ! (look ! 7 refl) (stop !))) (store-raw ! 0 refl (LL.lawful D.the-type D.Laws.the-laws 𝓤 H A W .typed z _ g .0)) $
-      assigns ! (of-opd ! (unit-lit !)) (from ! (stop !)) (init ! 5 refl (tt, tt)) $
-      move ! (1 ∷ []) $ drop ! $ owned ! D.the-row (Is D.the-row) (LL.makes D.the-type D.Laws.the-plain 𝓤 H A) z _ g $ move ! (1 ∷ 0 ∷ []) $ closes ! tt D.the-row z (D.Laws.lowered z ∷ []) b o $
-      returns ! (look ! 3 refl) $ swaps ! (Had κ q b o γ z []) (locals E (held (holds vunit) (holds (D.Laws.lowered z)) (holds (D.Laws.lowered h))) []) $
-      frees-all ! E (held (holds vunit) (holds (D.Laws.lowered z)) (holds (D.Laws.lowered h))) $ by ! shown
+    abbrev held : {M : Type 1} {𝓤 : URA M} (vs : List Val) → Content → Content → Content → List (Item 𝓤)
+    held vs v₀ v₁ v₂ = locals (placed ls cs) (v₁ ∷ v₂ ∷ []) (local-at (tyUnit, l₀) v₀ (locals (placed ps bs) (all-hold vs) []))
 
-  module _ (f : Name) (xs : List Operand) (F : Contract 𝓤) (met : Triple 𝓤 (C f) F) (x : F .Ghost) (goes : FitsDevice h → ent 𝓤 (emp 𝓤) (F .pre x)) {X : Type 0} (Last : X → Fml) (Φ : Device → X → Type 0)
-      (told : (v : Val) → ent 𝓤 (F .post x v) (mean 𝓤 H A (Told D.the-row (‵ ftrue) Last Φ v)))
-      (os : (K : Type 0) → K → (i₀ i₁ i₂ i₃ i₄ i₅ : Item 𝓤) → Opds K W (i₀ ∷ i₁ ∷ i₂ ∷ i₃ ∷ i₄ ∷ i₅ ∷ locals E (held blank blank (holds (D.Laws.lowered h))) []) E xs (F .args x))
-      (shown : (z : Device) (w : X) → Φ z w → FitsDevice z → ent 𝓤 (⋆ 𝓤 H A (Had κ q b o γ z [])) (Post vunit)) where
-    pub changes : Sq W (Had κ q b o γ h (locals E (held blank blank blank) [])) (runs C Λ E (body f xs) (atRet E Post))
-    changes =
-        opens ! tt D.the-row {h = h} b o (λ vs. spelt ! D.the-row (Is D.the-row) (shows 𝓤 H A D.the-row) (LL.vals D.the-type D.Laws.the-laws) (LL.tells D.the-type D.Laws.the-laws) fullShare h vs b o $
-        move ! (1 ∷ []) $ peeks ! D.the-row (Is D.the-row) (shows 𝓤 H A D.the-row) h (D.Laws.lowered h ∷ []) (λ g. move ! (1 ∷ 0 ∷ []) $
-        assigns ! (of-opd ! (load ! (from ! (hop ! (look ! 7 refl) (stop !))) (look-raw ! 0 refl))) (from ! (stop !)) (init ! 15 refl (LL.lawful D.the-type D.Laws.the-laws 𝓤 H A W .typed h _ g .0)) $
-        calls-plain ! fm F met x (goes g) D.the-row Last Φ told (λ i. os _ ! i _ _ _ _ _) (λ z v w φ is.
-        land ! (from ! (stop !)) (init ! 13 refl (LL.lawful D.the-type D.Laws.the-laws 𝓤 H A W .typed z _ is .0)) $ rewrite ! 13 (λ (u : Val). ‵ (fat fullShare D.Laws.mir l₄ 0 u)) (ap only (LL.tells D.the-type D.Laws.the-laws z (v ∷ []) is)) refl $
-        stores z (subst (Is D.the-row z) (LL.tells D.the-type D.Laws.the-laws z (v ∷ []) is) is) (shown z w φ (subst (Is D.the-row z) (LL.tells D.the-type D.Laws.the-laws z (v ∷ []) is) is)))))
+  module _ {M : Type 1} (𝓤 : URA M) (req : (κs : Lfts 1) → Values 1 κs Ds → SProp 𝓤) (new : (κs : Lfts 1) → Device → Values 1 κs Ds → Device) where
+    abbrev clauses : Clauses 𝓤 Lending
+    clauses κs a = record { ghost = Unit {0}; requires = λ _. req κs (a .1); ensures = λ _ _ e. fact 𝓤 (now (e .0) ≡ new κs (now (a .0)) (a .1)) }
+
+    module _ (H : Heap 𝓤) (A : Atoms 𝓤) (W : Given 𝓤 H A) (κ : Lft) (q : Share) (b o : ℕ) (γ : GName) (h : Device) (a : Values 1 (κ, tt) Ds) where
+      abbrev bound : walkOf 𝓤 H A Lending stayed clauses .Ghost
+      bound = (((κ, tt), (q, tt), tt, (record { ptr = (b, o); name = γ; now = h }, a), (vptr b o ∷ [], lows 1 (κ, tt) Ds a)), tt)
+
+      abbrev Post : Val → SProp 𝓤
+      Post = walkOf 𝓤 H A Lending stayed clauses .post bound
+
+      exits : (z : Device) → z ≡ new (κ, tt) h a → ent 𝓤 (⋆ 𝓤 H A (Had κ q b o γ z [])) (Post vunit)
+      exits z e =
+          qed W (Had κ q b o γ z []) ∵ suffices ! _ (ends-at 𝓤 H A Lending stayed clauses W bound vunit tt (z, same 1 (κ, tt) Ds a) (tt, drop-fits 1 (κ, tt) Ds a (same 1 (κ, tt) Ds a))) $ says ! e $
+          nothing ! $ move ! (3 ∷ 0 ∷ []) $ join ! $ frame ! $ feqI ! (List Val) (vptr b o ∷ []) (vptr b o ∷ []) refl $ fjoin3 ! $
+          use0 W (‵ (hasOf (κ, tt) (slots 1 Ds) (all yes (slots 1 Ds)) (dropped 1 Ds) a (same 1 (κ, tt) Ds a) (lows 1 (κ, tt) Ds a))) (has-none 1 𝓤 H A W (κ, tt) Ds a _ _) $ move ! (1 ∷ 0 ∷ []) $ fjoin ! $
+          feqI ! (List Val) (vunit ∷ []) (vunit ∷ []) refl $ move ! (1 ∷ 0 ∷ []) $ done !
+
+      abbrev vs : List Val
+      vs = vptr b o ∷ passing 1 (κ, tt) Ds a
+
+      module _ (C : Calls 𝓤 H) (Λ : Loops 𝓤 H) (fm : FmC 𝓤 H (W .laws) C) (f : Name) (xs : List Operand) (Cs : List Data) (creq : Values 0 tt Cs → SProp 𝓤) (Said : Values 0 tt Cs → Device → Type 0) (met : Triple 𝓤 (C f) (Plainly 𝓤 H A Cs device creq Said))
+          (c : Values 0 tt Cs) (fit : FitsDevice h → Fit 0 tt Cs c) (asked : ent 𝓤 (emp 𝓤) (creq c)) (is-new : (z : Device) → Said c z → z ≡ new (κ, tt) h a)
+          (os : (l₀ : ℕ) (bs : Blocks ps) (cs : Blocks ls) (K : Type 0) → K → (i₀ i₁ i₂ i₃ i₄ i₅ : Item 𝓤) → Opds K W (i₀ ∷ i₁ ∷ i₂ ∷ i₃ ∷ i₄ ∷ i₅ ∷ held l₀ bs cs vs blank blank (holds (D.Laws.lowered h))) (E l₀ bs cs) xs (passing 0 tt Cs c)) where
+        module _ (l₀ : ℕ) (bs : Blocks ps) (cs : Blocks ls) where
+          called : getD (E l₀ bs cs) (suc (suc (past Ds 0))) (noLocal 𝓤 H) ≡ (D.Laws.mir, cs .0)
+          called = found-past Ds (bs .1) (placed ls cs) 0 (noLocal 𝓤 H)
+
+          copied : getD (E l₀ bs cs) (suc (suc (past Ds 1))) (noLocal 𝓤 H) ≡ (D.Laws.mir, cs .1 .0)
+          copied = found-past Ds (bs .1) (placed ls cs) 1 (noLocal 𝓤 H)
+
+          changes : Sq W (Had κ q b o γ h (held l₀ bs cs vs blank blank blank)) (runs C Λ (E l₀ bs cs) (function f xs .body) (atRet (E l₀ bs cs) Post))
+          changes =
+              opens ! tt D.the-row {h = h} b o (λ us. spelt ! D.the-row (Is D.the-row) (shows 𝓤 H A D.the-row) (LL.vals D.the-type D.Laws.the-laws) (LL.tells D.the-type D.Laws.the-laws) fullShare h us b o $
+              move ! (1 ∷ []) $ peeks ! D.the-row (Is D.the-row) (shows 𝓤 H A D.the-row) h (D.Laws.lowered h ∷ []) (λ g. move ! (1 ∷ 0 ∷ []) $
+              -- [the record's cell; what it owns; the open borrow; obs; auth; what is called for; the copy; the result; the parameters]
+              assigns ! (of-opd ! (load ! (from ! (hop ! (look ! 11 refl) (stop !))) (look-raw ! 0 refl))) (from-at ! (D.Laws.mir, cs .1 .0) copied (stop !)) (init ! 7 refl (device .typed 𝓤 H A W h g)) $
+              calls-data ! fm Cs device creq Said met c (fit g) asked (λ i. os l₀ bs cs _ ! i _ _ _ _ _) (λ z said gz.
+              land ! (from-at ! (D.Laws.mir, cs .0) called (stop !)) (init ! 5 refl (device .typed 𝓤 H A W z gz)) $
+              assigns ! (of-opd ! (load ! (from-at ! (D.Laws.mir, cs .0) called (stop !)) (look ! 5 refl))) (from ! (hop ! (look ! 11 refl) (stop !))) (store-raw ! 0 refl (device .typed 𝓤 H A W z gz)) $
+              assigns ! (of-opd ! (unit-lit !)) (from ! (stop !)) (init ! 9 refl (tt, tt)) $
+              move ! (1 ∷ []) $ drop ! $ owned ! D.the-row (Is D.the-row) (device .makes 𝓤 H A W) z _ gz $ move ! (1 ∷ 0 ∷ []) $ closes ! tt D.the-row z (D.Laws.lowered z ∷ []) b o $
+              returns ! (look ! 7 refl) $ forget ! 3 refl $ forget ! 5 refl $ forget ! 7 refl $ forget ! 9 refl $ move ! (7 ∷ 8 ∷ 9 ∷ 10 ∷ []) $ free1 ! $ free1 ! $
+              swaps ! (Had κ q b o γ z (locals (placed ls cs) [] [])) (locals (placed (locals-of Ds) (bs .1)) (all-hold (passing 1 (κ, tt) Ds a)) []) $
+              frees-some ! (placed (locals-of Ds) (bs .1)) (placed ls cs) (all-hold (passing 1 (κ, tt) Ds a)) $ move ! (3 ∷ 4 ∷ 5 ∷ 6 ∷ []) $ free1 ! $ free1 ! $ free0 ! $ by ! (exits z (is-new z said)))))
+
+        walk : Fit 1 (κ, tt) Ds a → ent 𝓤 (onEntry 𝓤 H A (Lending .signature) (κ, tt) (q, tt) (bound .0 .3) (bound .0 .4)) (WpFn 𝓤 H C Λ (function f xs) vs Post)
+        walk fits =
+            qed W ((‵ (flft κ q) ⊛ ‵ ftrue) ∷ ‵ (owns (MutRef (named 0) κ D.the-row ∷ typesAt (slots 1 Ds) (κ, tt)) (bound .0 .3) (bound .0 .4)) ∷ []) ∵ split ! $ move ! (2 ∷ []) $ fsplit ! $ fsplit3 ! $ drop ! $ keep ! (0 ∷ 1 ∷ 3 ∷ []) $
+            enter ! C Λ (function f xs) vs _ $ sets-up ! (Had κ q b o γ h []) tyUnit ps ls vs ((tt, tt), typed-in 1 𝓤 H A W (κ, tt) Ds a fits) (λ l₀ bs cs.
+            swaps ! (Had κ q b o γ h (local-at (tyUnit, l₀) blank (locals (placed ps bs) (all-hold vs) []))) (locals (placed ls cs) [] []) $ move ! (4 ∷ 5 ∷ 6 ∷ []) $ changes l₀ bs cs)
+
+  -- The statement of a mode function that requires φ. Its callee takes c, plain data Cs, requires what φ shows, and says of its result that it is the new record.
+  module _ {M : Type 1} (𝓤 : URA M) (H : Heap 𝓤) (𝓜 : Model 𝓤 H) (𝓖 : GhostRules 𝓤 H) (𝓡 : Running 𝓤 H 𝓜) (req : (κs : Lfts 1) → Values 1 κs Ds → SProp 𝓤) (φ : (κs : Lfts 1) → Values 1 κs Ds → Type 0)
+      (asks : (κs : Lfts 1) (a : Values 1 κs Ds) → Asks 𝓤 (req κs a) (φ κs a)) (new : (κs : Lfts 1) → Device → Values 1 κs Ds → Device) (γ : Routines) (k f : Name) (xs : List Operand)
+      (Cs : List Data) (creq : Values 0 tt Cs → SProp 𝓤) (Said : Values 0 tt Cs → Device → Type 0) (c : (κs : Lfts 1) → Device → Values 1 κs Ds → Values 0 tt Cs) where
+    pub sets-record : Closed 𝓤 H (tables 𝓤 H 𝓜 𝓡 γ .C) (tables 𝓤 H 𝓜 𝓡 γ .Λ) k (function f xs) → Triple 𝓤 (tables 𝓤 H 𝓜 𝓡 γ .C f) (Plainly 𝓤 H (𝓖 .A) Cs device creq Said)
+        → ((κs : Lfts 1) (h : Device) (a : Values 1 κs Ds) → Fit 1 κs Ds a → FitsDevice h → Fit 0 tt Cs (c κs h a)) → ((κs : Lfts 1) (h : Device) (a : Values 1 κs Ds) → φ κs a → ent 𝓤 (emp 𝓤) (creq (c κs h a)))
+        → ((κs : Lfts 1) (h : Device) (a : Values 1 κs Ds) (z : Device) → Said (c κs h a) z → z ≡ new κs h a)
+        → ((κs : Lfts 1) (b o : ℕ) (h : Device) (a : Values 1 κs Ds) (l₀ : ℕ) (bs : Blocks ps) (cs : Blocks ls) (K : Type 0) → K → (i₀ i₁ i₂ i₃ i₄ i₅ : Item 𝓤)
+        → Opds K (givenOf 𝓤 H 𝓜 𝓖) (i₀ ∷ i₁ ∷ i₂ ∷ i₃ ∷ i₄ ∷ i₅ ∷ held l₀ bs cs (vptr b o ∷ passing 1 κs Ds a) blank blank (holds (D.Laws.lowered h))) (E l₀ bs cs) xs (passing 0 tt Cs (c κs h a)))
+        → Triple 𝓤 (tables 𝓤 H 𝓜 𝓡 γ .C k) (tripleOf 𝓤 H (𝓖 .A) (Lending .signature) (closing 𝓤 H (𝓖 .A) Lending (clauses 𝓤 req new)))
+    sets-record closed met fit asked is-new os =
+        concludes 𝓤 H 𝓜 𝓖 𝓡 Lending stayed (clauses 𝓤 req new) γ k (function f xs) closed (goes-ref 𝓤 H (𝓖 .A) (givenOf 𝓤 H 𝓜 𝓖) 1 0 tt (plain (λ _. D.the-row)), all-go 1 𝓤 H (𝓖 .A) (givenOf 𝓤 H 𝓜 𝓖) Ds)
+        (λ κs. (ptr-vals, spells 1 κs Ds)) (λ κs. (mut-tells (named 0) (κs .0) D.the-row, tellss 1 κs Ds))
+        (λ fm κs qs bounds x _ are. asks κs (x .1) .learns (λ p.
+        walk 𝓤 req new H (𝓖 .A) (givenOf 𝓤 H 𝓜 𝓖) (κs .0) (qs .0) (x .0 .ptr .0) (x .0 .ptr .1) (x .0 .name) (x .0 .now) (x .1) _ _ fm f xs Cs creq Said met (c κs (x .0 .now) (x .1))
+        (fit κs (x .0 .now) (x .1) (are .1)) (asked κs (x .0 .now) (x .1) p) (is-new κs (x .0 .now) (x .1)) (os κs (x .0 .ptr .0) (x .0 .ptr .1) (x .0 .now) (x .1)) (are .1)))

@@ -8,6 +8,7 @@ pub mod Called
 pub mod Locals
 pub mod Count
 pub mod Plain
+pub mod Shell
 pub mod Modes
 pub mod Record
 pub mod Tables

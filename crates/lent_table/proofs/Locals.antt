@@ -93,6 +93,10 @@ module _ {M : Type 1} {𝓤 : URA M} {H : Heap 𝓤} {A : Atoms 𝓤} {K : Type 
       (via 𝓤 (sep 𝓤 (⋆ 𝓤 H A Γ) (⋆ 𝓤 H A Δ)) (comm∗ 𝓤 (⋆ 𝓤 H A Δ) (⋆ 𝓤 H A Γ)) (via 𝓤 (⋆ 𝓤 H A (Γ ++ Δ)) (++⊢ 𝓤 H A Γ Δ) (k .prf)))))
 
 module _ {M : Type 1} {𝓤 : URA M} {H : Heap 𝓤} {A : Atoms 𝓤} {K : Type 0} {W : Given 𝓤 H A} where
+  -- a function ends: what is had beside its locals is left
+  pub ends-with : K → {G : Goal 𝓤 H} (Δ : List (Item 𝓤)) (E : Env 𝓤 H) (vs : List Content) → Step K W Δ G (Δ ++ locals E vs []) (frees E G)
+  ends-with t Δ E vs = step (λ k. swaps t Δ (locals E vs []) $ frees-front t E vs $ k)
+
   -- some of the locals are made, then the others
   makes-some : K → (Γ : List (Item 𝓤)) (ls ls′ : List Local) (Kt : Env 𝓤 H → Goal 𝓤 H)
       → ((bs : Blocks ls) → Seq K W (Γ ++ locals (placed ls bs) [] []) (allocs ls′ (λ E. Kt (placed ls bs ++ E)))) → Seq K W Γ (allocs (ls ++ ls′) Kt)

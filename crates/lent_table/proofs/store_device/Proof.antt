@@ -4,7 +4,7 @@ use contract.Monad.{factI}
 use denote.Ref.{now}
 use denote.Struct.Laws as LL
 use Rattle.adapters.proofs.Device as D
-use Rattle.lent_table.proofs.{Plain.Param, Plain.void, Plain.datas, Plain.asks-none, Modes.device, Modes.lent, Modes.Had, Modes.had-in, Modes.had-out, Locals.holds, Locals.frees-all, Locals.swaps}
+use Rattle.lent_table.proofs.{Plain.Param, Plain.void, Plain.datas, Plain.asks-none, Modes.device, Modes.lent, Modes.Had, Modes.had-in, Modes.had-out, Locals.holds, Locals.ends-with}
 use Rattle.lent_table.proofs.Shell.{env, proves}
 use Rattle.lent_table.proofs.store_device as f
 
@@ -21,5 +21,5 @@ store-device-spec 𝓤 H 𝓜 𝓖 𝓡 = let W = givenOf 𝓤 H 𝓜 𝓖 in
     assigns ! (of-opd ! (load ! (from ! (stop !)) (look ! 9 refl))) (from ! (hop ! (look ! 7 refl) (stop !))) (store-raw ! 0 refl (device .typed 𝓤 H (𝓖 .A) W (a .0) (fits .0))) $
     assigns ! (of-opd ! (unit-lit !)) (from ! (stop !)) (init ! 5 refl (tt, tt)) $
     move ! (1 ∷ []) $ drop ! $ owned ! D.the-row (Is D.the-row) (device .makes 𝓤 H (𝓖 .A) W) (a .0) _ (fits .0) $ move ! (1 ∷ 0 ∷ []) $ closes ! tt D.the-row (a .0) (D.Laws.lowered (a .0) ∷ []) (x .ptr .0) (x .ptr .1) $
-    returns ! (look ! 3 refl) $ swaps ! (Had (κs .0) (qs .0) (x .ptr .0) (x .ptr .1) (x .name) (a .0) []) _ $ frees-all ! (env lent Ps void [] l₀ bs cs) (holds vunit ∷ holds (lent .low κs x) ∷ holds (D.Laws.lowered (a .0)) ∷ []) $
+    returns ! (look ! 3 refl) $ ends-with ! (Had (κs .0) (qs .0) (x .ptr .0) (x .ptr .1) (x .name) (a .0) []) (env lent Ps void [] l₀ bs cs) (holds vunit ∷ holds (lent .low κs x) ∷ holds (D.Laws.lowered (a .0)) ∷ []) $
     by ! (exits (Had (κs .0) (qs .0) (x .ptr .0) (x .ptr .1) (x .name) (a .0) []) (a .0) tt tt refl (factI 𝓤 _ (emp 𝓤) refl) (had-out 𝓤 H (𝓖 .A) W (κs .0) (qs .0) (x .ptr .0) (x .ptr .1) (x .name) (a .0)))))

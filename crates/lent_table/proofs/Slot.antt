@@ -1,6 +1,6 @@
 -- What `register` and `mask` share: the test of the bound of `t: &mut [Place]` at `id: AdapterId`, then a store into the place, or nothing. The third
 -- parameter, of any type τ, holds v.
-use Rattle.lent_table.proofs.Walk.{ap, subst, emp, sep, sem, ftrue, fact, named, tables, givenOf, keep, split, join, fsplit, fjoin, frame, done, _⊛_, _∵_, qed, nothing, owns, MutSlice, at-slice, pureI, onEntry, tripleOf, Triple, _≡_, refl, sym, ℕ, _<_, _*_, [], _∷_, List, length, getD, set, length-set, ltb, ltb→lt, nltb→le, URA, fullShare, w64, tyInt, tyBool, tyPtr, Val, vunit, vint, vbool, vptr, SProp, ent, GName, Lft, Share, flft, fobs, fbor, fobor, fauth, fat, next, Heap, Env, Calls, Loops, Wp, afterSeq, atReturn, Atoms, Given, Item, Sq, runs, prop, post, anyQ, atRet, ‵, ⋆, _$_, !, by, move, drop, rewrite, look, init, stop, fld, from, load, lit, unit-lit, of-opd, bin, assigns, first, skips, branches, exec, returns, whole, sub, look-in, Is, shows, cellAt, shares, sliceVal, Room, heres, codedHoleys, Held, place, place-is, others, elem-out, elem-put, opens-slice, closes-slice, owned}
+use Rattle.lent_table.proofs.Walk.{ap, subst, emp, sep, sem, ftrue, fact, named, tables, givenOf, keep, split, join, fsplit, fjoin, frame, done, _⊛_, _∵_, qed, nothing, owns, MutSlice, at-slice, pureI, onEntry, tripleOf, Contract, Triple, _≡_, refl, sym, ℕ, _<_, _*_, [], _∷_, List, length, getD, set, length-set, ltb, ltb→lt, nltb→le, URA, fullShare, w64, tyInt, tyBool, tyPtr, Val, vunit, vint, vbool, vptr, SProp, ent, GName, Lft, Share, flft, fobs, fbor, fobor, fauth, fat, next, Heap, Env, Calls, Loops, Wp, afterSeq, atReturn, Atoms, Given, Item, Sq, runs, prop, post, anyQ, atRet, ‵, ⋆, _$_, !, by, move, drop, rewrite, look, init, stop, fld, from, load, lit, unit-lit, of-opd, bin, assigns, first, skips, branches, exec, returns, whole, sub, look-in, Is, shows, cellAt, shares, sliceVal, Room, heres, codedHoleys, Held, place, place-is, others, elem-out, elem-put, opens-slice, closes-slice, owned}
 use mir.Syntax.{Name, place as at, Local, local, valueLocal, field, copy, int, rvOpd, op2, mul, lt, offset, unsigned, opdUnit, Body as Code, seq, assign, cond, skip, return}
 use denote.Struct.Laws as LL
 use Rattle.numbers.specs.declared.AdapterId.{AdapterId}
@@ -8,7 +8,7 @@ use Rattle.numbers.proofs.AdapterId.Laws as I′
 use Rattle.adapters.specs.{declared.Place.Place, Values.unused}
 use Rattle.adapters.proofs.Place as P
 use prog.{Wp.Closed, Model.Model, Routine.Env as Routines}
-use contract.{Monad.factI, Running.Running, Running.GhostRules}
+use contract.{Monad.factI, Lifetimes.Lfts, Running.Running, Running.GhostRules}
 use denote.{Ref.now, Signature.typesAt, Triple.Clauses.Clauses, Triple.Clauses.closing}
 use Rattle.lent_table.proofs.{Gives.at-list, Locals.Content, Locals.blank, Locals.holds, Locals.Blocks, Locals.locals, Locals.ends-with}
 use Rattle.lent_table.proofs.Plain.{Data, Param, void, datas, slots, Values, lows, asks-none}
@@ -48,13 +48,21 @@ module _ {M : Type 1} (𝓤 : URA M) (H : Heap 𝓤) (A : Atoms 𝓤) (W : Given
   have-out room zs len = qed W (Have 𝓤 κ q b o γ zs []) ∵ nothing ! $ move ! (3 ∷ 0 ∷ []) $ join ! $ frame ! $ fjoin ! $
       pureI ! (at-slice R (at-list b o γ zs) (sliceVal (b, o) (length ys) ∷ [])) (tt, (tt, tt)) (ap (λ (m : ℕ). sliceVal (b, o) m ∷ []) (sym len), subst (Room R) (sym len) room) $ fjoin ! $ done !
 
+-- a function that is lent the table and plain data Ds, and leaves it at `new`
+module _ (Ds : List Data) (new : (κs : Lfts 1) → List Place → Values κs (datas 1 Ds) → List Place) {M : Type 1} (𝓤 : URA M) where
+  abbrev changing : Clauses 𝓤 (Shell table (datas 1 Ds) void)
+  changing κs a = record { ghost = Unit {0}; requires = λ _. emp 𝓤; ensures = λ _ _ e. fact 𝓤 (now (e .0) ≡ new κs (now (a .0)) (a .1)) }
+
+  abbrev pub Changes : (H : Heap 𝓤) → Atoms 𝓤 → Contract 𝓤
+  Changes H A = tripleOf 𝓤 H A (Shell table (datas 1 Ds) void .signature) (closing 𝓤 H A (Shell table (datas 1 Ds) void) changing)
+
 -- the function stores `new` of the table, the id and its third parameter, plain data D
 module _ (D : Data) (new : List Place → AdapterId → D .row .Denot → Place) where
   abbrev Ps : List (Param 1)
   Ps = datas 1 (adapter-id ∷ D ∷ [])
 
   abbrev clauses : {M : Type 1} (𝓤 : URA M) → Clauses 𝓤 (Shell table Ps void)
-  clauses 𝓤 κs a = record { ghost = Unit {0}; requires = λ _. emp 𝓤; ensures = λ _ _ e. fact 𝓤 (now (e .0) ≡ set (now (a .0)) (a .1 .0 .0) (new (now (a .0)) (a .1 .0) (a .1 .1 .0))) }
+  clauses = changing (adapter-id ∷ D ∷ []) (λ _ ys a. set ys (a .0 .0) (new ys (a .0) (a .1 .0)))
 
   module _ {M : Type 1} (𝓤 : URA M) (H : Heap 𝓤) (A : Atoms 𝓤) (κ : Lft) (q : Share) (b o : ℕ) (γ : GName) (ys : List Place) (k : AdapterId) (v : D .row .Denot) (Post : Val → SProp 𝓤)
       (C : Calls 𝓤 H) (Λ : Loops 𝓤 H) (l₀ : ℕ) (bs : Blocks (ps table Ps void)) (cs : Blocks ls) where
@@ -119,7 +127,7 @@ module _ (D : Data) (new : List Place → AdapterId → D .row .Denot → Place)
         → ((ys : List Place) (k : AdapterId) (v : D .row .Denot) → Is (D .row) v (D .low v ∷ []) → Fits (getD ys (k .0) unused) → Fits (new ys k v))
         → ((κ : Lft) (q : Share) (b o : ℕ) (δ : GName) (ys : List Place) (k : AdapterId) (v : D .row .Denot) (Post : Val → SProp 𝓤) (l₀ : ℕ) (bs : Blocks (ps table Ps void)) (cs : Blocks ls) → Is (D .row) v (D .low v ∷ [])
         → Storing 𝓤 H (𝓖 .A) κ q b o δ ys k v Post (tables 𝓤 H 𝓜 𝓡 γ .C) (tables 𝓤 H 𝓜 𝓡 γ .Λ) l₀ bs cs (givenOf 𝓤 H 𝓜 𝓖) store)
-        → Triple 𝓤 (tables 𝓤 H 𝓜 𝓡 γ .C f) (tripleOf 𝓤 H (𝓖 .A) (Shell table Ps void .signature) (closing 𝓤 H (𝓖 .A) (Shell table Ps void) (clauses 𝓤)))
+        → Triple 𝓤 (tables 𝓤 H 𝓜 𝓡 γ .C f) (Changes (adapter-id ∷ D ∷ []) (λ _ ys a. set ys (a .0 .0) (new ys (a .0) (a .1 .0))) 𝓤 H (𝓖 .A))
     stores-place closed made stores =
         proves table Ps void 𝓤 H 𝓜 𝓖 𝓡 (clauses 𝓤) γ f ls (body store) closed (λ κs qs x _. Have 𝓤 (κs .0) (qs .0) (x .ptr .0) (x .ptr .1) (x .name) (x .now) [])
         (λ κs qs x a _. have-in 𝓤 H (𝓖 .A) (givenOf 𝓤 H 𝓜 𝓖) (κs .0) (qs .0) (x .ptr .0) (x .ptr .1) (x .name) (x .now) Ps void a) (λ _ _ _. Unit {0}) (λ _ _ _ _. asks-none 𝓤) (λ fm κs qs x a _ is fits _ Post exits l₀ bs cs.

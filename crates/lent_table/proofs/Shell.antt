@@ -5,7 +5,7 @@
 use Rattle.lent_table.proofs.Walk.{ℕ, [], _∷_, List, _++_, length, URA, named, tyRef, imm, mut, Ty, Val, vptr, SProp, ent, sep, emp, via, Heap, Atoms, sem, givenOf, tables, Given, Item, Sq, runs, atRet, ‵, raw, ⋆, _$_, _∵_, !, qed, move, join, use0, fjoin, suffices, frame, done, owned, enter, FmC, RattleType, Is, pointee, mut-tells, shr-tells, sliceVal, sliceTy, mut-slice-tells, shr-slice-tells, plain, onEntry, tripleOf, Triple, Stays, stay-ref, stay-slice, stay-none-ref, stay-none-slice, walkOf, goes-ref, goes-slice, goes-none-ref, goes-none-slice, ends-at, yes}
 use mir.Syntax.{Name, Fn, Local, local, valueLocal, Body as Code}
 use mir.Val.{hasTy, WT}
-use Prim.Native.Nat.{suc}
+use Prim.Native.Nat.{zero, suc}
 use lib.Dec.{T as Holds}
 use prog.{Wp.Closed, Model.Model, Routine.Env as Routines}
 use contract.{Running.Running, Running.GhostRules, Lifetimes.Lfts, Lifetimes.Shares}
@@ -66,6 +66,15 @@ module _ (n : ℕ) (ok : AllWithin n (0 ∷ [])) (T : RattleType) where
     stay = stay-none-slice (0 ∷ []) ok (plain (λ _. T)) yes;
     goes = λ 𝓤 H A W. goes-none-slice 𝓤 H A W n (0 ∷ []) ok (plain (λ _. T)) yes;
   }
+
+-- the locals of a function beside the result and the parameters
+abbrev beyond : ℕ → List Local → List Local
+beyond zero ls = ls
+beyond (suc n) [] = []
+beyond (suc n) (l ∷ ls) = beyond n ls
+
+abbrev pub others : Fn → List Local
+others f = beyond (suc (f .params)) (f .locals)
 
 module _ {n : ℕ} (S : Head n) (Ps : List (Param n)) (R : Data) where
   abbrev pub Shell : Ended

@@ -75,15 +75,18 @@ module _ {M : Type 1} (𝓤 : URA M) (H : Heap 𝓤) (A : Atoms 𝓤) (W : Given
 
   module _ (g : FitsDevice h) where
     -- ---- AISM
+    abbrev moded : Mode → Device
+    moded z = deviceFrom (modeSet (deviceOf h) (z .isc .0) (z .single))
+
     sets-mode : eqb group 9 ≡ true → (z : Mode) → (z .isc .0 ≡ byte 0 bytes) × (z .single ≡ eqb (field 2 2 bytes) 1) → Is Mo.the-row z (Mo.Laws.lowered z ∷ [])
         → Sq W (Open h (held blank (holds (Mo.Laws.lowered z)) blank (eqb group 9) [])) (runs C Λ E (after (taken f.Code.Mir.s-2)) Then)
-    sets-mode test z e gz = let m = deviceFrom (modeSet (deviceOf h) (z .isc .0) (z .single)) in let vs = held (holds vunit) (holds (Mo.Laws.lowered z)) blank (eqb group 9) (holds vunit ∷ holds (vptr b o) ∷ []) in
+    sets-mode test z e gz = let vs = held (holds vunit) (holds (Mo.Laws.lowered z)) blank (eqb group 9) (holds vunit ∷ holds (vptr b o) ∷ []) in
         assigns ! (addr ! (from ! (hop ! (look ! 8 refl) (stop !)))) (from ! (stop !)) (init ! 22 refl (tt, tt)) $
         sets ! fm (subclass ∷ flag ∷ []) (λ _ a. fact 𝓤 (a .0 .0 ≤ 7)) (λ _ x a. deviceFrom (modeSet (deviceOf x) (a .0 .0) (a .1 .0))) (known .set-mode) h b o g (λ _. (z .isc, (z .single, tt))) (λ _. (LL.owed Mo.the-type Mo.Laws.the-laws z _ gz .0, (refl, tt)))
-        (λ _. factI 𝓤 _ (emp 𝓤) (subst (λ (n : ℕ). n ≤ 7) (sym (e .0)) (asked .mode (eqb-true group 9 test) .1))) m (λ _. refl)
+        (λ _. factI 𝓤 _ (emp 𝓤) (subst (λ (n : ℕ). n ≤ 7) (sym (e .0)) (asked .mode (eqb-true group 9 test) .1))) (moded z) (λ _. refl)
         (λ _ i j. (and-then ! (load ! (from ! (stop !)) (look ! 23 refl)) (and-then ! (load ! (from ! (fld ! refl (stop !))) (look-in ! 15 (sub ! 0 refl (whole !)))) (and-then ! (load ! (from ! (fld ! refl (stop !))) (look-in ! 15 (sub ! 1 refl (whole !)))) (no-more !)))))
-        (λ gm. land ! (from ! (stop !)) (init ! 20 refl (tt, tt)) $ assigns ! (of-opd ! (unit-lit !)) (from ! (stop !)) (init ! 6 refl (tt, tt)) $ shuts tt m gm vs $ returns-within ! Post refl (look ! 5 refl) $
-        leaves m ((λ i. deviceFrom (modeSet (deviceOf h) (e .0 i) (e .1 i))) ∙ sym (ap deviceFrom (after-mode group bytes (deviceOf h) (eqb-true group 9 test)))) vs)
+        (λ gm. land ! (from ! (stop !)) (init ! 20 refl (tt, tt)) $ assigns ! (of-opd ! (unit-lit !)) (from ! (stop !)) (init ! 6 refl (tt, tt)) $ shuts tt (moded z) gm vs $ returns-within ! Post refl (look ! 5 refl) $
+        leaves (moded z) ((λ i. deviceFrom (modeSet (deviceOf h) (e .0 i) (e .1 i))) ∙ sym (ap deviceFrom (after-mode group bytes (deviceOf h) (eqb-true group 9 test)))) vs)
 
     takes-mode : eqb group 9 ≡ true → Sq W (Open h (held blank blank blank (eqb group 9) [])) (runs C Λ E (taken f.Code.Mir.s-2) Then)
     takes-mode test =

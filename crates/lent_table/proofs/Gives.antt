@@ -33,13 +33,7 @@ last-list R δ n l = fsep (finally R δ l) (feq ℕ (length l) n)
 abbrev pub last-value : (R : RattleType) → GName → R .Denot → Fml
 last-value R δ x = fres δ (R .coded .code x)
 
--- one parameter, and two, that a callee cannot change leave nothing
-abbrev One : Type 0
-One = Unit {0} × Unit {0}
-
-abbrev pub no-other : One → Fml
-no-other z = fsep ftrue ftrue
-
+-- two parameters that a callee cannot change leave nothing
 abbrev Two : Type 0
 Two = Unit {0} × (Unit {0} × Unit {0})
 

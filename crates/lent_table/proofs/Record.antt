@@ -1,7 +1,7 @@
 -- The calls of the functions over the device record, each as one step of a walk that holds the record's memory, its cell.
 --     reads-device                                                     the cell at h ∷ Γ  ⟶  the same, the result is h
---     stores-device, sets-mode, sets-masks, sets-flag, notes-injection  the cell at h ∷ Γ  ⟶  the cell at the new record ∷ Γ
-use Rattle.lent_table.proofs.Walk.{_≡_, refl, sym, ap, subst, ℕ, _≤_, Bool, [], _∷_, List, URA, fullShare, named, Val, vunit, vbool, vptr, SProp, ent, emp, id⊢, GName, ftrue, fsep, flft, Memory, Routine, Heap, Env, Calls, Loops, Atoms, Fun, fact, Given, Item, Seq, runs, lands, ‵, _⊛_, _$_, move, drop, split, join, rewrite, fjoin, Opds, FmC, Is, shows, cellAt, ShrRef, only, owned, facts, nothing, spelt, tripleOf, Contract, Triple, yes}
+--     sets, of any function that is lent the record, with stores-device and notes-injection    the cell at h ∷ Γ  ⟶  the cell at the new record ∷ Γ
+use Rattle.lent_table.proofs.Walk.{_≡_, refl, sym, ap, subst, ℕ, _≤_, Bool, [], _∷_, List, URA, fullShare, named, Val, vunit, vbool, vptr, SProp, ent, emp, id⊢, ftrue, fsep, flft, Memory, Routine, Heap, Env, Calls, Loops, Atoms, Fun, fact, Given, Item, Seq, runs, lands, ‵, _⊛_, _$_, move, drop, split, join, rewrite, fjoin, Opds, FmC, Is, shows, cellAt, ShrRef, only, owned, facts, nothing, spelt, tripleOf, Contract, Triple, yes}
 use mir.Syntax.{Name, Place, Body as Code, Opd as Operand, seq, call}
 use contract.{Monad.factI, Lifetimes.Lfts}
 use denote.{Triple.End.all, Triple.End.lastsOf}
@@ -13,9 +13,6 @@ use Rattle.adapters.proofs.Device as D
 use Rattle.lent_table.proofs.{Rows.shares-cell, Rows.cell-shared-back, Rows.lends-cell, Rows.cell-back, Gives.last-value, Gives.LentCell, Gives.changes-of, Called.asks-nothing, Called.calls-told, Places.place, Modes.device, Modes.FitsDevice, Modes.Lends, read_device.Symbol.name as #read-device, note_injection.Symbol.name as #note-injection, store_device.Symbol.name as #store-device}
 use Rattle.lent_table.proofs.Plain.{Data, flag, datas, slots, Values, Fit, lows, passing, goes-lent}
 use Rattle.lent_table.proofs.read_device as read-device
-use Rattle.lent_table.proofs.set_mode as set-mode
-use Rattle.lent_table.proofs.set_masks as set-masks
-use Rattle.lent_table.proofs.set_flag as set-flag
 use Rattle.lent_table.proofs.note_injection as note-injection
 use Rattle.lent_table.proofs.store_device as store-device
 
@@ -29,15 +26,6 @@ module _ {M : Type 1} (𝓤 : URA M) (H : Heap 𝓤) (A : Atoms 𝓤) (mem′ : 
 
   abbrev pub StoreDevice : Contract 𝓤
   StoreDevice = tripleOf 𝓤 H A store-device.signature (store-device.spec 𝓤 H A mem′ run)
-
-  abbrev pub SetMode : Contract 𝓤
-  SetMode = tripleOf 𝓤 H A set-mode.signature (set-mode.spec 𝓤 H A mem′ run)
-
-  abbrev pub SetMasks : Contract 𝓤
-  SetMasks = tripleOf 𝓤 H A set-masks.signature (set-masks.spec 𝓤 H A mem′ run)
-
-  abbrev pub SetFlag : Contract 𝓤
-  SetFlag = tripleOf 𝓤 H A set-flag.signature (set-flag.spec 𝓤 H A mem′ run)
 
   abbrev pub NoteInjection : Contract 𝓤
   NoteInjection = tripleOf 𝓤 H A note-injection.signature (note-injection.spec 𝓤 H A mem′ run)

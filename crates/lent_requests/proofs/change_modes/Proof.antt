@@ -1,6 +1,6 @@
 -- `change_modes`: the record is opened, the mode function of the group is called, and the record is closed.
-use Rattle.lent_table.proofs.Walk.{_≡_, refl, sym, ap, subst, ℕ, _≤_, Bool, true, false, [], _∷_, List, length, URA, w8, w32, Val, vunit, vint, vbool, vptr, SProp, ent, emp, id⊢, GName, Lft, Share, fobs, fobor, fauth, Memory, Routine, Heap, Env, Calls, Loops, Wp, afterSeq, atReturn, Atoms, Fun, fact, givenOf, tablesOf, Given, Item, Sq, Soaks, Goal, Step, step, runs, frees, prop, anyQ, atRet, ‵, ⋆, _$_, !, by, move, drop, look, store, init, stop, hop, fld, from, load, lit, unit-lit, addr, of-opd, bin, and-then, no-more, assigns, first, skips, branches, exec, land, returns, returns-within, whole, sub, look-in, Body, FmC, Is, shows, mem, fullShare, sliceVal, opens, closes, owned, peeks, spelt, tripleOf, Triple, cited}
-use Rattle.lent_table.proofs.{Count.after, Count.taken, Places.subclass, Plain.Data, Plain.flag, Plain.number, Plain.struct, Plain.void, Plain.asks-fact, Gives.at-list, Modes.device, Modes.FitsDevice, Modes.Had, Record.Cell, Record.sets, Shell.others, Shell.ps, Shell.env, Shell.proves}
+use Rattle.lent_table.proofs.Walk.{_≡_, refl, sym, ap, subst, ℕ, _≤_, Bool, false, [], _∷_, List, length, URA, w8, w32, Val, vunit, vint, vbool, vptr, SProp, ent, emp, id⊢, GName, Lft, Share, fobs, fobor, fauth, Memory, Routine, Heap, Env, Calls, Loops, Atoms, Fun, fact, givenOf, tablesOf, Given, Item, Sq, Soaks, Goal, Step, step, runs, frees, prop, atRet, ‵, ⋆, _$_, !, by, move, drop, look, store, init, stop, hop, fld, from, load, lit, unit-lit, addr, of-opd, bin, and-then, no-more, assigns, first, skips, branches, exec, land, returns, returns-within, whole, sub, look-in, Body, FmC, Is, shows, mem, fullShare, sliceVal, opens, closes, owned, peeks, spelt, tripleOf, Triple, cited}
+use Rattle.lent_table.proofs.{Places.subclass, Plain.Data, Plain.flag, Plain.number, Plain.struct, Plain.void, Plain.asks-fact, Gives.at-list, Modes.device, Modes.FitsDevice, Modes.Had, Record.Cell, Record.sets, Shell.others, Shell.ps, Shell.env, Shell.proves}
 use Rattle.numbers.proofs.Basics.{eqb, _∙_, eqb-true, eqb-false}
 use types.Kit.{Go}
 use contract.Monad.{factI}
@@ -9,7 +9,7 @@ use denote.Struct.Laws as LL
 use Rattle.rules.specs.Bytes.{byte, field}
 use Rattle.adapters.specs.{declared.Device.Device, Values.deviceOf, Values.deviceFrom, Values.modeSet}
 use Rattle.adapters.proofs.Device as D
-use Rattle.adapter_requests.specs.{declared.Mode.Mode, declared.Masks.Masks, States.modesAfter, States.ModesAsked}
+use Rattle.adapter_requests.specs.{declared.Mode.Mode, States.modesAfter, States.ModesAsked}
 use Rattle.adapter_requests.proofs.Laws.{after-mode, after-masks, after-flag}
 use Rattle.adapter_requests.proofs.Mode as Mo
 use Rattle.adapter_requests.proofs.Masks as Ma
@@ -66,52 +66,11 @@ module _ {M : Type 1} (𝓤 : URA M) (H : Heap 𝓤) (A : Atoms 𝓤) (W : Given
   leaves : (z : Device) → z ≡ new → (vs : List Content) → Sq W (Shut z vs) (frees E (prop (Post vunit)))
   leaves z e vs = ends-with ! (Had κ q b o γ z (Beside κp qp (at-list bp op γp bytes) [])) E vs $ by ! (exits z e)
 
-  -- what follows each test
-  abbrev Then : types.Kit.Post 𝓤 H
-  Then = anyQ (afterSeq 𝓤 H (Wp 𝓤 H C Λ E f.Code.Mir.t-3 (atReturn 𝓤 H E Post)) (atReturn 𝓤 H E Post))
-
-  abbrev Then₂ : types.Kit.Post 𝓤 H
-  Then₂ = anyQ (afterSeq 𝓤 H (Wp 𝓤 H C Λ E f.Code.Mir.t-5 (atReturn 𝓤 H E Post)) (atReturn 𝓤 H E Post))
+  abbrev moded : Mode → Device
+  moded z = deviceFrom (modeSet (deviceOf h) (z .isc .0) (z .single))
 
   module _ (g : FitsDevice h) where
-    -- ---- AISM
-    abbrev moded : Mode → Device
-    moded z = deviceFrom (modeSet (deviceOf h) (z .isc .0) (z .single))
-
-    sets-mode : eqb group 9 ≡ true → (z : Mode) → (z .isc .0 ≡ byte 0 bytes) × (z .single ≡ eqb (field 2 2 bytes) 1) → Is Mo.the-row z (Mo.Laws.lowered z ∷ [])
-        → Sq W (Open h (held blank (holds (Mo.Laws.lowered z)) blank (eqb group 9) [])) (runs C Λ E (after (taken f.Code.Mir.s-2)) Then)
-    sets-mode test z e gz = let vs = held (holds vunit) (holds (Mo.Laws.lowered z)) blank (eqb group 9) (holds vunit ∷ holds (vptr b o) ∷ []) in
-        assigns ! (addr ! (from ! (hop ! (look ! 8 refl) (stop !)))) (from ! (stop !)) (init ! 22 refl (tt, tt)) $
-        sets ! fm (subclass ∷ flag ∷ []) (λ _ a. fact 𝓤 (a .0 .0 ≤ 7)) (λ _ x a. deviceFrom (modeSet (deviceOf x) (a .0 .0) (a .1 .0))) (known .set-mode) h b o g (λ _. (z .isc, (z .single, tt))) (λ _. (LL.owed Mo.the-type Mo.Laws.the-laws z _ gz .0, (refl, tt)))
-        (λ _. factI 𝓤 _ (emp 𝓤) (subst (λ (n : ℕ). n ≤ 7) (sym (e .0)) (asked .mode (eqb-true group 9 test) .1))) (moded z) (λ _. refl)
-        (λ _ i j. (and-then ! (load ! (from ! (stop !)) (look ! 23 refl)) (and-then ! (load ! (from ! (fld ! refl (stop !))) (look-in ! 15 (sub ! 0 refl (whole !)))) (and-then ! (load ! (from ! (fld ! refl (stop !))) (look-in ! 15 (sub ! 1 refl (whole !)))) (no-more !)))))
-        (λ gm. land ! (from ! (stop !)) (init ! 20 refl (tt, tt)) $ assigns ! (of-opd ! (unit-lit !)) (from ! (stop !)) (init ! 6 refl (tt, tt)) $ shuts tt (moded z) gm vs $ returns-within ! Post refl (look ! 5 refl) $
-        leaves (moded z) ((λ i. deviceFrom (modeSet (deviceOf h) (e .0 i) (e .1 i))) ∙ sym (ap deviceFrom (after-mode group bytes (deviceOf h) (eqb-true group 9 test)))) vs)
-
-    takes-mode : eqb group 9 ≡ true → Sq W (Open h (held blank blank blank (eqb group 9) [])) (runs C Λ E (taken f.Code.Mir.s-2) Then)
-    takes-mode test =
-        move ! (4 ∷ 5 ∷ []) $ asks-slice ! fm [] mode (λ _ a. fact 𝓤 (4 ≤ length (now (a .0)))) (λ _ a z. (z .isc .0 ≡ byte 0 (now (a .0))) × (z .single ≡ eqb (field 2 2 (now (a .0))) 1)) (known .mode-in) κp qp bp op γp bytes tt tt
-        (factI 𝓤 _ (emp 𝓤) (asked .mode (eqb-true group 9 test) .0)) (λ i j. (and-then ! (load ! (from ! (stop !)) (look ! 12 refl)) (no-more !)))
-        (λ z e gz. land ! (from ! (stop !)) (init ! 14 refl (mode .typed 𝓤 H A W z gz)) $ move ! (2 ∷ 3 ∷ 4 ∷ 5 ∷ []) $ sets-mode test z e gz)
-
-    -- ---- AISM_ALL
-    sets-masks : eqb group 9 ≡ false → eqb group 11 ≡ true → (z : Masks) → (z .simm ≡ byte 0 bytes) × (z .nimm ≡ byte 1 bytes) → Is Ma.the-row z (Ma.Laws.lowered z ∷ [])
-        → Sq W (Open h (held blank blank (holds (Ma.Laws.lowered z)) (eqb group 11) [])) (runs C Λ E (after (taken f.Code.Mir.s-4)) Then₂)
-    sets-masks not-mode test z e gz = let vs = held (holds vunit) blank (holds (Ma.Laws.lowered z)) (eqb group 11) (blank ∷ blank ∷ holds vunit ∷ holds (vptr b o) ∷ []) in
-        assigns ! (addr ! (from ! (hop ! (look ! 8 refl) (stop !)))) (from ! (stop !)) (init ! 26 refl (tt, tt)) $
-        sets ! fm (number w8 ∷ number w8 ∷ []) (λ _ _. emp 𝓤) (λ _ x a. record { simm = a .0; nimm = a .1 .0; apf = x .apf }) (known .set-masks) h b o g (λ _. (z .simm, (z .nimm, tt)))
-        (λ _. LL.owed Ma.the-type Ma.Laws.the-laws z _ gz) (λ _. id⊢ 𝓤 (emp 𝓤)) (record { simm = z .simm; nimm = z .nimm; apf = h .apf }) (λ _. refl)
-        (λ _ i j. (and-then ! (load ! (from ! (stop !)) (look ! 27 refl)) (and-then ! (load ! (from ! (fld ! refl (stop !))) (look-in ! 17 (sub ! 0 refl (whole !)))) (and-then ! (load ! (from ! (fld ! refl (stop !))) (look-in ! 17 (sub ! 1 refl (whole !)))) (no-more !)))))
-        (λ gn. land ! (from ! (stop !)) (init ! 24 refl (tt, tt)) $ assigns ! (of-opd ! (unit-lit !)) (from ! (stop !)) (init ! 6 refl (tt, tt)) $ shuts tt (record { simm = z .simm; nimm = z .nimm; apf = h .apf }) gn vs $ returns-within ! Post refl (look ! 5 refl) $
-        leaves _ ((λ i. record { simm = e .0 i; nimm = e .1 i; apf = h .apf }) ∙ sym (ap deviceFrom (after-masks group bytes (deviceOf h) (eqb-false group 9 not-mode) (eqb-true group 11 test)))) vs)
-
-    takes-masks : eqb group 9 ≡ false → eqb group 11 ≡ true → Sq W (Open h (held blank blank blank (eqb group 11) [])) (runs C Λ E (taken f.Code.Mir.s-4) Then₂)
-    takes-masks not-mode test =
-        move ! (4 ∷ 5 ∷ []) $ asks-slice ! fm [] masks (λ _ a. fact 𝓤 (2 ≤ length (now (a .0)))) (λ _ a z. (z .simm ≡ byte 0 (now (a .0))) × (z .nimm ≡ byte 1 (now (a .0)))) (known .masks-in) κp qp bp op γp bytes tt tt
-        (factI 𝓤 _ (emp 𝓤) (asked .masks (eqb-true group 11 test))) (λ i j. (and-then ! (load ! (from ! (stop !)) (look ! 12 refl)) (no-more !)))
-        (λ z e gz. land ! (from ! (stop !)) (init ! 16 refl (masks .typed 𝓤 H A W z gz)) $ move ! (2 ∷ 3 ∷ 4 ∷ 5 ∷ []) $ sets-masks not-mode test z e gz)
-
-    -- ---- APF_ENABLE and APF_DISABLE_WAIT
+    -- APF_ENABLE and APF_DISABLE_WAIT
     takes-flag : eqb group 9 ≡ false → eqb group 11 ≡ false → Sq W (Open h (held blank blank blank (eqb group 11) [])) (runs C Λ E f.Code.Mir.t-5 (atRet E Post))
     takes-flag no-mode no-masks = let vs = held (holds vunit) blank blank (eqb group 4) (blank ∷ blank ∷ blank ∷ blank ∷ holds vunit ∷ holds (vptr b o) ∷ []) in
         assigns ! (addr ! (from ! (hop ! (look ! 8 refl) (stop !)))) (from ! (stop !)) (init ! 30 refl (tt, tt)) $
@@ -121,18 +80,41 @@ module _ {M : Type 1} (𝓤 : URA M) (H : Heap 𝓤) (A : Atoms 𝓤) (W : Given
         (λ gl. land ! (from ! (stop !)) (init ! 28 refl (tt, tt)) $ assigns ! (of-opd ! (unit-lit !)) (from ! (stop !)) (init ! 6 refl (tt, tt)) $ shuts tt (record { simm = h .simm; nimm = h .nimm; apf = eqb group 4 }) gl vs $ returns ! (look ! 5 refl) $
         leaves _ (sym (ap deviceFrom (after-flag group bytes (deviceOf h) (eqb-false group 9 no-mode) (eqb-false group 11 no-masks)))) vs)
 
-    -- the second test
+    -- the second test, and AISM_ALL
     tests-masks : eqb group 9 ≡ false → Sq W (Open h (held blank blank blank (eqb group 9) [])) (runs C Λ E f.Code.Mir.t-3 (atRet E Post))
     tests-masks not-mode =
         assigns ! (bin ! (load ! (from ! (stop !)) (look ! 10 refl)) (lit ! tt) tt) (from ! (stop !)) (store ! 18 refl (tt, tt)) $
-        first ! $ branches ! (load ! (from ! (stop !)) (look ! 18 refl)) (λ t. takes-masks not-mode (holds-true (eqb group 11) t)) (λ t. skips ! $ exec ! C Λ E f.Code.Mir.t-5 (atRet E Post) $ takes-flag not-mode (holds-false (eqb group 11) t))
+        first ! $ branches ! (load ! (from ! (stop !)) (look ! 18 refl))
+        (λ t. let test = holds-true (eqb group 11) t in
+        move ! (4 ∷ 5 ∷ []) $ asks-slice ! fm [] masks (λ _ a. fact 𝓤 (2 ≤ length (now (a .0)))) (λ _ a z. (z .simm ≡ byte 0 (now (a .0))) × (z .nimm ≡ byte 1 (now (a .0)))) (known .masks-in) κp qp bp op γp bytes tt tt
+        (factI 𝓤 _ (emp 𝓤) (asked .masks (eqb-true group 11 test))) (λ i j. (and-then ! (load ! (from ! (stop !)) (look ! 12 refl)) (no-more !)))
+        (λ z e gz. land ! (from ! (stop !)) (init ! 16 refl (masks .typed 𝓤 H A W z gz)) $ move ! (2 ∷ 3 ∷ 4 ∷ 5 ∷ []) $ let vs = held (holds vunit) blank (holds (Ma.Laws.lowered z)) (eqb group 11) (blank ∷ blank ∷ holds vunit ∷ holds (vptr b o) ∷ []) in
+        assigns ! (addr ! (from ! (hop ! (look ! 8 refl) (stop !)))) (from ! (stop !)) (init ! 26 refl (tt, tt)) $
+        sets ! fm (number w8 ∷ number w8 ∷ []) (λ _ _. emp 𝓤) (λ _ x a. record { simm = a .0; nimm = a .1 .0; apf = x .apf }) (known .set-masks) h b o g (λ _. (z .simm, (z .nimm, tt)))
+        (λ _. LL.owed Ma.the-type Ma.Laws.the-laws z _ gz) (λ _. id⊢ 𝓤 (emp 𝓤)) (record { simm = z .simm; nimm = z .nimm; apf = h .apf }) (λ _. refl)
+        (λ _ i j. (and-then ! (load ! (from ! (stop !)) (look ! 27 refl)) (and-then ! (load ! (from ! (fld ! refl (stop !))) (look-in ! 17 (sub ! 0 refl (whole !)))) (and-then ! (load ! (from ! (fld ! refl (stop !))) (look-in ! 17 (sub ! 1 refl (whole !)))) (no-more !)))))
+        (λ gn. land ! (from ! (stop !)) (init ! 24 refl (tt, tt)) $ assigns ! (of-opd ! (unit-lit !)) (from ! (stop !)) (init ! 6 refl (tt, tt)) $ shuts tt (record { simm = z .simm; nimm = z .nimm; apf = h .apf }) gn vs $ returns-within ! Post refl (look ! 5 refl) $
+        leaves _ ((λ i. record { simm = e .0 i; nimm = e .1 i; apf = h .apf }) ∙ sym (ap deviceFrom (after-masks group bytes (deviceOf h) (eqb-false group 9 not-mode) (eqb-true group 11 test)))) vs)))
+        (λ t. skips ! $ exec ! C Λ E f.Code.Mir.t-5 (atRet E Post) $ takes-flag not-mode (holds-false (eqb group 11) t))
 
+  -- the first test, and AISM
   starts : Sq W (Shut h (blank ∷ holds (vptr b o) ∷ holds (vint w32 group) ∷ holds (sliceVal (bp, op) (length bytes)) ∷ [])) (runs C Λ E f.Code.Mir.t-1 (atRet E Post))
   starts =
       opens ! tt D.the-row {h = h} b o (λ vs. spelt ! D.the-row (Is D.the-row) (shows 𝓤 H A D.the-row) (LL.vals D.the-type D.Laws.the-laws) (device .tells) fullShare h vs b o $
       move ! (1 ∷ []) $ peeks ! D.the-row (Is D.the-row) (shows 𝓤 H A D.the-row) h (D.Laws.lowered h ∷ []) (λ g. drop ! $
       assigns ! (bin ! (load ! (from ! (stop !)) (look ! 10 refl)) (lit ! tt) tt) (from ! (stop !)) (init ! 18 refl (tt, tt)) $
-      first ! $ branches ! (load ! (from ! (stop !)) (look ! 18 refl)) (λ t. takes-mode g (holds-true (eqb group 9) t)) (λ t. skips ! $ exec ! C Λ E f.Code.Mir.t-3 (atRet E Post) $ tests-masks g (holds-false (eqb group 9) t))))
+      first ! $ branches ! (load ! (from ! (stop !)) (look ! 18 refl))
+      (λ t. let test = holds-true (eqb group 9) t in
+      move ! (4 ∷ 5 ∷ []) $ asks-slice ! fm [] mode (λ _ a. fact 𝓤 (4 ≤ length (now (a .0)))) (λ _ a z. (z .isc .0 ≡ byte 0 (now (a .0))) × (z .single ≡ eqb (field 2 2 (now (a .0))) 1)) (known .mode-in) κp qp bp op γp bytes tt tt
+      (factI 𝓤 _ (emp 𝓤) (asked .mode (eqb-true group 9 test) .0)) (λ i j. (and-then ! (load ! (from ! (stop !)) (look ! 12 refl)) (no-more !)))
+      (λ z e gz. land ! (from ! (stop !)) (init ! 14 refl (mode .typed 𝓤 H A W z gz)) $ move ! (2 ∷ 3 ∷ 4 ∷ 5 ∷ []) $ let vs = held (holds vunit) (holds (Mo.Laws.lowered z)) blank (eqb group 9) (holds vunit ∷ holds (vptr b o) ∷ []) in
+      assigns ! (addr ! (from ! (hop ! (look ! 8 refl) (stop !)))) (from ! (stop !)) (init ! 22 refl (tt, tt)) $
+      sets ! fm (subclass ∷ flag ∷ []) (λ _ a. fact 𝓤 (a .0 .0 ≤ 7)) (λ _ x a. deviceFrom (modeSet (deviceOf x) (a .0 .0) (a .1 .0))) (known .set-mode) h b o g (λ _. (z .isc, (z .single, tt))) (λ _. (LL.owed Mo.the-type Mo.Laws.the-laws z _ gz .0, (refl, tt)))
+      (λ _. factI 𝓤 _ (emp 𝓤) (subst (λ (n : ℕ). n ≤ 7) (sym (e .0)) (asked .mode (eqb-true group 9 test) .1))) (moded z) (λ _. refl)
+      (λ _ i j. (and-then ! (load ! (from ! (stop !)) (look ! 23 refl)) (and-then ! (load ! (from ! (fld ! refl (stop !))) (look-in ! 15 (sub ! 0 refl (whole !)))) (and-then ! (load ! (from ! (fld ! refl (stop !))) (look-in ! 15 (sub ! 1 refl (whole !)))) (no-more !)))))
+      (λ gm. land ! (from ! (stop !)) (init ! 20 refl (tt, tt)) $ assigns ! (of-opd ! (unit-lit !)) (from ! (stop !)) (init ! 6 refl (tt, tt)) $ shuts tt (moded z) gm vs $ returns-within ! Post refl (look ! 5 refl) $
+      leaves (moded z) ((λ i. deviceFrom (modeSet (deviceOf h) (e .0 i) (e .1 i))) ∙ sym (ap deviceFrom (after-mode group bytes (deviceOf h) (eqb-true group 9 test)))) vs)))
+      (λ t. skips ! $ exec ! C Λ E f.Code.Mir.t-3 (atRet E Post) $ tests-masks g (holds-false (eqb group 9) t))))
 
 pub change-modes-spec : {M : Type 1} → f.Statement.statement M
 unfolding f.Code.routine tablesOf

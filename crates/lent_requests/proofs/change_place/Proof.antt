@@ -1,6 +1,6 @@
 -- `change_place`: the table is opened, `register` or `mask` is called, and the table is closed.
-use Rattle.lent_table.proofs.Walk.{_≡_, refl, sym, ap, ℕ, true, false, [], _∷_, List, length, getD, set, length-set, URA, fullShare, w32, Val, vunit, vint, vbool, vptr, SProp, ent, emp, GName, Lft, Share, fobs, fobor, fauth, Memory, Routine, Heap, Env, Calls, Loops, Wp, afterSeq, atReturn, Atoms, Fun, givenOf, tablesOf, Given, Item, Sq, runs, frees, prop, anyQ, atRet, ‵, ⋆, _$_, !, by, look, init, stop, hop, fld, from, load, lit, unit-lit, addr, of-opd, bin, and-then, no-more, assigns, first, skips, branches, exec, land, returns, returns-within, agg, whole, sub, look-in, FmC, sliceVal, Room, heres, codedHoleys, Held, row, opens-slice, closes-slice, Triple, cited}
-use Rattle.lent_table.proofs.{Count.taken, Places.R, Places.adapter-id, Places.place, Places.low, Places.Fits, Places.FitsId, Plain.Param, Plain.flag, Plain.number, Plain.void, Plain.datas, Plain.asks-none, Slot.Have, Slot.table, Slot.have-in, Slot.have-out, Calls.Register, Calls.Mask, Calls.registers, Calls.changes-table}
+use Rattle.lent_table.proofs.Walk.{_≡_, refl, sym, ap, ℕ, false, [], _∷_, List, length, getD, set, length-set, URA, fullShare, w32, Val, vunit, vint, vbool, vptr, SProp, ent, emp, GName, Lft, Share, fobs, fobor, fauth, Memory, Routine, Heap, Env, Calls, Loops, Atoms, Fun, givenOf, tablesOf, Given, Item, Sq, runs, frees, prop, atRet, ‵, ⋆, _$_, !, by, look, init, stop, hop, fld, from, load, lit, unit-lit, addr, of-opd, bin, and-then, no-more, assigns, first, skips, branches, exec, land, returns, returns-within, agg, whole, sub, look-in, FmC, sliceVal, Room, heres, codedHoleys, Held, row, opens-slice, closes-slice, Triple, cited}
+use Rattle.lent_table.proofs.{Places.R, Places.adapter-id, Places.place, Places.low, Places.Fits, Places.FitsId, Plain.Param, Plain.flag, Plain.number, Plain.void, Plain.datas, Plain.asks-none, Slot.Have, Slot.table, Slot.have-in, Slot.have-out, Calls.Register, Calls.Mask, Calls.registers, Calls.changes-table}
 use Rattle.lent_table.proofs.Shell.{others, ps, env, proves}
 use lib.Dec.{eqb}
 use contract.Monad.{factI}
@@ -41,20 +41,9 @@ module _ {M : Type 1} (𝓤 : URA M) (H : Heap 𝓤) (A : Atoms 𝓤) (W : Given
   abbrev Open : List Place → List Content → List (Item 𝓤)
   Open zs vs = ‵ (row R fullShare zs b o) ∷ ‵ (fobor κ q (Held R (length ys) b o γ)) ∷ ‵ (fobs γ (codedHoleys R .code (heres R ys))) ∷ ‵ (fauth γ (codedHoleys R .code (heres R ys))) ∷ locals E vs []
 
-  abbrev Then : types.Kit.Post 𝓤 H
-  Then = anyQ (afterSeq 𝓤 H (Wp 𝓤 H C Λ E f.Code.Mir.t-3 (atReturn 𝓤 H E Post)) (atReturn 𝓤 H E Post))
-
   -- the table is closed with z at the id
   leaves : (z : Place) → z ≡ choose (eqb group 6) p masked → (vs : List Content) → Sq W (Have 𝓤 κ q b o γ (set ys id z) (locals E vs [])) (frees E (prop (Post vunit)))
   leaves z e vs = ends-with ! (Have 𝓤 κ q b o γ (set ys id z) []) E vs $ by ! (exits (set ys id z) (ap (set ys id) e) (length-set ys id z))
-
-  enters : eqb group 6 ≡ true → Sq W (Open ys (held blank [])) (runs C Λ E (taken f.Code.Mir.s-2) Then)
-  enters test =
-      assigns ! (addr ! (from ! (fld ! refl (hop ! (look-in ! 6 (sub ! 0 refl (whole !))) (stop !))))) (from ! (stop !)) (init ! 18 refl (tt, tt)) $
-      assigns ! (agg ! (and-then ! (load ! (from ! (stop !)) (look ! 18 refl)) (and-then ! (load ! (from ! (fld ! refl (stop !))) (look-in ! 6 (sub ! 1 refl (whole !)))) (no-more !)))) (from ! (stop !)) (init ! 20 refl (tt, (tt, (record { fits = room .0 }, tt)))) $
-      registers ! mem run fm register ys k p b o room gk g (λ _ _. (and-then ! (load ! (from ! (stop !)) (look ! 21 refl)) (and-then ! (load ! (from ! (stop !)) (look ! 9 refl)) (and-then ! (load ! (from ! (stop !)) (look ! 13 refl)) (no-more !)))))
-      (land ! (from ! (stop !)) (init ! 16 refl (tt, tt)) $ assigns ! (of-opd ! (unit-lit !)) (from ! (stop !)) (init ! 4 refl (tt, tt)) $ closes-slice ! tt R ys (set ys id p) (length-set ys id p) b o $
-      returns-within ! Post refl (look ! 3 refl) $ leaves p (sym (chosen _ _ _ test)) (held (holds vunit) (holds vunit ∷ holds (vptr b o) ∷ holds s ∷ [])))
 
   masks-it : eqb group 6 ≡ false → Sq W (Open ys (held blank [])) (runs C Λ E f.Code.Mir.t-3 (atRet E Post))
   masks-it test =
@@ -68,7 +57,13 @@ module _ {M : Type 1} (𝓤 : URA M) (H : Heap 𝓤) (A : Atoms 𝓤) (W : Given
   starts : Sq W (Have 𝓤 κ q b o γ ys (locals E (blank ∷ holds s ∷ holds (I.Laws.lowered k) ∷ holds (vint w32 group) ∷ holds (low p) ∷ []) [])) (runs C Λ E f.Code.Mir.t-1 (atRet E Post))
   starts =
       opens-slice ! tt R ys b o $ assigns ! (bin ! (load ! (from ! (stop !)) (look ! 10 refl)) (lit ! tt) tt) (from ! (stop !)) (init ! 14 refl (tt, tt)) $
-      first ! $ branches ! (load ! (from ! (stop !)) (look ! 14 refl)) (λ t. enters (holds-true (eqb group 6) t)) (λ t. skips ! $ exec ! C Λ E f.Code.Mir.t-3 (atRet E Post) $ masks-it (holds-false (eqb group 6) t))
+      first ! $ branches ! (load ! (from ! (stop !)) (look ! 14 refl))
+      (λ t. assigns ! (addr ! (from ! (fld ! refl (hop ! (look-in ! 6 (sub ! 0 refl (whole !))) (stop !))))) (from ! (stop !)) (init ! 18 refl (tt, tt)) $
+      assigns ! (agg ! (and-then ! (load ! (from ! (stop !)) (look ! 18 refl)) (and-then ! (load ! (from ! (fld ! refl (stop !))) (look-in ! 6 (sub ! 1 refl (whole !)))) (no-more !)))) (from ! (stop !)) (init ! 20 refl (tt, (tt, (record { fits = room .0 }, tt)))) $
+      registers ! mem run fm register ys k p b o room gk g (λ _ _. (and-then ! (load ! (from ! (stop !)) (look ! 21 refl)) (and-then ! (load ! (from ! (stop !)) (look ! 9 refl)) (and-then ! (load ! (from ! (stop !)) (look ! 13 refl)) (no-more !)))))
+      (land ! (from ! (stop !)) (init ! 16 refl (tt, tt)) $ assigns ! (of-opd ! (unit-lit !)) (from ! (stop !)) (init ! 4 refl (tt, tt)) $ closes-slice ! tt R ys (set ys id p) (length-set ys id p) b o $
+      returns-within ! Post refl (look ! 3 refl) $ leaves p (sym (chosen _ _ _ (holds-true (eqb group 6) t))) (held (holds vunit) (holds vunit ∷ holds (vptr b o) ∷ holds s ∷ []))))
+      (λ t. skips ! $ exec ! C Λ E f.Code.Mir.t-3 (atRet E Post) $ masks-it (holds-false (eqb group 6) t))
 
 pub change-place-spec : {M : Type 1} → f.Statement.statement M
 unfolding f.Code.routine tablesOf

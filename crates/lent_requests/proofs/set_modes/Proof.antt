@@ -1,6 +1,6 @@
 -- `set_modes`: the code decides; where it is 0 the record is opened, `change_modes` is called, and the record is closed.
-use Rattle.lent_table.proofs.Walk.{fact, frees, prop, emp, _≡_, refl, sym, ap, subst, ℕ, _<_, _^_, Bool, true, false, [], _∷_, List, length, set, URA, fullShare, w32, w64, tyUnit, Val, vunit, vint, vbool, vptr, SProp, ent, id⊢, GName, Lft, Share, Fml, ftrue, fsep, flft, fobs, fobor, fauth, fat, Memory, Routine, Heap, Env, Calls, Loops, Wp, afterSeq, atReturn, Atoms, Fun, givenOf, tablesOf, Given, Item, Sq, runs, anyQ, atRet, ‵, ⋆, _⊛_, _$_, _∵_, !, qed, by, move, drop, rewrite, fjoin, done, look, init, stop, hop, from, load, lit, addr, bin, and-then, no-more, assigns, first, skips, branches, exec, land, returns, returns-within, Body, FmC, Is, shows, mem, uint-makes, u32, unit, sliceVal, only, opens, closes, owned, peeks, spelt, tripleOf, Triple, cited, says}
-use Rattle.lent_table.proofs.{Count.taken, Gives.at-list, Gives.LentCell, Modes.device, Modes.FitsDevice, Modes.Had, Plain.Data, Plain.flag, Plain.number, Plain.asks-fact, Record.Cell, Shell.others, Shell.ps, Shell.env, Shell.proves}
+use Rattle.lent_table.proofs.Walk.{fact, frees, prop, emp, _≡_, refl, sym, ap, subst, ℕ, _<_, _^_, Bool, true, false, [], _∷_, List, length, set, URA, fullShare, w32, w64, tyUnit, Val, vunit, vint, vbool, vptr, SProp, ent, id⊢, GName, Lft, Share, Fml, ftrue, fsep, flft, fat, Memory, Routine, Heap, Env, Calls, Loops, Atoms, Fun, givenOf, tablesOf, Given, Item, Sq, runs, atRet, ‵, ⋆, _⊛_, _$_, _∵_, !, qed, by, move, drop, rewrite, fjoin, done, look, init, stop, hop, from, load, lit, addr, bin, and-then, no-more, assigns, first, skips, branches, exec, land, returns, returns-within, FmC, Is, shows, mem, uint-makes, u32, unit, sliceVal, only, opens, closes, owned, peeks, spelt, tripleOf, Triple, cited, says}
+use Rattle.lent_table.proofs.{Gives.at-list, Gives.LentCell, Modes.device, Modes.Had, Plain.Data, Plain.flag, Plain.number, Plain.asks-fact, Shell.others, Shell.ps, Shell.env, Shell.proves}
 use Rattle.numbers.proofs.Basics.{eqb, not, eqb-true, eqb-false}
 use denote.Struct.Laws as LL
 use contract.Monad.{factI}
@@ -54,25 +54,9 @@ module _ {M : Type 1} (𝓤 : URA M) (H : Heap 𝓤) (A : Atoms 𝓤) (W : Given
   leaves : (z : Device) (r : Answer) → ModesSet ais group attr h z bytes r → FitsAnswer r → (vs : List Content) → Sq W (Shut z vs) (frees E (prop (Post (An.Laws.lowered r))))
   leaves z r set g vs = ends-with ! (Had κ q b o γ z (Beside κp qp (at-list bp op γp bytes) [])) E vs $ by ! (exits z r set g)
 
-  abbrev Then : types.Kit.Post 𝓤 H
-  Then = anyQ (afterSeq 𝓤 H (Wp 𝓤 H C Λ E f.Code.Mir.t-4 (atReturn 𝓤 H E Post)) (atReturn 𝓤 H E Post))
-
   module _ (n : ℕ) (fits : n < 2 ^ 32) (decided : ModesDecided ais group attr h bytes n) (asked : n ≡ 0 → ModesAsked group bytes) where
     abbrev tested : Content → List Content → List Content
     tested v₀ vs = held v₀ (holds (vint w32 n) ∷ holds (vbool (not (eqb n 0))) ∷ vs)
-
-    refuses-it : eqb n 0 ≡ false → Sq W (Shut h (tested blank [])) (runs C Λ E (taken f.Code.Mir.s-3) Then)
-    refuses-it e =
-        refuses ! mem′ run fm (known .refuse) n fits (λ i. (and-then ! (load ! (from ! (stop !)) (look ! 18 refl)) (no-more !))) (λ g.
-        land ! (from ! (stop !)) (init ! 5 refl (answer .typed 𝓤 H A W (refused n) g)) $ returns-within ! Post refl (look ! 5 refl) $
-        leaves h (refused n) (modes-refused ais group attr h bytes n decided (eqb-false n 0 e)) g (tested (holds (An.Laws.lowered (refused n))) []))
-
-    -- the record is closed at what `change_modes` left
-    ends : eqb n 0 ≡ true → (y : Device) → y ≡ new → FitsDevice y → Sq W (Cell y b o ∷ Beside κp qp (at-list bp op γp bytes) (‵ (fobor κ q (Body (mem D.the-row) b o γ)) ∷ ‵ (fobs γ (D.the-row .coded .code h)) ∷ ‵ (fauth γ (D.the-row .coded .code h)) ∷ locals E (tested blank (holds vunit ∷ holds (vptr b o) ∷ [])) [])) (runs C Λ E f.Code.Mir.t-6 (atRet E Post))
-    ends e y is gy =
-        accepts ! mem′ run fm (known .accept) 0 zero-fits (λ i. (and-then ! (lit ! tt) (no-more !))) (λ g. land ! (from ! (stop !)) (init ! 6 refl (answer .typed 𝓤 H A W (accepted 0) g)) $
-        owned ! D.the-row (Is D.the-row) (device .makes 𝓤 H A W) y _ gy $ move ! (1 ∷ 0 ∷ 4 ∷ 5 ∷ 6 ∷ []) $ closes ! tt D.the-row y (D.Laws.lowered y ∷ []) b o $ returns ! (look ! 5 refl) $
-        leaves y (accepted 0) (subst (λ (z : Device). ModesSet ais group attr h z bytes (accepted 0)) (sym is) (modes-accepted ais group attr h bytes n decided (eqb-true n 0 e))) g (tested (holds (An.Laws.lowered (accepted 0))) (holds vunit ∷ holds (vptr b o) ∷ [])))
 
     abbrev with-group : Fml → Fml
     with-group X = fsep (u32 .own group (vint w32 group ∷ [])) X
@@ -87,7 +71,11 @@ module _ {M : Type 1} (𝓤 : URA M) (H : Heap 𝓤) (A : Atoms 𝓤) (W : Given
         (qed W (‵ (fsep (OwnPayload κp (at-list bp op γp bytes)) ftrue) ∷ []) ∵ owned ! u32 (Is u32) (uint-makes 𝓤 H A W w32) group _ (refl, group-fits) $ fjoin ! $ done !) unit {Y = Unit {0} × (Unit {0} × Unit {0})} (λ w. fsep ftrue (fsep ftrue ftrue)) (λ z y. y ≡ new)
         (λ ν δ. qed W ((‵ (flft (ν ∷ []) fullShare) ⊛ ‵ (flft κp qp) ⊛ ‵ ftrue) ∷ ‵ (fsep (LentCell D.the-row h b o (ν ∷ []) δ) (with-group (fsep (OwnPayload κp (at-list bp op γp bytes)) ftrue))) ∷ []) ∵ says ! (asked (eqb-true n 0 e)) $ done !)
         (λ ν δ v. id⊢ 𝓤 _) (λ ν δ i j k. (and-then ! (load ! (from ! (stop !)) (look ! 24 refl)) (and-then ! (load ! (from ! (stop !)) (look ! 12 refl)) (and-then ! (load ! (from ! (stop !)) (look ! 16 refl)) (no-more !)))))
-        (λ z v y is u gy. land ! (from ! (stop !)) (init ! 22 refl (unit-typed u)) $ rewrite ! 22 (λ (w : Val). ‵ (fat fullShare tyUnit (cs .1 .1 .0) 0 w)) (ap only u) refl $ ends e y is gy)))
+        (λ z v y is u gy. land ! (from ! (stop !)) (init ! 22 refl (unit-typed u)) $ rewrite ! 22 (λ (w : Val). ‵ (fat fullShare tyUnit (cs .1 .1 .0) 0 w)) (ap only u) refl $
+        -- the record is closed at what `change_modes` left: [its cell; the payload's token; the payload; the open borrow; obs; auth; the locals]
+        accepts ! mem′ run fm (known .accept) 0 zero-fits (λ i. (and-then ! (lit ! tt) (no-more !))) (λ g. land ! (from ! (stop !)) (init ! 6 refl (answer .typed 𝓤 H A W (accepted 0) g)) $
+        owned ! D.the-row (Is D.the-row) (device .makes 𝓤 H A W) y _ gy $ move ! (1 ∷ 0 ∷ 4 ∷ 5 ∷ 6 ∷ []) $ closes ! tt D.the-row y (D.Laws.lowered y ∷ []) b o $ returns ! (look ! 5 refl) $
+        leaves y (accepted 0) (subst (λ (z : Device). ModesSet ais group attr h z bytes (accepted 0)) (sym is) (modes-accepted ais group attr h bytes n decided (eqb-true n 0 e))) g (tested (holds (An.Laws.lowered (accepted 0))) (holds vunit ∷ holds (vptr b o) ∷ []))))))
 
   -- the code is known: [the payload's token; the payload; obs; the borrow; the record's token; the locals]
   starts : Sq W (Shut h (held blank [])) (runs C Λ E f.Code.Mir.t-1 (atRet E Post))
@@ -97,7 +85,9 @@ module _ {M : Type 1} (𝓤 : URA M) (H : Heap 𝓤) (A : Atoms 𝓤) (W : Given
       (λ i j. (and-then ! (load ! (from ! (stop !)) (look ! 9 refl)) (and-then ! (load ! (from ! (stop !)) (look ! 11 refl)) (and-then ! (load ! (from ! (stop !)) (look ! 13 refl)) (and-then ! (load ! (from ! (stop !)) (look ! 15 refl)) (no-more !))))))
       (λ n φ is. land ! (from ! (stop !)) (init ! 17 refl (tt, record { fits = is .1 })) $
       move ! (2 ∷ 3 ∷ 4 ∷ []) $ assigns ! (bin ! (load ! (from ! (stop !)) (look ! 17 refl)) (lit ! tt) tt) (from ! (stop !)) (init ! 19 refl (tt, tt)) $
-      first ! $ branches ! (load ! (from ! (stop !)) (look ! 19 refl)) (λ t. refuses-it n (is .1) (φ .0) (φ .1) (holds-false (eqb n 0) t))
+      first ! $ branches ! (load ! (from ! (stop !)) (look ! 19 refl)) (λ t. refuses ! mem′ run fm (known .refuse) n (is .1) (λ i. (and-then ! (load ! (from ! (stop !)) (look ! 18 refl)) (no-more !))) (λ g.
+      land ! (from ! (stop !)) (init ! 5 refl (answer .typed 𝓤 H A W (refused n) g)) $ returns-within ! Post refl (look ! 5 refl) $
+      leaves h (refused n) (modes-refused ais group attr h bytes n (φ .0) (eqb-false n 0 (holds-false (eqb n 0) t))) g (held (holds (An.Laws.lowered (refused n))) (holds (vint w32 n) ∷ holds (vbool (not (eqb n 0))) ∷ []))))
       (λ t. skips ! $ exec ! C Λ E f.Code.Mir.t-4 (atRet E Post) $ changes-it n (is .1) (φ .0) (φ .1) (not-not (eqb n 0) t)))
 
 pub set-modes-spec : {M : Type 1} → f.Statement.statement M

@@ -1,6 +1,6 @@
 -- `set_place`: the table is opened, the place of the payload's id is looked up, and the code decides; where it is 0 `change_place` is called. Then the table is closed.
-use Rattle.lent_table.proofs.Walk.{fact, frees, prop, emp, _≡_, refl, sym, ap, subst, ℕ, _<_, _^_, true, false, [], _∷_, List, length, getD, set, URA, fullShare, w32, w64, Val, vunit, vint, vbool, vptr, SProp, ent, id⊢, GName, Lft, Share, fobs, fobor, fauth, Memory, Routine, Heap, Env, Calls, Loops, Wp, afterSeq, atReturn, Atoms, Fun, givenOf, tablesOf, Given, Item, Sq, runs, anyQ, atRet, ‵, ⋆, _$_, !, by, move, look, init, stop, hop, fld, from, load, lit, addr, bin, and-then, no-more, assigns, first, skips, branches, exec, land, returns, returns-within, agg, whole, sub, look-in, FmC, sliceVal, Room, heres, codedHoleys, Held, row, opens-slice, closes-slice, tripleOf, Triple, cited}
-use Rattle.lent_table.proofs.{Count.taken, Gives.at-list, Slot.Have, Plain.Data, Plain.number, Plain.asks-fact, Shell.others, Shell.ps, Shell.env, Shell.proves, Calls.changes-table, Calls.LookUp, Calls.looks-up}
+use Rattle.lent_table.proofs.Walk.{fact, frees, prop, emp, _≡_, refl, sym, ap, subst, ℕ, _<_, _^_, true, [], _∷_, List, length, getD, set, URA, fullShare, w32, w64, Val, vunit, vint, vbool, vptr, SProp, ent, id⊢, GName, Lft, Share, fobs, fobor, fauth, Memory, Routine, Heap, Env, Calls, Loops, Atoms, Fun, givenOf, tablesOf, Given, Item, Sq, runs, atRet, ‵, ⋆, _$_, !, by, move, look, init, stop, hop, fld, from, load, lit, addr, bin, and-then, no-more, assigns, first, skips, branches, exec, land, returns, returns-within, agg, whole, sub, look-in, FmC, sliceVal, Room, heres, codedHoleys, Held, row, opens-slice, closes-slice, tripleOf, Triple, cited}
+use Rattle.lent_table.proofs.{Gives.at-list, Slot.Have, Plain.Data, Plain.number, Plain.asks-fact, Shell.others, Shell.ps, Shell.env, Shell.proves, Calls.changes-table, Calls.LookUp, Calls.looks-up}
 use Rattle.numbers.proofs.Basics.{eqb, not, _∙_, eqb-true, eqb-false, arith}
 use contract.Monad.{factI}
 use denote.Ref.{now}
@@ -74,9 +74,6 @@ module _ {M : Type 1} (𝓤 : URA M) (H : Heap 𝓤) (A : Atoms 𝓤) (W : Given
   leaves : (zs : List Place) (r : Answer) → PlaceSet group attr ys zs bytes r → FitsAnswer r → (vs : List Content) → Sq W (Have 𝓤 κ q b o γ zs (Beside κp qp (at-list bp op γp bytes) (locals E vs []))) (frees E (prop (Post (An.Laws.lowered r))))
   leaves zs r set g vs = ends-with ! (Have 𝓤 κ q b o γ zs (Beside κp qp (at-list bp op γp bytes) [])) E vs $ by ! (exits zs r set g)
 
-  abbrev Then : types.Kit.Post 𝓤 H
-  Then = anyQ (afterSeq 𝓤 H (Wp 𝓤 H C Λ E f.Code.Mir.t-8 (atReturn 𝓤 H E Post)) (atReturn 𝓤 H E Post))
-
   -- ---- once the id is known, and the place at it
   module _ (id : AdapterId) (id-is : id .0 ≡ payloadId bytes) (gk : FitsId id) where
     abbrev old : Place
@@ -89,12 +86,6 @@ module _ {M : Type 1} (𝓤 : URA M) (H : Heap 𝓤) (A : Atoms 𝓤) (W : Given
     module _ (go : Fits old) (n : ℕ) (fits : n < 2 ^ 32) (decided : PlaceDecided group attr ys bytes n) (asked : n ≡ 0 → PlaceAsked group bytes old) where
       abbrev tested : Content → Content → List Content → List Content
       tested v₀ c₈ vs = looked v₀ (holds (vint w32 n)) c₈ (holds (vbool (not (eqb n 0)))) vs
-
-      refuses-it : eqb n 0 ≡ false → Sq W (Open ys (tested blank blank [])) (runs C Λ E (taken f.Code.Mir.s-7) Then)
-      refuses-it e =
-          refuses ! mem′ run fm (known .refuse) n fits (λ i. (and-then ! (load ! (from ! (stop !)) (look ! 21 refl)) (no-more !))) (λ g.
-          land ! (from ! (stop !)) (init ! 6 refl (answer .typed 𝓤 H A W (refused n) g)) $ closes-slice ! tt R ys ys refl b o $ returns-within ! Post refl (look ! 5 refl) $
-          leaves ys (refused n) (place-refused group attr ys bytes n decided (eqb-false n 0 e)) g (tested (holds (An.Laws.lowered (refused n))) blank []))
 
       module _ (e : eqb n 0 ≡ true) (p : Place) (left : Left old group bytes p) (gp : Fits p) where
         abbrev zs : List Place
@@ -136,21 +127,20 @@ module _ {M : Type 1} (𝓤 : URA M) (H : Heap 𝓤) (A : Atoms 𝓤) (W : Given
         (λ i j. (and-then ! (lit ! tt) (and-then ! (load ! (from ! (stop !)) (look ! 18 refl)) (and-then ! (load ! (from ! (stop !)) (look ! 10 refl)) (and-then ! (load ! (from ! (stop !)) (look ! 12 refl)) (and-then ! (load ! (from ! (stop !)) (look ! 14 refl)) (no-more !)))))))
         (λ n φ is. land ! (from ! (stop !)) (init ! 20 refl (tt, record { fits = is .1 })) $
         move ! (2 ∷ 3 ∷ 4 ∷ 5 ∷ []) $ assigns ! (bin ! (load ! (from ! (stop !)) (look ! 20 refl)) (lit ! tt) tt) (from ! (stop !)) (init ! 28 refl (tt, tt)) $
-        first ! $ branches ! (load ! (from ! (stop !)) (look ! 28 refl)) (λ t. refuses-it go n (is .1) (at-id n (φ .0)) (φ .1) (holds-false (eqb n 0) t))
+        first ! $ branches ! (load ! (from ! (stop !)) (look ! 28 refl)) (λ t. refuses ! mem′ run fm (known .refuse) n (is .1) (λ i. (and-then ! (load ! (from ! (stop !)) (look ! 21 refl)) (no-more !))) (λ g.
+        land ! (from ! (stop !)) (init ! 6 refl (answer .typed 𝓤 H A W (refused n) g)) $ closes-slice ! tt R ys ys refl b o $ returns-within ! Post refl (look ! 5 refl) $
+        leaves ys (refused n) (place-refused group attr ys bytes n (at-id n (φ .0)) (eqb-false n 0 (holds-false (eqb n 0) t))) g (looked (holds (An.Laws.lowered (refused n))) (holds (vint w32 n)) blank (holds (vbool (not (eqb n 0)))) [])))
         (λ t. skips ! $ exec ! C Λ E f.Code.Mir.t-8 (atRet E Post) $ leaves-it go n (is .1) (at-id n (φ .0)) (φ .1) (not-not (eqb n 0) t)))
-
-    looks-it : Sq W (Open ys (held blank (holds (I.Laws.lowered id) ∷ []))) (runs C Λ E f.Code.Mir.t-2 (atRet E Post))
-    looks-it =
-        assigns ! (addr ! (from ! (fld ! refl (hop ! (look-in ! 8 (sub ! 0 refl (whole !))) (stop !))))) (from ! (stop !)) (init ! 24 refl (tt, tt)) $
-        assigns ! (agg ! (and-then ! (load ! (from ! (stop !)) (look ! 24 refl)) (and-then ! (load ! (from ! (fld ! refl (stop !))) (look-in ! 8 (sub ! 1 refl (whole !)))) (no-more !)))) (from ! (stop !)) (init ! 26 refl (tt, (tt, (record { fits = room .0 }, tt)))) $
-        looks-up ! mem′ run fm (known .look-up) ys id b o room gk (λ _ _. (and-then ! (load ! (from ! (stop !)) (look ! 27 refl)) (and-then ! (load ! (from ! (stop !)) (look ! 17 refl)) (no-more !))))
-        (λ go. land ! (from ! (stop !)) (init ! 18 refl (place .typed 𝓤 H A W old go)) $ decides go)
 
   starts : Sq W (Have 𝓤 κ q b o γ ys (Beside κp qp (at-list bp op γp bytes) (locals E (held blank []) []))) (runs C Λ E f.Code.Mir.t-1 (atRet E Post))
   starts =
       opens-slice ! tt R ys b o $ move ! (4 ∷ 5 ∷ []) $ asks-slice ! fm [] adapter-id (λ _ _. emp 𝓤) (λ _ a id. id .0 ≡ payloadId (now (a .0))) (known .payload-id) κp qp bp op γp bytes tt tt (id⊢ 𝓤 (emp 𝓤))
       (λ i j. (and-then ! (load ! (from ! (stop !)) (look ! 14 refl)) (no-more !)))
-      (λ id e gk. land ! (from ! (stop !)) (init ! 16 refl (adapter-id .typed 𝓤 H A W id gk)) $ move ! (2 ∷ 3 ∷ 4 ∷ 5 ∷ []) $ looks-it id e gk)
+      (λ id e gk. land ! (from ! (stop !)) (init ! 16 refl (adapter-id .typed 𝓤 H A W id gk)) $ move ! (2 ∷ 3 ∷ 4 ∷ 5 ∷ []) $
+      assigns ! (addr ! (from ! (fld ! refl (hop ! (look-in ! 8 (sub ! 0 refl (whole !))) (stop !))))) (from ! (stop !)) (init ! 24 refl (tt, tt)) $
+      assigns ! (agg ! (and-then ! (load ! (from ! (stop !)) (look ! 24 refl)) (and-then ! (load ! (from ! (fld ! refl (stop !))) (look-in ! 8 (sub ! 1 refl (whole !)))) (no-more !)))) (from ! (stop !)) (init ! 26 refl (tt, (tt, (record { fits = room .0 }, tt)))) $
+      looks-up ! mem′ run fm (known .look-up) ys id b o room gk (λ _ _. (and-then ! (load ! (from ! (stop !)) (look ! 27 refl)) (and-then ! (load ! (from ! (stop !)) (look ! 17 refl)) (no-more !))))
+      (λ go. land ! (from ! (stop !)) (init ! 18 refl (place .typed 𝓤 H A W (getD ys (id .0) unused) go)) $ decides id e gk go))
 
 pub set-place-spec : {M : Type 1} → f.Statement.statement M
 unfolding f.Code.routine tablesOf

@@ -1,5 +1,5 @@
 -- `look_up`: the test of the bound; the element is read through the slice and returned, or the free place is made.
-use Rattle.lent_table.proofs.Walk.{_≡_, refl, sym, ℕ, _*_, [], _∷_, List, length, getD, List·getD-eq-default, ltb, ltb→lt, nltb→le, URA, fullShare, named, w64, tyPtr, Val, vint, vbool, vptr, SProp, ent, emp, GName, Lft, Share, Fml, ftrue, flft, fat, Memory, Routine, Heap, Env, Calls, Loops, Wp, afterSeq, atReturn, Atoms, Fun, givenOf, tablesOf, Given, Sq, runs, frees, prop, anyQ, atRet, ‵, ⋆, _⊛_, _$_, _∵_, !, qed, by, move, keep, drop, use1, split, join, rewrite, fsplit, frame, done, look, look-raw, init, stop, hop, fld, from, load, lit, of-opd, bin, assigns, first, skips, branches, exec, land, returns, returns-within, whole, sub, look-in, FmC, owns, Is, shows, sliceVal, ShrSlice, Room, shr-slice-copy, place as position, place-is, elem-out, elem-back, looks-slice, shuts-slice, nothing, Triple, cited}
+use Rattle.lent_table.proofs.Walk.{_≡_, refl, sym, ℕ, _*_, [], _∷_, List, length, getD, List·getD-eq-default, ltb, ltb→lt, nltb→le, URA, fullShare, named, w64, tyPtr, Val, vint, vbool, vptr, SProp, ent, emp, GName, Lft, Share, Fml, ftrue, flft, fat, Memory, Routine, Heap, Env, Calls, Loops, Atoms, Fun, givenOf, tablesOf, Given, Sq, runs, frees, prop, atRet, ‵, ⋆, _⊛_, _$_, _∵_, !, qed, by, move, keep, drop, use1, split, join, rewrite, fsplit, frame, done, look, look-raw, init, stop, hop, fld, from, load, lit, of-opd, bin, assigns, first, skips, branches, exec, land, returns, returns-within, whole, sub, look-in, FmC, owns, Is, shows, sliceVal, ShrSlice, Room, shr-slice-copy, place as position, place-is, elem-out, elem-back, looks-slice, shuts-slice, nothing, Triple, cited}
 use contract.Monad.{factI}
 use denote.Struct.Laws as LL
 use Rattle.numbers.specs.declared.AdapterId.{AdapterId}
@@ -36,9 +36,6 @@ module _ {M : Type 1} (𝓤 : URA M) (H : Heap 𝓤) (A : Atoms 𝓤) (W : Given
 
   abbrev E : Env 𝓤 H
   E = env slice Ps place (others f.Code.function) l₀ bs cs
-
-  abbrev Then : types.Kit.Post 𝓤 H
-  Then = anyQ (afterSeq 𝓤 H (Wp 𝓤 H C Λ E f.Code.Mir.t-5 (atReturn 𝓤 H E Post)) (atReturn 𝓤 H E Post))
 
   -- once the test is made
   abbrev held : Content → List Content → List Content

@@ -1,6 +1,6 @@
 -- What `register` and `mask` share: the test of the bound of `t: &mut [Place]` at `id: AdapterId`, then a store into the place, or nothing. The third
 -- parameter, of any type τ, holds v.
-use Rattle.lent_table.proofs.Walk.{ap, subst, emp, sep, sem, ftrue, fact, named, tables, givenOf, keep, split, join, fsplit, fjoin, frame, done, _⊛_, _∵_, qed, nothing, owns, MutSlice, at-slice, pureI, onEntry, tripleOf, Contract, Triple, _≡_, refl, sym, ℕ, _<_, _*_, [], _∷_, List, length, getD, set, length-set, ltb, ltb→lt, nltb→le, URA, fullShare, w64, tyInt, tyBool, tyPtr, Val, vunit, vint, vbool, vptr, SProp, ent, GName, Lft, Share, flft, fobs, fbor, fobor, fauth, fat, next, Heap, Env, Calls, Loops, Wp, afterSeq, atReturn, Atoms, Given, Item, Sq, runs, prop, post, anyQ, atRet, ‵, ⋆, _$_, !, by, move, drop, rewrite, look, init, stop, fld, from, load, lit, unit-lit, of-opd, bin, assigns, first, skips, branches, exec, returns, whole, sub, look-in, Is, shows, cellAt, shares, sliceVal, Room, heres, codedHoleys, Held, place, place-is, others, elem-out, elem-put, opens-slice, closes-slice, owned}
+use Rattle.lent_table.proofs.Walk.{RefT, ap, subst, emp, sep, sem, ftrue, fact, named, tables, givenOf, keep, split, join, fsplit, fjoin, frame, done, _⊛_, _∵_, qed, nothing, owns, MutSlice, at-slice, pureI, onEntry, tripleOf, Contract, Triple, _≡_, refl, sym, ℕ, _<_, _*_, [], _∷_, List, length, getD, set, length-set, ltb, ltb→lt, nltb→le, URA, fullShare, w64, tyInt, tyBool, tyPtr, Val, vunit, vint, vbool, vptr, SProp, ent, GName, Lft, Share, flft, fobs, fbor, fobor, fauth, fat, next, Heap, Env, Calls, Loops, Wp, afterSeq, atReturn, Atoms, Given, Item, Sq, runs, prop, post, anyQ, atRet, ‵, ⋆, _$_, !, by, move, drop, rewrite, look, init, stop, fld, from, load, lit, unit-lit, of-opd, bin, assigns, first, skips, branches, exec, returns, whole, sub, look-in, Is, shows, cellAt, shares, sliceVal, Room, heres, codedHoleys, Held, place, place-is, others, elem-out, elem-put, opens-slice, closes-slice, owned}
 use mir.Syntax.{Name, place as at, Local, local, valueLocal, field, copy, int, rvOpd, op2, mul, lt, offset, unsigned, opdUnit, Body as Code, seq, assign, cond, skip, return}
 use denote.Struct.Laws as LL
 use Rattle.numbers.specs.declared.AdapterId.{AdapterId}
@@ -8,11 +8,11 @@ use Rattle.numbers.proofs.AdapterId.Laws as I′
 use Rattle.adapters.specs.{declared.Place.Place, Values.unused}
 use Rattle.adapters.proofs.Place as P
 use prog.{Wp.Closed, Model.Model, Routine.Env as Routines}
-use contract.{Monad.factI, Lifetimes.Lfts, Running.Running, Running.GhostRules}
-use denote.{Ref.now, Signature.typesAt, Triple.Clauses.Clauses, Triple.Clauses.closing}
+use contract.{Lifetimes.Lfts, Running.Running, Running.GhostRules}
+use denote.{Ref.now, Signature.typesAt, Triple.Clauses.Clauses, Triple.Clauses.atExit, Triple.Clauses.closing}
 use Rattle.lent_table.proofs.{Gives.at-list, Locals.Content, Locals.blank, Locals.holds, Locals.Blocks, Locals.locals, Locals.ends-with}
-use Rattle.lent_table.proofs.Plain.{Data, Param, void, datas, slots, Values, lows, asks-none}
-use Rattle.lent_table.proofs.Shell.{Head, mut-slice, Shell, ps, function, env, Exits, proves}
+use Rattle.lent_table.proofs.Plain.{Data, Param, void, datas, slots, Values, lows, same, Asks}
+use Rattle.lent_table.proofs.Shell.{Head, mut-slice, Shell, ps, function, env, proves}
 use Rattle.lent_table.proofs.Places.{adapter-id, R, low, Fits, FitsId, id-fits, makes, scaled, set-past}
 
 -- the code: the locals 4 to 8 are i, the length, the test, the offset and the pointer
@@ -61,9 +61,6 @@ module _ (D : Data) (new : List Place → AdapterId → D .row .Denot → Place)
   abbrev Ps : List (Param 1)
   Ps = datas 1 (adapter-id ∷ D ∷ [])
 
-  abbrev clauses : {M : Type 1} (𝓤 : URA M) → Clauses 𝓤 (Shell table Ps void)
-  clauses = changing (adapter-id ∷ D ∷ []) (λ _ ys a. set ys (a .0 .0) (new ys (a .0) (a .1 .0)))
-
   module _ {M : Type 1} (𝓤 : URA M) (H : Heap 𝓤) (A : Atoms 𝓤) (κ : Lft) (q : Share) (b o : ℕ) (γ : GName) (ys : List Place) (k : AdapterId) (v : D .row .Denot) (Post : Val → SProp 𝓤)
       (C : Calls 𝓤 H) (Λ : Loops 𝓤 H) (l₀ : ℕ) (bs : Blocks (ps table Ps void)) (cs : Blocks ls) where
     abbrev id : ℕ
@@ -94,12 +91,12 @@ module _ (D : Data) (new : List Place → AdapterId → D .row .Denot → Place)
     abbrev pub Storing : Given 𝓤 H A → Code → Type 1
     Storing W store = Sq W (Opened (new ys k v)) (prop (post 𝓤 H Then next)) → Sq W (Opened old) (runs C Λ E store Then)
 
-    module _ (W : Given 𝓤 H A) (room : Room R (length ys)) (gk : FitsId k) (exits : Exits table Ps void 𝓤 H A (clauses 𝓤) (κ, tt) (q, tt) (at-list b o γ ys) (k, (v, tt)) tt Post)
+    module _ (W : Given 𝓤 H A) (room : Room R (length ys)) (gk : FitsId k) (exits : (l : List Place) → l ≡ set ys (k .0) (new ys k v) → length l ≡ length ys → ent 𝓤 (⋆ 𝓤 H A (Have 𝓤 κ q b o γ l [])) (Post vunit))
         (store : Code) (made : Fits old → Fits (new ys k v)) (stores : Storing W store) where
       leaves : (l : List Place) → l ≡ set ys id (new ys k v) → length l ≡ length ys → (c₇ c₈ : Content) → Sq W (Have 𝓤 κ q b o γ l (locals E (held blank c₇ c₈) [])) (runs C Λ E ends (atRet E Post))
       leaves l e len c₇ c₈ =
           assigns ! (of-opd ! (unit-lit !)) (from ! (stop !)) (init ! 3 refl (tt, tt)) $ returns ! (look ! 3 refl) $ ends-with ! (Have 𝓤 κ q b o γ l []) E (held (holds vunit) c₇ c₈) $
-          by ! (exits (Have 𝓤 κ q b o γ l []) l len tt refl (factI 𝓤 _ (emp 𝓤) e) (have-out 𝓤 H A W κ q b o γ ys room l len))
+          by ! (exits l e len)
 
       -- the place holds the new one: the slice is closed at the table with it there
       stored : id < length ys → Fits (new ys k v) → Sq W (Opened (new ys k v)) (prop (post 𝓤 H Then next))
@@ -122,14 +119,17 @@ module _ (D : Data) (new : List Place → AdapterId → D .row .Denot → Place)
           (λ g. stores (stored (ltb→lt id (length ys) test) (made g))))
           (λ test. skips ! $ exec ! C Λ E ends (atRet E Post) $ leaves ys (set-past ys id (new ys k v) (nltb→le id (length ys) test)) refl blank blank)
 
-  module _ {M : Type 1} (𝓤 : URA M) (H : Heap 𝓤) (𝓜 : Model 𝓤 H) (𝓖 : GhostRules 𝓤 H) (𝓡 : Running 𝓤 H 𝓜) (γ : Routines) (f : Name) (store : Code) where
+  module _ {M : Type 1} (𝓤 : URA M) (H : Heap 𝓤) (𝓜 : Model 𝓤 H) (𝓖 : GhostRules 𝓤 H) (𝓡 : Running 𝓤 H 𝓜) (cl : Clauses 𝓤 (Shell table Ps void)) (γ : Routines) (f : Name) (store : Code) where
     pub stores-place : Closed 𝓤 H (tables 𝓤 H 𝓜 𝓡 γ .C) (tables 𝓤 H 𝓜 𝓡 γ .Λ) f (function table Ps void ls (body store))
+        → ((κs : Lfts 1) (x : RefT (List Place)) (a : Values κs Ps) (g : cl κs (x, a) .ghost) → Asks 𝓤 (cl κs (x, a) .requires g) (Unit {0}))
+        → ((κs : Lfts 1) (x : RefT (List Place)) (a : Values κs Ps) (g : cl κs (x, a) .ghost) (l : List Place) → l ≡ set (now x) (a .0 .0) (new (now x) (a .0) (a .1 .0)) → ent 𝓤 (emp 𝓤) (cl κs (x, a) .ensures g tt (atExit (Shell table Ps void) κs (x, a) (l, same κs Ps a))))
         → ((ys : List Place) (k : AdapterId) (v : D .row .Denot) → Is (D .row) v (D .low v ∷ []) → Fits (getD ys (k .0) unused) → Fits (new ys k v))
         → ((κ : Lft) (q : Share) (b o : ℕ) (δ : GName) (ys : List Place) (k : AdapterId) (v : D .row .Denot) (Post : Val → SProp 𝓤) (l₀ : ℕ) (bs : Blocks (ps table Ps void)) (cs : Blocks ls) → Is (D .row) v (D .low v ∷ [])
         → Storing 𝓤 H (𝓖 .A) κ q b o δ ys k v Post (tables 𝓤 H 𝓜 𝓡 γ .C) (tables 𝓤 H 𝓜 𝓡 γ .Λ) l₀ bs cs (givenOf 𝓤 H 𝓜 𝓖) store)
-        → Triple 𝓤 (tables 𝓤 H 𝓜 𝓡 γ .C f) (Changes (adapter-id ∷ D ∷ []) (λ _ ys a. set ys (a .0 .0) (new ys (a .0) (a .1 .0))) 𝓤 H (𝓖 .A))
-    stores-place closed made stores =
-        proves table Ps void 𝓤 H 𝓜 𝓖 𝓡 (clauses 𝓤) γ f ls (body store) closed (λ κs qs x _. Have 𝓤 (κs .0) (qs .0) (x .ptr .0) (x .ptr .1) (x .name) (x .now) [])
-        (λ κs qs x a _. have-in 𝓤 H (𝓖 .A) (givenOf 𝓤 H 𝓜 𝓖) (κs .0) (qs .0) (x .ptr .0) (x .ptr .1) (x .name) (x .now) Ps void a) (λ _ _ _. Unit {0}) (λ _ _ _ _. asks-none 𝓤) (λ fm κs qs x a _ is fits _ Post exits l₀ bs cs.
-        tests 𝓤 H (𝓖 .A) (κs .0) (qs .0) (x .ptr .0) (x .ptr .1) (x .name) (x .now) (a .0) (a .1 .0) Post _ _ l₀ bs cs (givenOf 𝓤 H 𝓜 𝓖) (is .0 .1) (fits .0) exits store (made (x .now) (a .0) (a .1 .0) (fits .1 .0))
+        → Triple 𝓤 (tables 𝓤 H 𝓜 𝓡 γ .C f) (tripleOf 𝓤 H (𝓖 .A) (Shell table Ps void .signature) (closing 𝓤 H (𝓖 .A) (Shell table Ps void) cl))
+    stores-place closed asks shown made stores =
+        proves table Ps void 𝓤 H 𝓜 𝓖 𝓡 cl γ f ls (body store) closed (λ κs qs x _. Have 𝓤 (κs .0) (qs .0) (x .ptr .0) (x .ptr .1) (x .name) (x .now) [])
+        (λ κs qs x a _. have-in 𝓤 H (𝓖 .A) (givenOf 𝓤 H 𝓜 𝓖) (κs .0) (qs .0) (x .ptr .0) (x .ptr .1) (x .name) (x .now) Ps void a) (λ _ _ _. Unit {0}) asks (λ fm κs qs x a g is fits _ Post exits l₀ bs cs.
+        tests 𝓤 H (𝓖 .A) (κs .0) (qs .0) (x .ptr .0) (x .ptr .1) (x .name) (x .now) (a .0) (a .1 .0) Post _ _ l₀ bs cs (givenOf 𝓤 H 𝓜 𝓖) (is .0 .1) (fits .0)
+        (λ l e len. exits (Have 𝓤 (κs .0) (qs .0) (x .ptr .0) (x .ptr .1) (x .name) l []) l len tt refl (shown κs x a g l e) (have-out 𝓤 H (𝓖 .A) (givenOf 𝓤 H 𝓜 𝓖) (κs .0) (qs .0) (x .ptr .0) (x .ptr .1) (x .name) (x .now) (is .0 .1) l len)) store (made (x .now) (a .0) (a .1 .0) (fits .1 .0))
         (stores (κs .0) (qs .0) (x .ptr .0) (x .ptr .1) (x .name) (x .now) (a .0) (a .1 .0) Post l₀ bs cs (fits .1 .0)))

@@ -1,7 +1,7 @@
 -- The calls of the functions over a table, each as one step of a walk.
 --     looks-up, snapshots                  the caller holds the table's memory, `row`, as it does while its borrow is open: it is lent for a lifetime of the call and comes back
 --     looks-up-shared, snapshots-shared    the caller passes its own `&[Place]` on: it holds the token of the slice's lifetime and what the slice owns (Gives.antt's `Shared`), and keeps both
---     registers, masks, restores           row ys ∷ Γ  ⟶  row of the new table ∷ Γ
+--     changes-table, of any function that is lent the table, with registers; and restores    row ys ∷ Γ  ⟶  row of the new table ∷ Γ
 use Rattle.lent_table.proofs.Walk.{_≡_, emp, drop, rewrite, fsplit, yes, refl, ℕ, _<_, _^_, [], _∷_, List, length, getD, set, URA, fullShare, w64, Val, vunit, vint, SProp, ent, sep, snd∗, exE, id⊢, GName, Lft, Share, ftrue, flft, Memory, Routine, Heap, Env, Calls, Loops, Atoms, sem, Fun, Given, Item, Seq, runs, lands, ‵, _⊛_, _$_, _∵_, !, qed, move, join, fjoin, frame, done, Opds, FmC, Is, uint-makes, u64, sliceVal, Room, row, owned, nothing, tripleOf, Contract, Triple, ensured, lasts}
 use mir.Syntax.{Name, Place as Where, Body as Code, Opd as Operand, seq, call}
 use contract.Lifetimes.{Lfts}

@@ -1,15 +1,18 @@
--- The call of a function that is lent the caller's own payload, a `&κ [u8]`, beside plain values, and returns a plain value: a copy of the slice is passed on. The same where it
+-- The call of a function that is lent the caller's own payload, a `&κ [u8]`, behind plain data, and returns plain data: a copy of the slice is passed on. The same where it
 -- is lent the device record's memory as a `&mut Device` as well, or a table's as a `&mut [Place]`. What it ensures speaks of its result z, whose machine value is v, and of what it leaves.
 --     asks-slice     token ∷ payload ∷ Γ  ⟶  token ∷ payload ∷ Γ
 --     asks-record    the record's cell ∷ token ∷ payload ∷ Γ  ⟶  its cell at y ∷ token ∷ payload ∷ Γ
 --     asks-table     the table's row ∷ token ∷ payload ∷ Γ  ⟶  the row of zs ∷ token ∷ payload ∷ Γ
 -- `wrap` puts what the callee's other parameters own around the payload.
-use Rattle.lent_table.proofs.Walk.{ℕ, [], _∷_, List, length, URA, fullShare, named, Val, ent, flent, GName, Lft, Share, Fml, ftrue, fsep, flft, Heap, Env, Calls, Loops, Atoms, sem, Given, Item, Seq, runs, lands, mean, ‵, ⋆, _⊛_, _$_, move, drop, use1, split, join, fsplit, fjoin, Opds, Body, FmC, RattleType, Is, shows, mem, cellAt, u8, sliceVal, ShrSlice, Room, shr-slice-copy, Held, row, owned, facts, nothing, spelt, Contract, Triple}
+use Rattle.lent_table.proofs.Walk.{refl, sym, ap, subst, _++_, SProp, emp, id⊢, fact, imm, tyRef, raw, qed, _∵_, !, use0, frame, done, only, owns, plain, pointee, RefT, sliceTy, slice-vals, shr-slice-tells, tripleOf, yes, ℕ, [], _∷_, List, length, URA, fullShare, named, Val, ent, flent, GName, Lft, Share, Fml, ftrue, fsep, flft, Heap, Env, Calls, Loops, Atoms, sem, Given, Item, Seq, runs, lands, mean, ‵, ⋆, _⊛_, _$_, move, drop, use1, split, join, fsplit, fjoin, Opds, Body, FmC, RattleType, Is, shows, mem, cellAt, u8, sliceVal, ShrSlice, Room, shr-slice-copy, Held, row, owned, facts, nothing, spelt, Contract, Triple}
 use mir.Syntax.{Name, Place as Where, Body as Code, Opd as Operand, seq, call}
+use contract.Lifetimes.{Lfts}
+use denote.{Signature.AllWithin, Signature.meetAt, Signature.shrSliceOf, Signature.typesAt, Triple.End.all, Triple.Clauses.Ended, Triple.Clauses.Clauses, Triple.Clauses.closing, Triple.Clauses.lasts}
 use denote.Struct.Laws as LL
 use Rattle.adapters.specs.declared.{Device.Device, Place.Place}
 use Rattle.adapters.proofs.Device as D
 use Rattle.adapters.proofs.Place as P
+use Rattle.lent_table.proofs.Plain.{Data, Param, datas, slots, Values, Fit, lows, passing}
 use Rattle.lent_table.proofs.{Rows.lends-row, Rows.row-back, Rows.lends-cell, Rows.cell-back, Gives.at-list, Gives.last-list, Gives.last-value, Gives.Lent, Gives.LentCell, Called.Told, Called.calls-told}
 
 module _ (κ : Lft) (b o : ℕ) (γ : GName) (ps : List ℕ) where
@@ -19,20 +22,57 @@ module _ (κ : Lft) (b o : ℕ) (γ : GName) (ps : List ℕ) where
   abbrev pub Payload : Fml
   Payload = ShrSlice (named 0) κ u8 .own (at-list b o γ ps) (payload ∷ [])
 
+-- the payload as a parameter, at the lifetime j of n, and behind plain data Ds
+abbrev pub bytes : (n j : ℕ) → AllWithin n (j ∷ []) → Param n
+bytes n j ok = record {
+  slot = shrSliceOf (j ∷ []) ok (plain (λ _. u8));
+  ty = sliceTy (tyRef (named j) imm (pointee (u8 .written)));
+  low = λ κs x. sliceVal (x .ptr) (length (x .now));
+  tells = λ κs. shr-slice-tells (named j) (meetAt n (j ∷ []) ok κs) u8;
+  still = λ κs. refl;
+  typed = λ 𝓤 H A W κs x g. (tt, (tt, (record { fits = g .0 .1 .0 }, tt)));
+}
+
+abbrev pub with-bytes : List Data → List (Param 1)
+with-bytes Ds = datas 1 Ds ++ bytes 1 0 tt ∷ []
+
+abbrev pub adds : (κs : Lfts 1) (Ds : List Data) → Values κs (datas 1 Ds) → RefT (List ℕ) → Values κs (with-bytes Ds)
+adds κs [] a x = (x, tt)
+adds κs (D ∷ Ds) a x = (a .0, adds κs Ds (a .1) x)
+
+-- the contract of a function from Ds and the payload to R
+module _ (Ds : List Data) (R : Data) where
+  abbrev Ended-with : Ended
+  Ended-with = record { signature = record { lifetimes = 1; outlives = []; params = slots (with-bytes Ds); result = plain (λ _. R .row) }; kept = all yes (slots (with-bytes Ds)) }
+
+  module _ {M : Type 1} (𝓤 : URA M) (req : (κs : Lfts 1) → Values κs (with-bytes Ds) → SProp 𝓤) (Said : (κs : Lfts 1) → Values κs (with-bytes Ds) → R .row .Denot → Type 0) where
+    abbrev said : Clauses 𝓤 Ended-with
+    said κs a = record { ghost = Unit {0}; requires = λ _. req κs a; ensures = λ _ r _. fact 𝓤 (Said κs a r) }
+
+    abbrev pub Asking : (H : Heap 𝓤) → Atoms 𝓤 → Contract 𝓤
+    Asking H A = tripleOf 𝓤 H A (Ended-with .signature) (closing 𝓤 H A Ended-with said)
+
+module _ {M : Type 1} (𝓤 : URA M) (H : Heap 𝓤) (A : Atoms 𝓤) (W : Given 𝓤 H A) (κs : Lfts 1) where
+  grows : (Ds : List Data) (a : Values κs (datas 1 Ds)) → Fit κs (datas 1 Ds) a → (x : RefT (List ℕ))
+      → ent 𝓤 (sem 𝓤 H A (fsep (ShrSlice (named 0) (κs .0) u8 .own x (slice-vals x)) ftrue)) (sem 𝓤 H A (owns (typesAt (slots (with-bytes Ds)) κs) (adds κs Ds a x) (lows κs (with-bytes Ds) (adds κs Ds a x))))
+  grows [] a g x = id⊢ 𝓤 _
+  grows (D ∷ Ds) a g x = qed W (‵ (fsep (ShrSlice (named 0) (κs .0) u8 .own x (slice-vals x)) ftrue) ∷ []) ∵
+      use1 W (‵ (owns (typesAt (slots (with-bytes Ds)) κs) (adds κs Ds (a .1) x) (lows κs (with-bytes Ds) (adds κs Ds (a .1) x)))) (grows Ds (a .1) (g .1) x) $ owned ! (D .row) (Is (D .row)) (D .makes 𝓤 H A W) (a .0) _ (g .0) $ fjoin ! $ done !
+
 module _ {M : Type 1} {𝓤 : URA M} {H : Heap 𝓤} {A : Atoms 𝓤} {K : Type 0} {W : Given 𝓤 H A} {Γ : List (Item 𝓤)} {E : Env 𝓤 H} {C : Calls 𝓤 H} {Λ : Loops 𝓤 H} {p : types.Kit.Post 𝓤 H} {d : Where} {rest : Code} {f : Name} {xs : List Operand} where
-  pub asks-slice : K → FmC 𝓤 H (W .laws) C → (F : Contract 𝓤) → Triple 𝓤 (C f) F → (κ : Lft) (q : Share) (b o : ℕ) (γ : GName) (ps : List ℕ) (x : F .Ghost)
-      → (wrap : Fml → Fml) → ent 𝓤 (sem 𝓤 H A (fsep (Payload κ b o γ ps) ftrue)) (sem 𝓤 H A (wrap (fsep (Payload κ b o γ ps) ftrue)))
-      → (R : RattleType) {X : Type 0} (Last : X → Fml) (Φ : R .Denot → X → Type 0)
-      → ent 𝓤 (⋆ 𝓤 H A ((‵ (flft κ q) ⊛ ‵ ftrue) ∷ ‵ (wrap (fsep (Payload κ b o γ ps) ftrue)) ∷ [])) (F .pre x)
-      → ((v : Val) → ent 𝓤 (F .post x v) (mean 𝓤 H A (Told R (‵ (flft κ q) ⊛ ‵ ftrue) Last Φ v)))
-      → ((i j : Item 𝓤) → Opds K W (i ∷ j ∷ Γ) E xs (F .args x))
-      → ((z : R .Denot) (v : Val) (w : X) → Φ z w → Is R z (v ∷ []) → Seq K W (‵ (flft κ q) ∷ ‵ (Payload κ b o γ ps) ∷ Γ) (lands C Λ E d v rest p))
+  pub asks-slice : K → FmC 𝓤 H (W .laws) C → (Ds : List Data) (R : Data) (req : (κs : Lfts 1) → Values κs (with-bytes Ds) → SProp 𝓤) (Said : (κs : Lfts 1) → Values κs (with-bytes Ds) → R .row .Denot → Type 0) → Triple 𝓤 (C f) (Asking Ds R 𝓤 req Said H A)
+      → (κ : Lft) (q : Share) (b o : ℕ) (γ : GName) (ps : List ℕ) (a : Values (κ, tt) (datas 1 Ds)) → Fit (κ, tt) (datas 1 Ds) a → ent 𝓤 (emp 𝓤) (req (κ, tt) (adds (κ, tt) Ds a (at-list b o γ ps)))
+      → ((i j : Item 𝓤) → Opds K W (i ∷ j ∷ Γ) E xs (passing (κ, tt) (with-bytes Ds) (adds (κ, tt) Ds a (at-list b o γ ps))))
+      → ((z : R .row .Denot) → Said (κ, tt) (adds (κ, tt) Ds a (at-list b o γ ps)) z → Is (R .row) z (R .low z ∷ []) → Seq K W (‵ (flft κ q) ∷ ‵ (Payload κ b o γ ps) ∷ Γ) (lands C Λ E d (R .low z) rest p))
       → Seq K W (‵ (flft κ q) ∷ ‵ (Payload κ b o γ ps) ∷ Γ) (runs C Λ E (seq (call f xs d) rest) p)
-  asks-slice t fm F known κ q b o γ ps x wrap grows R Last Φ goes told os k =
+  asks-slice t fm Ds R req Said known κ q b o γ ps a fits asked os k =
+      let all-of = adds (κ, tt) Ds a (at-list b o γ ps) in let Own = owns (typesAt (slots (with-bytes Ds)) (κ, tt)) all-of (lows (κ, tt) (with-bytes Ds) all-of) in
       move t (1 ∷ []) $ use1 W (‵ (Payload κ b o γ ps) ⊛ ‵ (Payload κ b o γ ps)) (shr-slice-copy 𝓤 H A W (named 0) κ u8 .twice (at-list b o γ ps) (payload κ b o γ ps ∷ [])) $ split t $ nothing t $ move t (1 ∷ 0 ∷ []) $ fjoin t $
       -- [the payload that is passed on; the payload; the token; Γ]
-      use1 W (‵ (wrap (fsep (Payload κ b o γ ps) ftrue))) grows $ nothing t $ move t (3 ∷ 0 ∷ []) $ join t $
-      calls-told t fm F known x R (‵ (flft κ q) ⊛ ‵ ftrue) (wrap (fsep (Payload κ b o γ ps) ftrue)) Last Φ goes told (λ i. os i _) (λ z v w φ is. split t $ move t (2 ∷ []) $ drop t $ move t (1 ∷ []) $ drop t $ k z v w φ is)
+      use1 W (‵ Own) (grows 𝓤 H A W (κ, tt) Ds a fits (at-list b o γ ps)) $ nothing t $ move t (3 ∷ 0 ∷ []) $ join t $
+      calls-told t fm (Asking Ds R 𝓤 req Said H A) known (((κ, tt), (q, tt), tt, all-of, lows (κ, tt) (with-bytes Ds) all-of), tt) (R .row) (‵ (flft κ q) ⊛ ‵ ftrue) Own (lasts (Ended-with Ds R) (κ, tt) all-of) (λ z w. Said (κ, tt) all-of z)
+      (qed W ((‵ (flft κ q) ⊛ ‵ ftrue) ∷ ‵ Own ∷ []) ∵ use0 W (raw (req (κ, tt) all-of)) asked $ move ! (1 ∷ 2 ∷ []) $ join ! $ frame ! $ done !) (λ v. id⊢ 𝓤 _) (λ i. os i _) (λ z v w φ is.
+      split t $ move t (2 ∷ []) $ drop t $ move t (1 ∷ []) $ drop t $ subst (λ (u : Val). Is (R .row) z (u ∷ []) → Seq K W (‵ (flft κ q) ∷ ‵ (Payload κ b o γ ps) ∷ Γ) (lands C Λ E d u rest p)) (sym (ap only (R .tells z (v ∷ []) is))) (k z φ) is)
 
   -- what a callee is lent beside the payload, the payload's token and what is passed on of it are put together:
   -- token of ν ∷ lent ∷ the lender's part ∷ token ∷ payload ∷ Γ  ⟶  the tokens ∷ the parameters' ∷ payload ∷ the lender's part ∷ Γ

@@ -1,18 +1,21 @@
 -- The calls of the functions over a table, each as one step of a walk.
 --     looks-up, snapshots                  the caller holds the table's memory, `row`, as it does while its borrow is open: it is lent for a lifetime of the call and comes back
 --     looks-up-shared, snapshots-shared    the caller passes its own `&[Place]` on: it holds the token of the slice's lifetime and what the slice owns (Gives.antt's `Shared`), and keeps both
---     registers, masks, clears             row ys ∷ Γ  ⟶  row of the new table ∷ Γ
+--     changes-table, of any function that is lent the table and plain data, with registers and clears    row ys ∷ Γ  ⟶  row of the new table ∷ Γ
 --     restores                             row ys ∷ cell of the image ∷ Γ  ⟶  row of the new table ∷ cell of the image ∷ Γ
-use Rattle.lent_table.proofs.Walk.{_≡_, refl, sym, ap, subst, ℕ, _<_, _≤_, _^_, Bool, [], _∷_, List, length, getD, set, URA, fullShare, w64, Val, vunit, vint, vbool, vptr, SProp, ent, sep, snd∗, exE, id⊢, GName, Lft, Share, ftrue, fsep, flft, fat, Memory, Routine, Heap, Env, Calls, Loops, Atoms, sem, Fun, Given, Item, Seq, runs, lands, ‵, _⊛_, _$_, _∵_, !, qed, move, drop, split, rewrite, fsplit, join, fjoin, frame, done, Opds, FmC, Is, shows, Boolean, bool-makes, uint-makes, u64, unit, only, finally, spelt, says, sliceVal, Room, row, owned, nothing, tripleOf, Contract, Triple, ensured, lasts}
-use mir.Syntax.{Place as Where, Body as Code, Opd as Operand, seq, call}
+use Rattle.lent_table.proofs.Walk.{_≡_, emp, drop, rewrite, fsplit, yes, refl, ℕ, _<_, _^_, [], _∷_, List, length, getD, set, URA, fullShare, w64, Val, vunit, vint, SProp, ent, sep, snd∗, exE, id⊢, GName, Lft, Share, ftrue, flft, Memory, Routine, Heap, Env, Calls, Loops, Atoms, sem, Fun, Given, Item, Seq, runs, lands, ‵, _⊛_, _$_, _∵_, !, qed, move, join, fjoin, frame, done, Opds, FmC, Is, uint-makes, u64, sliceVal, Room, row, owned, nothing, tripleOf, Contract, Triple, ensured, lasts, sym, ap, subst, _≤_, Bool, vbool, vptr, fsep, fat, split, shows, Boolean, bool-makes, unit, only, finally, spelt, says}
+use mir.Syntax.{Name, Place as Where, Body as Code, Opd as Operand, seq, call}
+use contract.Lifetimes.{Lfts}
+use denote.Triple.End.{all, lastsOf}
 use denote.Struct.Laws as LL
 use Rattle.numbers.specs.declared.AdapterId.{AdapterId}
 use Rattle.numbers.proofs.AdapterId as I
-use Rattle.adapters.specs.{declared.Place.Place, Values.unused, Values.withMasked}
+use Rattle.adapters.specs.{declared.Place.Place, Values.unused}
 use Rattle.adapters.proofs.Place as T
 use Rattle.lent_table.specs.Table.{snapTo, restored}
-use Rattle.lent_table.proofs.{Places.R, Places.low, Places.Fits, Places.FitsId, Places.makes, Places.makes-id, Images.Image, Images.imageTy, Images.low-image, Images.FitsImage, Images.SharedImage, Images.image-tells, Images.image-makes, Rows.shares-cell, Rows.cell-shared-back, Rows.lends-row, Rows.row-back, Called.calls-told, look_up.Symbol.name as #look-up, snapshot.Symbol.name as #snapshot, register.Symbol.name as #register, mask.Symbol.name as #mask, restore.Symbol.name as #restore, clear.Symbol.name as #clear}
-use Rattle.lent_table.proofs.Gives.{at-list, last-list, no-others, Gives, Shared, Lent, gives-row, gives-shared, changes-row}
+use Rattle.lent_table.proofs.{Places.adapter-id, Places.place, Slot.Changes, Rows.lends-row, Rows.row-back, Places.R, Places.low, Places.Fits, Places.FitsId, Images.Image, Images.low-image, Images.FitsImage, Images.image-tells, Images.image-makes, look_up.Symbol.name as #look-up, snapshot.Symbol.name as #snapshot, register.Symbol.name as #register, restore.Symbol.name as #restore, Places.makes, Places.makes-id, Images.imageTy, Images.SharedImage, Rows.shares-cell, Rows.cell-shared-back, Called.calls-told, mask.Symbol.name as #mask, clear.Symbol.name as #clear}
+use Rattle.lent_table.proofs.Gives.{last-list, changes-of, at-list, no-others, Gives, Shared, Lent, gives-row, gives-shared, changes-row}
+use Rattle.lent_table.proofs.Plain.{Data, datas, slots, Values, Fit, lows, passing, goes-lent}
 use Rattle.lent_table.proofs.look_up as look-up
 use Rattle.lent_table.proofs.snapshot as snapshot
 use Rattle.lent_table.proofs.register as register
@@ -50,9 +53,7 @@ module _ {M : Type 1} (𝓤 : URA M) (H : Heap 𝓤) (A : Atoms 𝓤) (mem′ : 
       to-look id = (((κ, tt), (q, tt), tt, (at-list b o γ ys, (id, tt)), (s ∷ [], (I.Laws.lowered id ∷ [], tt))), tt)
 
       goes-look : (id : AdapterId) → FitsId id → ent 𝓤 (sep 𝓤 (A .lft κ q) (sem 𝓤 H A (Shared R ys b o κ γ))) (LookUp .pre (to-look id))
-      goes-look id g =
-          qed W (‵ (flft κ q) ∷ ‵ (Shared R ys b o κ γ) ∷ []) ∵ nothing ! $ move ! (1 ∷ 0 ∷ []) $ join ! $
-          nothing ! $ owned ! I.the-row (Is I.the-row) (makes-id 𝓤 H A W) id _ g $ fjoin ! $ move ! (2 ∷ 0 ∷ []) $ fjoin ! $ move ! (1 ∷ 0 ∷ []) $ join ! $ frame ! $ done !
+      goes-look id g = goes-lent 𝓤 H A W κ q (Shared R ys b o κ γ) (adapter-id ∷ []) (id, tt) (g, tt) (emp 𝓤) (id⊢ 𝓤 (emp 𝓤))
 
       looked : (id : AdapterId) → Gives 𝓤 H A LookUp (to-look id) (‵ (flft κ q) ⊛ ‵ ftrue) R (LL.vals T.the-type T.Laws.the-laws) (getD ys (id .0) unused)
       looked id =
@@ -77,28 +78,6 @@ module _ {M : Type 1} (𝓤 : URA M) (H : Heap 𝓤) (A : Atoms 𝓤) (mem′ : 
             shape = λ w. id⊢ 𝓤 _;
             told = λ r. exE 𝓤 _ (λ ws. snd∗ 𝓤 (sem 𝓤 H A (lasts snapshot.ended (κ, tt) (at-list b o γ ys, tt) ws)) _);
           }
-
-      abbrev to-register : AdapterId → Place → Register .Ghost
-      to-register id a = (((κ, tt), (q, tt), tt, (at-list b o γ ys, (id, (a, tt))), (s ∷ [], (I.Laws.lowered id ∷ [], (T.Laws.lowered a ∷ [], tt)))), tt)
-
-      goes-register : (id : AdapterId) (a : Place) → FitsId id → Fits a → ent 𝓤 (sep 𝓤 (A .lft κ q) (sem 𝓤 H A (Lent R ys b o κ γ))) (Register .pre (to-register id a))
-      goes-register id a g ga =
-          qed W (‵ (flft κ q) ∷ ‵ (Lent R ys b o κ γ) ∷ []) ∵ nothing ! $ move ! (1 ∷ 0 ∷ []) $ join ! $
-          nothing ! $ owned ! R (Is R) (makes 𝓤 H A W) a _ ga $ fjoin ! $ owned ! I.the-row (Is I.the-row) (makes-id 𝓤 H A W) id _ g $ fjoin ! $ move ! (2 ∷ 0 ∷ []) $ fjoin ! $ move ! (1 ∷ 0 ∷ []) $ join ! $ frame ! $ done !
-
-      abbrev to-mask : AdapterId → Bool → Mask .Ghost
-      to-mask id a = (((κ, tt), (q, tt), tt, (at-list b o γ ys, (id, (a, tt))), (s ∷ [], (I.Laws.lowered id ∷ [], (vbool a ∷ [], tt)))), tt)
-
-      goes-mask : (id : AdapterId) (a : Bool) → FitsId id → ent 𝓤 (sep 𝓤 (A .lft κ q) (sem 𝓤 H A (Lent R ys b o κ γ))) (Mask .pre (to-mask id a))
-      goes-mask id a g =
-          qed W (‵ (flft κ q) ∷ ‵ (Lent R ys b o κ γ) ∷ []) ∵ nothing ! $ move ! (1 ∷ 0 ∷ []) $ join ! $
-          nothing ! $ owned ! Boolean (Is Boolean) (bool-makes 𝓤 H A W) a _ refl $ fjoin ! $ owned ! I.the-row (Is I.the-row) (makes-id 𝓤 H A W) id _ g $ fjoin ! $ move ! (2 ∷ 0 ∷ []) $ fjoin ! $ move ! (1 ∷ 0 ∷ []) $ join ! $ frame ! $ done !
-
-      abbrev to-clear : Clear .Ghost
-      to-clear = (((κ, tt), (q, tt), tt, (at-list b o γ ys, tt), (s ∷ [], tt)), tt)
-
-      goes-clear : ent 𝓤 (sep 𝓤 (A .lft κ q) (sem 𝓤 H A (Lent R ys b o κ γ))) (Clear .pre to-clear)
-      goes-clear = qed W (‵ (flft κ q) ∷ ‵ (Lent R ys b o κ γ) ∷ []) ∵ nothing ! $ move ! (1 ∷ 0 ∷ []) $ join ! $ nothing ! $ move ! (2 ∷ 0 ∷ []) $ fjoin ! $ move ! (1 ∷ 0 ∷ []) $ join ! $ frame ! $ done !
 
 module _ {M : Type 1} {𝓤 : URA M} {H : Heap 𝓤} {A : Atoms 𝓤} {K : Type 0} {W : Given 𝓤 H A} {Γ : List (Item 𝓤)} {E : Env 𝓤 H} {C : Calls 𝓤 H} {Λ : Loops 𝓤 H} {p : types.Kit.Post 𝓤 H} {d : Where} {rest : Code} {xs : List Operand} where
   pub looks-up : K → (mem′ : Memory → SProp 𝓤) (run : Routine → Fun 𝓤) → FmC 𝓤 H (W .laws) C → Triple 𝓤 (C #look-up) (LookUp 𝓤 H A mem′ run)
@@ -127,31 +106,31 @@ module _ {M : Type 1} {𝓤 : URA M} {H : Heap 𝓤} {A : Atoms 𝓤} {K : Type 
   snapshots-shared t mem′ run fm known ys b o κ q γ os k =
       gives-shared R ys b o t fm (Snapshot 𝓤 H A mem′ run) known κ q γ (to-snap 𝓤 H A mem′ run W b o ys κ q γ) (goes-snap 𝓤 H A mem′ run W b o ys κ q γ) Image (λ l. low-image l ∷ []) (snapTo ys imageSize) (snapped 𝓤 H A mem′ run W b o ys κ q γ) os k
 
+  -- a function that is lent the table and plain data, and leaves the table at zs
+  pub changes-table : {f : Name} → K → FmC 𝓤 H (W .laws) C → (Ds : List Data) (new : (κs : Lfts 1) → List Place → Values κs (datas 1 Ds) → List Place) → Triple 𝓤 (C f) (Changes Ds new 𝓤 H A)
+      → (ys : List Place) (b o : ℕ) → Room R (length ys) → (a : (κs : Lfts 1) → Values κs (datas 1 Ds)) → ((κs : Lfts 1) → Fit κs (datas 1 Ds) (a κs)) → (zs : List Place) → ((κs : Lfts 1) → new κs ys (a κs) ≡ zs)
+      → ((κs : Lfts 1) (i j : Item 𝓤) → Opds K W (i ∷ j ∷ Γ) E xs (sliceVal (b, o) (length ys) ∷ passing κs (datas 1 Ds) (a κs)))
+      → Seq K W (‵ (row R fullShare zs b o) ∷ Γ) (lands C Λ E d vunit rest p) → Seq K W (‵ (row R fullShare ys b o) ∷ Γ) (runs C Λ E (seq (call f xs d) rest) p)
+  changes-table t fm Ds new known ys b o room a fits zs is os k = lends-row t tt R ys b o room (λ ν δ. join t $
+      changes-of t fm (Changes Ds new 𝓤 H A) known (((ν ∷ [], tt), (fullShare, tt), tt, (at-list b o δ ys, a (ν ∷ [], tt)), (sliceVal (b, o) (length ys) ∷ [], lows (ν ∷ [], tt) (datas 1 Ds) (a (ν ∷ [], tt)))), tt)
+      (‵ (flft (ν ∷ []) fullShare) ⊛ ‵ (Lent R ys b o (ν ∷ []) δ)) (goes-lent 𝓤 H A W (ν ∷ []) fullShare (Lent R ys b o (ν ∷ []) δ) Ds (a (ν ∷ [], tt)) (fits (ν ∷ [], tt)) (emp 𝓤) (id⊢ 𝓤 (emp 𝓤)))
+      ν (last-list R δ (length ys)) (lastsOf (ν ∷ [], tt) (slots (datas 1 Ds)) (all yes (slots (datas 1 Ds))) (a (ν ∷ [], tt))) (new (ν ∷ [], tt) ys (a (ν ∷ [], tt))) (λ w. id⊢ 𝓤 _) (os (ν ∷ [], tt) _ _)
+      (rewrite t 1 (λ (l : List Place). ‵ (last-list R δ (length ys) l)) (is (ν ∷ [], tt)) refl $ move t (1 ∷ []) $ fsplit t $ move t (1 ∷ []) $ drop t $ move t (1 ∷ 2 ∷ 0 ∷ []) $ row-back t tt R (length ys) b o ν δ zs $ k))
+
   pub registers : K → (mem′ : Memory → SProp 𝓤) (run : Routine → Fun 𝓤) → FmC 𝓤 H (W .laws) C → Triple 𝓤 (C #register) (Register 𝓤 H A mem′ run)
       → (ys : List Place) (id : AdapterId) (a : Place) (b o : ℕ) → Room R (length ys) → FitsId id → Fits a
       → ((i j : Item 𝓤) → Opds K W (i ∷ j ∷ Γ) E xs (sliceVal (b, o) (length ys) ∷ I.Laws.lowered id ∷ low a ∷ []))
       → Seq K W (‵ (row R fullShare (set ys (id .0) a) b o) ∷ Γ) (lands C Λ E d vunit rest p)
       → Seq K W (‵ (row R fullShare ys b o) ∷ Γ) (runs C Λ E (seq (call #register xs d) rest) p)
-  registers t mem′ run fm known ys id a b o room g ga os k =
-      changes-row R ys b o t fm (Register 𝓤 H A mem′ run) known room (λ ν δ. to-register 𝓤 H A mem′ run W b o ys (ν ∷ []) fullShare δ id a) (λ ν δ. goes-register 𝓤 H A mem′ run W b o ys (ν ∷ []) fullShare δ id a g ga)
-      (set ys (id .0) a) no-others (λ ν δ w. id⊢ 𝓤 _) (λ ν δ. os) k
-
-  pub masks : K → (mem′ : Memory → SProp 𝓤) (run : Routine → Fun 𝓤) → FmC 𝓤 H (W .laws) C → Triple 𝓤 (C #mask) (Mask 𝓤 H A mem′ run)
-      → (ys : List Place) (id : AdapterId) (a : Bool) (b o : ℕ) → Room R (length ys) → FitsId id
-      → ((i j : Item 𝓤) → Opds K W (i ∷ j ∷ Γ) E xs (sliceVal (b, o) (length ys) ∷ I.Laws.lowered id ∷ vbool a ∷ []))
-      → Seq K W (‵ (row R fullShare (set ys (id .0) (withMasked a (getD ys (id .0) unused))) b o) ∷ Γ) (lands C Λ E d vunit rest p)
-      → Seq K W (‵ (row R fullShare ys b o) ∷ Γ) (runs C Λ E (seq (call #mask xs d) rest) p)
-  masks t mem′ run fm known ys id a b o room g os k =
-      changes-row R ys b o t fm (Mask 𝓤 H A mem′ run) known room (λ ν δ. to-mask 𝓤 H A mem′ run W b o ys (ν ∷ []) fullShare δ id a) (λ ν δ. goes-mask 𝓤 H A mem′ run W b o ys (ν ∷ []) fullShare δ id a g)
-      (set ys (id .0) (withMasked a (getD ys (id .0) unused))) no-others (λ ν δ w. id⊢ 𝓤 _) (λ ν δ. os) k
+  registers t mem′ run fm known ys id a b o room g ga os =
+      changes-table t fm (adapter-id ∷ place ∷ []) (λ _ l x. set l (x .0 .0) (x .1 .0)) known ys b o room (λ _. (id, (a, tt))) (λ _. (g, (ga, tt))) (set ys (id .0) a) (λ _. refl) (λ _. os)
 
   pub clears : K → (mem′ : Memory → SProp 𝓤) (run : Routine → Fun 𝓤) → FmC 𝓤 H (W .laws) C → Triple 𝓤 (C #clear) (Clear 𝓤 H A mem′ run) → (ys : List Place) (b o : ℕ) → Room R (length ys)
       → ((i j : Item 𝓤) → Opds K W (i ∷ j ∷ Γ) E xs (sliceVal (b, o) (length ys) ∷ []))
       → Seq K W (‵ (row R fullShare (restored ys (replicate imageSize 0) imageSize) b o) ∷ Γ) (lands C Λ E d vunit rest p)
       → Seq K W (‵ (row R fullShare ys b o) ∷ Γ) (runs C Λ E (seq (call #clear xs d) rest) p)
-  clears t mem′ run fm known ys b o room os k =
-      changes-row R ys b o t fm (Clear 𝓤 H A mem′ run) known room (λ ν δ. to-clear 𝓤 H A mem′ run W b o ys (ν ∷ []) fullShare δ) (λ ν δ. goes-clear 𝓤 H A mem′ run W b o ys (ν ∷ []) fullShare δ)
-      (restored ys (replicate imageSize 0) imageSize) {Z = Unit {0}} (λ z. ftrue) (λ ν δ w. id⊢ 𝓤 _) (λ ν δ. os) k
+  clears t mem′ run fm known ys b o room os =
+      changes-table t fm [] (λ _ l x. restored l (replicate imageSize 0) imageSize) known ys b o room (λ _. tt) (λ _. tt) (restored ys (replicate imageSize 0) imageSize) (λ _. refl) (λ _. os)
 
   -- the image is a local of the caller's
   pub restores : K → (mem′ : Memory → SProp 𝓤) (run : Routine → Fun 𝓤) → FmC 𝓤 H (W .laws) C → Triple 𝓤 (C #restore) (Restore 𝓤 H A mem′ run)

@@ -18,17 +18,21 @@ Nearer-wf n X = InvImage·wf (λ (i : Upto n X). n - i .0) (Nat·lt-wfRel .wf)
 pub fits-upto : {i n : ℕ} → i ≤ n → n < 2 ^ 64 → i < 2 ^ 64
 fits-upto h l = omega arith
 
+-- the two parts of a sequence, and the two arms of a test
+abbrev halves : Code → Code × Code
+halves skip = (skip, skip)
+halves (seq a b) = (a, b)
+halves (assign p r) = (skip, skip)
+halves (block b) = (skip, skip)
+halves (loop b) = (skip, skip)
+halves (cond c a b) = (a, b)
+halves (switch c a) = (skip, skip)
+halves (exit n) = (skip, skip)
+halves return = (skip, skip)
+halves (call f xs d) = (skip, skip)
+
 abbrev pub after : Code → Code
-after skip = skip
-after (seq a b) = b
-after (assign p r) = skip
-after (block b) = skip
-after (loop b) = skip
-after (cond c a b) = skip
-after (switch c a) = skip
-after (exit n) = skip
-after return = skip
-after (call f xs d) = skip
+after b = halves b .1
 
 -- what follows n parts
 abbrev pub afters : ℕ → Code → Code
@@ -37,13 +41,4 @@ afters (suc n) b = afters n (after b)
 
 -- the first arm of a test
 abbrev pub taken : Code → Code
-taken skip = skip
-taken (seq a b) = skip
-taken (assign p r) = skip
-taken (block b) = skip
-taken (loop b) = skip
-taken (cond c a b) = a
-taken (switch c a) = skip
-taken (exit n) = skip
-taken return = skip
-taken (call f xs d) = skip
+taken b = halves b .0

@@ -33,13 +33,7 @@ last-list R δ n l = fsep (finally R δ l) (feq ℕ (length l) n)
 abbrev pub last-value : (R : RattleType) → GName → R .Denot → Fml
 last-value R δ x = fres δ (R .coded .code x)
 
--- one parameter, and two, that a callee cannot change leave nothing
-abbrev One : Type 0
-One = Unit {0} × Unit {0}
-
-abbrev pub no-other : One → Fml
-no-other z = fsep ftrue ftrue
-
+-- two parameters that a callee cannot change leave nothing
 abbrev Two : Type 0
 Two = Unit {0} × (Unit {0} × Unit {0})
 
@@ -65,7 +59,7 @@ module _ {M : Type 1} {𝓤 : URA M} {H : Heap 𝓤} {A : Atoms 𝓤} {K : Type 
       → Seq K W Γ (runs C Λ E (seq (call f xs d) rest) p)
   gives t fm c known x goes T vals y g os k = nothing t $ gives-of t fm c known x (‵ ftrue) (‵ ftrue) goes T vals y g (os _) (λ is. drop t $ k is)
 
-  changes-of : K → FmC 𝓤 H (W .laws) C → (c : Contract 𝓤) → Triple 𝓤 (C f) c → (x : c .Ghost) (I : Item 𝓤) → ent 𝓤 (mean 𝓤 H A I) (c .pre x)
+  pub changes-of : K → FmC 𝓤 H (W .laws) C → (c : Contract 𝓤) → Triple 𝓤 (C f) c → (x : c .Ghost) (I : Item 𝓤) → ent 𝓤 (mean 𝓤 H A I) (c .pre x)
       → (ν : ℕ) {X Z : Type 0} (last : X → Fml) (others : Z → Fml) (y : X) → ((w : Val) → ent 𝓤 (c .post x w) (mean 𝓤 H A (Leaves ν last others y w))) → Opds K W (raw (c .pre x) ∷ Γ) E xs (c .args x)
       → Seq K W (‵ (flft (ν ∷ []) fullShare) ∷ ‵ (last y) ∷ Γ) (lands C Λ E d vunit rest p)
       → Seq K W (I ∷ Γ) (runs C Λ E (seq (call f xs d) rest) p)

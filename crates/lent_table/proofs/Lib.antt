@@ -7,6 +7,8 @@ pub mod Gives
 pub mod Called
 pub mod Locals
 pub mod Count
+pub mod Plain
+pub mod Shell
 pub mod Modes
 pub mod Record
 pub mod Tables

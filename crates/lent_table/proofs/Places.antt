@@ -8,8 +8,10 @@ use denote.Laws.{Makes}
 use denote.Struct.Laws as LL
 use Rattle.numbers.specs.declared.AdapterId.{AdapterId}
 use Rattle.numbers.proofs.AdapterId as I
+use Rattle.numbers.proofs.Subclass as S
 use Rattle.adapters.specs.declared.Place.{Place}
 use Rattle.adapters.proofs.Place as P
+use Rattle.lent_table.proofs.Plain.{Data, struct}
 
 -- the cell of a local, which holds v, or nothing yet, in front of Γ
 abbrev pub filled : {M : Type 1} {𝓤 : URA M} → Ty → ℕ → Val → List (Item 𝓤) → List (Item 𝓤)
@@ -17,6 +19,16 @@ filled τ l v Γ = ‵ (fat fullShare τ l 0 v) ∷ ‵ (fdies τ l) ∷ Γ
 
 abbrev pub empty : {M : Type 1} {𝓤 : URA M} → Ty → ℕ → List (Item 𝓤) → List (Item 𝓤)
 empty τ l Γ = ‵ (froom τ l 0) ∷ ‵ (fdies τ l) ∷ Γ
+
+-- a place, an id and a subclass as plain data
+abbrev pub place : Data
+place = struct P.the-type P.Laws.the-laws P.Laws.the-plain refl
+
+abbrev pub adapter-id : Data
+adapter-id = struct I.the-type I.Laws.the-laws I.Laws.the-plain refl
+
+abbrev pub subclass : Data
+subclass = struct S.the-type S.Laws.the-laws S.Laws.the-plain refl
 
 -- the type of a place, a place's machine value, and that it is one
 abbrev pub R : RattleType

@@ -1,62 +1,14 @@
--- `set_masks`: both masks, by `lent_table::masks_set`.
-use Rattle.lent_table.proofs.Walk.{_≡_, refl, ℕ, _<_, _^_, [], _∷_, List, URA, named, w8, tyInt, Val, vunit, vint, vptr, SProp, ent, emp, via, fst∗, id⊢, GName, Lft, Share, ftrue, fsep, flft, Memory, Routine, Heap, Calls, Loops, WpFn, Atoms, Fun, givenOf, tablesOf, Given, ‵, ⋆, _⊛_, _$_, _∵_, !, qed, move, keep, drop, split, join, fsplit, fsplit3, fjoin, fjoin3, feqI, suffices, frame, done, look, init, stop, from, load, and-then, no-more, enter, alloc1, alloc0, params1, pass1, pass0, FmC, owns, Is, uint-vals, uint-tells, uint-makes, u8, RefT, MutRef, ptr-vals, mut-tells, plain, owned, nothing, onEntry, tripleOf, Contract, Triple, cited, says, Stays, stay-ref, stay-dropped, walkOf, goes-ref, goes-dropped, ends-at, yes}
-use Rattle.lent_table.proofs.{Ends.concludes, Modes.FitsDevice, Modes.Had, Modes.changes}
-use denote.Struct.Laws as LL
-use Rattle.adapters.specs.declared.Device.{Device}
-use Rattle.adapters.proofs.Device as D
+-- `set_masks`: both masks, by `adapters::masks_set`.
+use Rattle.lent_table.proofs.Walk.{_≡_, refl, [], _∷_, w8, emp, id⊢, tablesOf, look, stop, from, load, and-then, no-more, cited}
+use contract.Monad.{factI}
 use Rattle.adapters.proofs.masks_set as by-value
+use Rattle.lent_table.proofs.{Plain.number, Plain.asks-none, Modes.device, Modes.sets-record}
 use Rattle.lent_table.proofs.set_masks as f
-
-abbrev stayed : Stays (f.ended .signature .params) (f.ended .kept)
-stayed = (stay-ref (0 ∷ []) tt (plain (λ _. D.the-row)), (stay-dropped (plain (λ _. u8)) yes, (stay-dropped (plain (λ _. u8)) yes, tt)))
-
-module _ {M : Type 1} (𝓤 : URA M) (H : Heap 𝓤) (A : Atoms 𝓤) (mem : Memory → SProp 𝓤) (run : Routine → Fun 𝓤) where
-  abbrev ByValue : Contract 𝓤
-  ByValue = tripleOf 𝓤 H A by-value.signature (by-value.spec 𝓤 H A mem run)
-
-module _ {M : Type 1} (𝓤 : URA M) (H : Heap 𝓤) (A : Atoms 𝓤) (W : Given 𝓤 H A) (mem : Memory → SProp 𝓤) (run : Routine → Fun 𝓤)
-    (κ : Lft) (q : Share) (b o : ℕ) (γ : GName) (h : Device) (simm : ℕ) (nimm : ℕ) (fits-simm : simm < 2 ^ 8) (fits-nimm : nimm < 2 ^ 8) where
-  abbrev x : RefT Device × (ℕ × (ℕ × Unit {0}))
-  x = (record { ptr = (b, o); name = γ; now = h }, (simm, (nimm, tt)))
-
-  abbrev at : List Val × (List Val × (List Val × Unit {0}))
-  at = (vptr b o ∷ [], (vint w8 simm ∷ [], (vint w8 nimm ∷ [], tt)))
-
-  abbrev bound : walkOf 𝓤 H A f.ended stayed (f.clauses 𝓤 H A mem run) .Ghost
-  bound = (((κ, tt), (q, tt), tt, x, at), tt)
-
-  abbrev Post : Val → SProp 𝓤
-  Post = walkOf 𝓤 H A f.ended stayed (f.clauses 𝓤 H A mem run) .post bound
-
-  abbrev Said : Device → Type 0
-  Said z = z ≡ record { simm = simm; nimm = nimm; apf = h .apf }
-
-  exits : (z : Device) → Said z → ent 𝓤 (⋆ 𝓤 H A (Had κ q b o γ z [])) (Post vunit)
-  exits z e =
-      qed W (Had κ q b o γ z []) ∵ suffices ! _ (ends-at 𝓤 H A f.ended stayed (f.clauses 𝓤 H A mem run) W bound vunit tt (z, (tt, (tt, tt))) (tt, (tt, (tt, tt)))) $ says ! e $
-      nothing ! $ move ! (3 ∷ 0 ∷ []) $ join ! $ frame ! $ feqI ! (List Val) (vptr b o ∷ []) (vptr b o ∷ []) refl $ fjoin3 ! $ nothing ! $ nothing ! $ fjoin ! $ nothing ! $ fjoin ! $ move ! (1 ∷ 0 ∷ []) $ fjoin ! $
-      feqI ! (List Val) (vunit ∷ []) (vunit ∷ []) refl $ move ! (1 ∷ 0 ∷ []) $ done !
-
-  abbrev to-value : ByValue 𝓤 H A mem run .Ghost
-  to-value = ((tt, tt, tt, (h, (simm, (nimm, tt))), (D.Laws.lowered h ∷ [], (vint w8 simm ∷ [], (vint w8 nimm ∷ [], tt)))), tt)
-
-  goes : FitsDevice h → ent 𝓤 (emp 𝓤) (ByValue 𝓤 H A mem run .pre to-value)
-  goes g = qed W [] ∵ nothing ! $ owned ! u8 (Is u8) (uint-makes 𝓤 H A W w8) nimm _ (refl, fits-nimm) $ fjoin ! $ owned ! u8 (Is u8) (uint-makes 𝓤 H A W w8) simm _ (refl, fits-simm) $ fjoin ! $ owned ! D.the-row (Is D.the-row) (LL.makes D.the-type D.Laws.the-plain 𝓤 H A) h _ g $ fjoin ! $ nothing ! $ join ! $ frame ! $ done !
-
-  walk : (C : Calls 𝓤 H) (Λ : Loops 𝓤 H) → FmC 𝓤 H (W .laws) C → Triple 𝓤 (C by-value.Symbol.name) (ByValue 𝓤 H A mem run)
-      → ent 𝓤 (onEntry 𝓤 H A f.signature (κ, tt) (q, tt) x at) (WpFn 𝓤 H C Λ f.Code.function (vptr b o ∷ vint w8 simm ∷ vint w8 nimm ∷ []) Post)
-  walk C Λ fm known =
-      qed W ((‵ (flft κ q) ⊛ ‵ ftrue) ∷ ‵ (owns (MutRef (named 0) κ D.the-row ∷ u8 ∷ u8 ∷ []) x at) ∷ []) ∵ split ! $ move ! (2 ∷ []) $ fsplit ! $ fsplit3 ! $ drop ! $ keep ! (0 ∷ 1 ∷ 3 ∷ []) $
-      enter ! C Λ f.Code.function (vptr b o ∷ vint w8 simm ∷ vint w8 nimm ∷ []) _ $ alloc1 ! (λ l₀. alloc1 ! (λ l₁. alloc1 ! (λ l₂. alloc1 ! (λ l₃. alloc1 ! (λ l₄. alloc1 ! (λ l₅. alloc0 ! $ params1 ! $
-      pass1 ! (init ! 8 refl (tt, tt)) $ pass1 ! (init ! 6 refl (tt, record { fits = fits-simm })) $ pass1 ! (init ! 4 refl (tt, record { fits = fits-nimm })) $ pass0 ! $
-      keep ! (12 ∷ 13 ∷ 14 ∷ 10 ∷ 11 ∷ 8 ∷ 9 ∷ 6 ∷ 7 ∷ 4 ∷ 5 ∷ 2 ∷ 3 ∷ 0 ∷ 1 ∷ []) $
-      changes 𝓤 H A W κ q b o γ h (tyInt w8) (tyInt w8) (vint w8 simm) (vint w8 nimm) Post C Λ fm l₀ l₁ l₂ l₃ l₄ l₅ by-value.Symbol.name _ (ByValue 𝓤 H A mem run) known to-value goes
-      {X = Unit {0} × (Unit {0} × (Unit {0} × Unit {0}))} (λ w. fsep ftrue (fsep ftrue (fsep ftrue ftrue))) (λ z w. z ≡ record { simm = simm; nimm = nimm; apf = h .apf }) (λ v. id⊢ 𝓤 _) (λ K t i₀ i₁ i₂ i₃ i₄ i₅. (and-then t (load t (from t (stop t)) (look t 16 refl)) (and-then t (load t (from t (stop t)) (look t 10 refl)) (and-then t (load t (from t (stop t)) (look t 12 refl)) (no-more t))))) (λ z w e g. exits z e)))))))
 
 pub set-masks-spec : {M : Type 1} → f.Statement.statement M
 unfolding f.Code.routine tablesOf
 set-masks-spec 𝓤 H 𝓜 𝓖 𝓡 =
-    concludes 𝓤 H 𝓜 𝓖 𝓡 f.ended stayed (f.clauses 𝓤 H (𝓖 .A) (𝓜 .mem) (𝓡 .run)) f.Code.env f.Key.name f.Code.function (f.Code.unfolded 𝓤 H 𝓜 𝓡)
-    (goes-ref 𝓤 H (𝓖 .A) (givenOf 𝓤 H 𝓜 𝓖) 1 0 tt (plain (λ _. D.the-row)), (goes-dropped 𝓤 H (𝓖 .A) (givenOf 𝓤 H 𝓜 𝓖) 1 (plain (λ _. u8)) yes (λ κs x f. refl), (goes-dropped 𝓤 H (𝓖 .A) (givenOf 𝓤 H 𝓜 𝓖) 1 (plain (λ _. u8)) yes (λ κs x f. refl), tt)))
-    (λ κs. (ptr-vals, (uint-vals w8, (uint-vals w8, tt)))) (λ κs. (mut-tells (named 0) (κs .0) D.the-row, (uint-tells w8, (uint-tells w8, tt))))
-    (λ fm κs qs bounds a _ are. via 𝓤 _ (fst∗ 𝓤 _ (emp 𝓤)) (walk 𝓤 H (𝓖 .A) (givenOf 𝓤 H 𝓜 𝓖) (𝓜 .mem) (𝓡 .run) (κs .0) (qs .0) (a .0 .ptr .0) (a .0 .ptr .1) (a .0 .name) (a .0 .now) (a .1 .0) (a .1 .1 .0) (are .1 .0 .1) (are .1 .1 .0 .1) _ _ fm (cited 𝓤 H (ByValue 𝓤 H (𝓖 .A) (𝓜 .mem) (𝓡 .run)) 𝓜 𝓡 f.Code.env by-value.Symbol.name by-value.Symbol.routine f.Code.calls-adapters·masks-set (by-value.Met.met 𝓤 H 𝓜 𝓖 𝓡))))
+    sets-record (number w8 ∷ number w8 ∷ []) 𝓤 H 𝓜 𝓖 𝓡 (f.clauses 𝓤 H (𝓖 .A) (𝓜 .mem) (𝓡 .run)) (λ _ a. Unit {0}) (λ _ _ a _. asks-none 𝓤)
+    f.Code.env f.Key.name by-value.Symbol.name _ (device ∷ number w8 ∷ number w8 ∷ []) (λ c. emp 𝓤) (λ c z. z ≡ record { simm = c .1 .0; nimm = c .1 .1 .0; apf = c .0 .apf }) (λ _ h a. (h, a)) (f.Code.unfolded 𝓤 H 𝓜 𝓡)
+    (cited 𝓤 H _ 𝓜 𝓡 f.Code.env by-value.Symbol.name by-value.Symbol.routine f.Code.calls-adapters·masks-set (by-value.Met.met 𝓤 H 𝓜 𝓖 𝓡)) (λ _ h a are g. (g, are)) (λ _ h a _. id⊢ 𝓤 (emp 𝓤)) (λ _ x a _ z e. factI 𝓤 _ (emp 𝓤) e)
+    (λ κs b o h a l₀ bs cs K t i₀ i₁ i₂ i₃ i₄ i₅. and-then t (load t (from t (stop t)) (look t 8 refl)) (and-then t (load t (from t (stop t)) (look t 14 refl)) (and-then t (load t (from t (stop t)) (look t 16 refl)) (no-more t))))

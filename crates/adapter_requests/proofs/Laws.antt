@@ -1,73 +1,13 @@
--- A reply from the outcome that it tells, and what each request comes to once its checks are known.
-use Rattle.numbers.proofs.Basics.{leb, lt-leb, _<_, ℕ, zero, suc, _≤_, _≡_, refl, ap, sym, _∙_, subst, Bool, true, false}
+-- What each request comes to once its checks are known.
+use Rattle.numbers.proofs.Basics.{leb, lt-leb, _<_, ℕ, zero, suc, _≤_, _≡_, refl, ap, sym, _∙_, Bool, true, false}
 use Rattle.numbers.proofs.Basics.{true≢false, List, [], _∷_, arith, length, getD, set, drop, eqb, eq-eqb, ne-eqb}
-use Rattle.numbers.proofs.Basics.{eqb-true, eqb-false, le-leb, ltb, lt-ltb, le-ltb}
+use Rattle.numbers.proofs.Basics.{eqb-true, le-leb, ltb, lt-ltb, le-ltb}
 use lib.Seq.{set-getD}
-use Rattle.rules.specs.{Bytes.choose, Bytes.byte, Bytes.field, Requests.setRequest, Requests.noRequest, Requests.withMask, State.Limits, State.Pending, State.State, Outcome.Outcome, Outcome.refuse, Outcome.accept, Outcome.need_else_⨾_}
+use Rattle.rules.specs.{Bytes.choose, Bytes.byte, Bytes.field, Requests.setRequest, Requests.noRequest, Requests.withMask, State.Limits, State.State, Outcome.Outcome, Outcome.refuse, Outcome.accept, Outcome.need_else_⨾_}
 use Rattle.rules.proofs.Checks.{passes, fails, chosen, passed}
 use Rattle.rules.specs.State as rules
-use Rattle.adapters.specs.{declared.Device.Device, declared.Place.Place, Values.placeOf, Values.deviceOf, Values.Canonical, Values.maskedAs, Values.modeSet}
-use Rattle.answers.specs.{declared.Answer.Answer, Answers.answered}
-use Rattle.answers.proofs.Laws.{refused-as, accepted as tells}
-use Rattle.adapter_requests.specs.declared.Reply.{Reply}
-use Rattle.adapter_requests.specs.States.{payloadId, onPlace, aboutOf, decided, withPlace, modesAfter, stateWith, Replied, Change, keeps, masks, enters, Within, changeOf}
-
--- the state that the values stand for is the state itself
-as-it-was : (s : State) (id : ℕ) (device : Device) (place : Place) (p : Pending) → s .device ≡ deviceOf device → getD (s .adapters) id rules.free ≡ placeOf place
-    → s .pending ≡ p → s ≡ stateWith s id (placeOf place) p (deviceOf device)
-as-it-was s id device place p d e q =
-    λ i. record {
-      ais = s .ais;
-      adapters = (sym (set-getD (s .adapters) id rules.free) ∙ ap (set (s .adapters) id) e) i;
-      pending = q i;
-      device = d i;
-    }
-
--- a place that did not change
-pub within-same : (change : Change) (place : Place) → Within change place place
-within-same keeps place = refl
-within-same masks place = refl
-within-same enters place = tt
-
-module _ (places room : ℕ) (ais : Bool) (device : Device) (place : Place) (id : ℕ) (b : List ℕ) (o : Limits → State → Outcome State) where
-  -- for every state that the values stand for
-  abbrev pub Gives : (Limits → State → Outcome State) → Type 0
-  Gives f = (L : Limits) (s : State) → L .places ≡ places → s .ais ≡ ais → s .device ≡ deviceOf device → getD (s .adapters) id rules.free ≡ placeOf place
-      → o L s ≡ f L s
-
-  -- from what the calls that make a reply ensure
-  pub refused : (code : ℕ) {change : Change} {a : Answer} {r : Reply} → a ≡ answered code 0 → r ≡ record { answer = a; device = device; place = place }
-      → Gives (λ L s. refuse code) → Replied places room ais device place id b o change r
-  refused code {change} ea er f =
-      subst (Replied places room ais device place id b o change)
-      (sym (er ∙ ap (λ (x : Answer). record { answer = x; device = device; place = place }) ea))
-      (record {
-        answer = λ p L s e1 e2 e3 e4 e5 e6. refused-as L s b _ _ code _ (as-it-was s id device place p e5 e6 e4) (f L s e1 e3 e5 e6) refl;
-        kept = λ k. (refl, refl);
-        canonical = λ k. k;
-        within = within-same change place;
-      })
-
-  pub accepted : {change : Change} {device′ : Device} {place′ : Place} {a : Answer} {r : Reply} → a ≡ answered 0 0
-      → r ≡ record { answer = a; device = device′; place = place′ } → (Canonical place → Canonical place′)
-      → Within change place place′
-      → Gives (λ L s. accept 0 (stateWith s id (placeOf place′) (s .pending) (deviceOf device′)) []) → Replied places room ais device place id b o change r
-  accepted {change} {device′} {place′} ea er k m f =
-      subst (Replied places room ais device place id b o change)
-      (sym (er ∙ ap (λ (x : Answer). record { answer = x; device = device′; place = place′ }) ea))
-      (record {
-        answer = λ p L s e1 e2 e3 e4 e5 e6.
-            tells L s b _ _ 0 _ [] b (f L s e1 e3 e5 e6 ∙ ap (λ (q : Pending). accept 0 (stateWith s id (placeOf place′) q (deviceOf device′)) []) e4) refl refl;
-        kept = λ n. absurd (n refl);
-        canonical = k;
-        within = m;
-      })
-
--- ---- the state that an accepted request leaves
-pub devised : (s : State) (id : ℕ) (d : rules.Device) (device : Device) (place : Place) → d ≡ deviceOf device
-    → getD (s .adapters) id rules.free ≡ placeOf place
-    → accept 0 (rules.withDevice d s) [] ≡ accept 0 (stateWith s id (placeOf place) (s .pending) (deviceOf device)) []
-devised s id d device place e p = ap (λ (t : State). accept 0 t []) (as-it-was (rules.withDevice d s) id device place (s .pending) e p refl)
+use Rattle.adapters.specs.{declared.Device.Device, declared.Place.Place, Values.maskedAs, Values.modeSet}
+use Rattle.adapter_requests.specs.States.{payloadId, onPlace, decided, withPlace, modesAfter}
 
 -- ---- a code that is not 0, and 0
 pub not-accepted : {A : Type 0} {n : ℕ} → 0 < n → n ≡ 0 → A
@@ -91,21 +31,6 @@ pub not-on-place : (g : ℕ) → onPlace g ≡ false → (g ≡ 6 → ⊥) × (g
 unfolding onPlace
 not-on-place g o = (λ e. true≢false (sym (ap onPlace e) ∙ o), λ e. true≢false (sym (ap onPlace e) ∙ o))
 
-on-place-cases : (g : ℕ) → onPlace g ≡ true → (f : ℕ → Type 0) → f 6 → f 7 → f g
-on-place-cases g o f six seven = go (eqb g 6) refl
-  where
-    go : (t : Bool) → eqb g 6 ≡ t → f g
-    go true e = subst f (sym (eqb-true g 6 e)) six
-    go false e = subst f (sym (on-place-7 g o (eqb-false g 6 e))) seven
-
-pub about-place : (g attr : ℕ) (b : List ℕ) → onPlace g ≡ true → aboutOf g attr b ≡ payloadId b
-unfolding aboutOf onPlace choose
-about-place g attr b o = on-place-cases g o (λ (x : ℕ). aboutOf x attr b ≡ payloadId b) refl refl
-
-pub keeps-place : (g : ℕ) → onPlace g ≡ false → changeOf g ≡ keeps
-unfolding changeOf choose
-keeps-place g o = rw (ne-eqb g 6 (not-on-place g o .0), ne-eqb g 7 (not-on-place g o .1))
-
 -- an accepted MODIFY, whether its type is 1 or not
 pub modified : (s : State) (id id′ : ℕ) (t on : Bool) (x : rules.Adapter) (p : rules.Place) → id′ ≡ id → p ≡ rules.holds x → getD (s .adapters) id rules.free ≡ p
     → _≡_ {A = State} (choose t (rules.withAdapter id (withMask on x) s) s) (withPlace id′ (choose t (maskedAs p on) p) s)
@@ -127,11 +52,6 @@ module _ (group : ℕ) (b : List ℕ) (d : rules.Device) where
   pub after-flag : (group ≡ 9 → ⊥) → (group ≡ 11 → ⊥) → modesAfter group b d ≡ record { simm = d .simm; nimm = d .nimm; apf = eqb group 4 }
   unfolding modesAfter
   after-flag n m = passed _ _ _ (ne-eqb group 9 n) ∙ passed _ _ _ (ne-eqb group 11 m)
-
--- the place and the device record that an accepted request about a place leaves
-pub entered : (s : State) (id : ℕ) (p : rules.Place) (device : Device) (place : Place) → p ≡ placeOf place → s .device ≡ deviceOf device
-    → withPlace id p s ≡ stateWith s id (placeOf place) (s .pending) (deviceOf device)
-entered s id p device place h d = λ i. record { ais = s .ais; adapters = set (s .adapters) id (h i); pending = s .pending; device = d i }
 
 -- ---- the checks that come first: the attribute, the capability, the lent length
 pub bad-attr : {attr : ℕ} (rest : Outcome State) → (attr ≡ 0 → ⊥) → (need eqb attr 0 else 22 ⨾ rest) ≡ refuse 22

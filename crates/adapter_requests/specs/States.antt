@@ -1,5 +1,4 @@
--- Which adapter a set request is about, what an accepted request leaves of its place or of the device record, and
--- what a reply says.
+-- Which adapter a set request is about, and what an accepted request leaves of its place or of the device record.
 use Prim.Native.Nat.{ℕ, _^_, _≤_}
 use mathlib.Core.Path.{_≡_}
 use mathlib.Core.Bool.{Bool, true, _||_}
@@ -8,14 +7,12 @@ use lib.ListN.{length, getD, set}
 use lib.Dec.{leb, eqb}
 use Rattle.rules.specs.Bytes.{choose, byte, field}
 use Rattle.rules.specs.State as rules
-use Rattle.rules.specs.State.{Limits, Pending, State}
+use Rattle.rules.specs.State.{Limits, State}
 use Rattle.rules.specs.Outcome.{Outcome, refuse, accept}
 use Rattle.rules.specs.Requests.{adapterIn, nonZero, setRequest, request}
 use Rattle.adapters.specs.declared.Device.{Device}
 use Rattle.adapters.specs.declared.Place.{Place}
-use Rattle.adapters.specs.Values.{placeOf, deviceOf, Canonical, withMasked, maskedAs, modeSet}
-use Rattle.answers.specs.Answers.{Answers}
-use Rattle.adapter_requests.specs.declared.Reply.{Reply}
+use Rattle.adapters.specs.Values.{placeOf, withMasked, maskedAs, modeSet}
 
 -- an id that no table has
 abbrev pub noAdapter : ℕ
@@ -29,10 +26,6 @@ payloadId b = choose (leb 4 (length b)) (field 0 4 b) noAdapter
 unfoldable pub onPlace : ℕ → Bool
 onPlace group = eqb group 6 || eqb group 7
 
--- the id that a set request is about; most are about no adapter
-unfoldable pub aboutOf : ℕ → ℕ → List ℕ → ℕ
-aboutOf group attr b = choose (eqb group 10) attr (choose (onPlace group) (payloadId b) noAdapter)
-
 -- what a request comes to that is decided by its code: 0 is accepted, with count 0 and nothing written
 unfoldable pub decided : ℕ → State → Outcome State
 decided code next = choose (eqb code 0) (accept 0 next []) (refuse code)
@@ -42,6 +35,10 @@ unfoldable pub placeAfter : ℕ → List ℕ → rules.Place → rules.Place
 placeAfter group b p =
     choose (eqb group 6) (rules.holds (adapterIn b))
     (choose (eqb (byte 4 b) 1) (maskedAs p (nonZero (byte 5 b))) p)
+
+-- what REGISTER and MODIFY store at an id where `old` is, if the place is to be `new`: MODIFY its masked field alone
+abbrev pub storedBy : ℕ → (new old : Place) → Place
+storedBy group new old = choose (eqb group 6) new (withMasked (new .masked) old)
 
 -- a state with another place at an id
 abbrev pub withPlace : ℕ → rules.Place → State → State
@@ -78,40 +75,3 @@ DecidesModes group ais attr b code =
     (L : Limits) (s : State) → s .ais ≡ ais
     → request L s (setRequest group) attr b
     ≡ decided code (rules.withDevice (modesAfter group b (s .device)) s)
-
--- a state with another place at an id, other pending records and another device record
-abbrev pub stateWith : State → ℕ → rules.Place → Pending → rules.Device → State
-stateWith s id place pending device =
-    record { ais = s .ais; adapters = set (s .adapters) id place; pending = pending; device = device }
-
--- What a reply says, in every state that the code's values stand for: the outcome's answer and next state, and that the
--- payload stays as it is. `before` and `after` are the pending records, `id` is the adapter's place in the table.
-abbrev pub Replies : (places room : ℕ) (ais : Bool) (device : Device) (place : Place) (id : ℕ) (b : List ℕ)
-    → (Limits → State → Outcome State) → (before after : Pending) → Reply → Type 0
-Replies places room ais device place id b o before after r =
-    (L : Limits) (s : State) → L .places ≡ places → L .room ≡ room → s .ais ≡ ais → s .pending ≡ before
-    → s .device ≡ deviceOf device → getD (s .adapters) id rules.free ≡ placeOf place
-    → Answers L s b (o L s) (r .answer) (stateWith s id (placeOf (r .place)) after (deviceOf (r .device))) b
-
--- What a set request may do to the place of its adapter: nothing, set its masked field, or enter another.
-pub data Change : Type 0 where
-  keeps masks enters : Change
-
--- the second place differs from the first by no more than a change may do; of a place that is entered nothing is said
-abbrev pub Within : Change → Place → Place → Type 0
-Within keeps p p′ = p′ ≡ p
-Within masks p p′ = p′ ≡ withMasked (p′ .masked) p
-Within enters p p′ = Unit
-
--- REGISTER enters a place, MODIFY sets its masked field, every other group leaves it
-unfoldable pub changeOf : ℕ → Change
-changeOf group = choose (eqb group 6) enters (choose (eqb group 7) masks keeps)
-
--- What a request that touches no pending record promises of its reply: the answer; that a refusal leaves both values as
--- they were; that a place which a table may hold stays one; and how much of the place may change.
-pub record Replied (places room : ℕ) (ais : Bool) (device : Device) (place : Place) (id : ℕ) (b : List ℕ)
-    (o : Limits → State → Outcome State) (change : Change) (r : Reply) : Type 0 where
-  pub answer : (p : Pending) → Replies places room ais device place id b o p p r
-  pub kept : (r .answer .code ≡ 0 → ⊥) → (r .device ≡ device) × (r .place ≡ place)
-  pub canonical : Canonical place → Canonical (r .place)
-  pub within : Within change place (r .place)

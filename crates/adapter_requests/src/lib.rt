@@ -4,15 +4,14 @@ ghost use mathlib.Core.Bool.{true, false};
 ghost use mathlib.Core.List.{List};
 ghost use Prim.Native.Nat.{ℕ, _≤_};
 ghost use lib.Dec.{eqb};
-ghost use lib.ListN.{length, getD};
+ghost use lib.ListN.{length};
 ghost use Rattle.rules.specs.State.{Limits, State, withDevice};
 ghost use Rattle.rules.specs.Bytes.{byte, field};
-ghost use Rattle.rules.specs.Requests.{apfEnable, apfDisableWait, getAismAll, setRequest, request};
+ghost use Rattle.rules.specs.Requests.{apfEnable, apfDisableWait, getAismAll, request};
 ghost use Rattle.answers.specs.Answers.{Answers};
 ghost use Rattle.adapters.specs.Values.{placeOf, deviceOf, Canonical};
-ghost use Rattle.adapter_requests.specs.States.{payloadId, onPlace, aboutOf, decided, placeAfter, PlaceAsked};
+ghost use Rattle.adapter_requests.specs.States.{payloadId, onPlace, decided, placeAfter, storedBy, PlaceAsked};
 ghost use Rattle.adapter_requests.specs.States.{DecidesPlace, modesAfter, ModesAsked, DecidesModes};
-ghost use Rattle.adapter_requests.specs.States.{changeOf, Within, Replied};
 use adapters::Device;
 use adapters::Place;
 use answers::Answer;
@@ -21,7 +20,6 @@ use answers::EINVAL;
 use answers::EOPNOTSUPP;
 use numbers::ADAPTER_MODIFY;
 use numbers::ADAPTER_REGISTER;
-use numbers::AIRQ_INJECT;
 use numbers::AISM;
 use numbers::AISM_ALL;
 use numbers::APF_DISABLE_WAIT;
@@ -29,23 +27,6 @@ use numbers::APF_ENABLE;
 use numbers::AdapterId;
 use numbers::NO_ADAPTER;
 use numbers::Subclass;
-
-// An answer, with the device record and the adapter place as they are then.
-pub struct Reply {
-    pub answer: Answer,
-    pub device: Device,
-    pub place: Place,
-}
-
-pub fn with_answer(answer: Answer, device: Device, place: Place) -> Reply
-    ensures { λ r. ⌜ r ≡ record { answer = answer; device = device; place = place } ⌝ }
-{
-    Reply {
-        answer,
-        device,
-        place,
-    }
-}
 
 // The id in a payload. A payload too short for one names no adapter.
 pub fn payload_id(payload: &[u8]) -> AdapterId
@@ -55,19 +36,6 @@ pub fn payload_id(payload: &[u8]) -> AdapterId
         return AdapterId(NO_ADAPTER);
     }
     AdapterId(numbers::read_be(payload, 0, 4))
-}
-
-// The adapter that a set request is about, if it is about one.
-pub fn about(group: u32, attr: u64, payload: &[u8]) -> AdapterId
-    ensures { λ r. ⌜ r .0 ≡ aboutOf group attr (now (payload .entry)) ⌝ }
-{
-    if group == AIRQ_INJECT {
-        return AdapterId(attr);
-    }
-    if on_place(group) {
-        return payload_id(payload);
-    }
-    AdapterId(NO_ADAPTER)
 }
 
 // Whether a set request is about an adapter's place: REGISTER, MODIFY.
@@ -151,7 +119,7 @@ pub fn place_code(places: u64, place: Place, group: u32, attr: u64, payload: &[u
 pub fn place_after(place: Place, group: u32, payload: &[u8]) -> Place
     requires { ⌜ PlaceAsked group (now payload) place ⌝ }
     ensures { λ r. ⌜ (placeOf r ≡ placeAfter group (now (payload .entry)) (placeOf place))
-        × (Canonical place → Canonical r) × (onPlace group ≡ true → Within (changeOf group) place r) ⌝ }
+        × (Canonical place → Canonical r) × (storedBy group r place ≡ r) ⌝ }
 {
     if group == ADAPTER_REGISTER {
         return adapters::registered(
@@ -308,41 +276,4 @@ pub fn get_masks(ais: bool, device: Device, attr: u64, out: &mut [u8]) -> Answer
     out[0] = device.simm;
     out[1] = device.nimm;
     answers::accept(0)
-}
-
-// The set requests that touch no pending record, by value.
-pub fn set_values(
-    places: u64,
-    ais: bool,
-    device: Device,
-    place: Place,
-    group: u32,
-    attr: u64,
-    payload: &[u8],
-) -> Reply
-    requires { ⌜ (group ≡ 2 → ⊥) × (group ≡ 3 → ⊥) × (group ≡ 8 → ⊥) × (group ≡ 10 → ⊥) ⌝ }
-    ensures { λ r. ⌜ ((room : ℕ)
-        → Replied places room ais device place (aboutOf group attr (now (payload .entry))) (now (payload .entry))
-        (λ L s. request L s (setRequest group) attr (now (payload .entry))) (changeOf group) r) ⌝ }
-{
-    if on_place(group) {
-        let code = place_code(places, place, group, attr, payload);
-        if code != 0 {
-            return with_answer(answers::refuse(code), device, place);
-        }
-        return with_answer(
-            answers::accept(0),
-            device,
-            place_after(place, group, payload),
-        );
-    }
-    let code = modes_code(ais, group, attr, payload);
-    if code != 0 {
-        return with_answer(answers::refuse(code), device, place); // the device record stays
-    }
-    with_answer(
-        answers::accept(0),
-        modes_after(device, group, payload),
-        place,
-    )
 }

@@ -3,7 +3,7 @@ use Rattle.numbers.proofs.Basics.{ℕ, _≤_, _≡_, refl, ap, sym, _∙_, subs
 use Rattle.numbers.proofs.Basics.{getD, take, replicate, length-take, length-map, List·getD-map, eqb, eq-eqb, ne-eqb}
 use Rattle.numbers.proofs.Basics.{eqb-true, eqb-false, true≢false}
 use lib.ListN.{length-replicate}
-use Rattle.rules.specs.{Bytes.choose, State.Limits, State.State, State.free, State.fresh, State.nothing, State.paperLimits, State.withPending, Outcome.Outcome, Outcome.refuseWith, Outcome.refuse, Outcome.need_else_⨾_, Outcome.result, Outcome.tell, Outcome.Seen, Outcome.Answer as Told, Requests.enqueue, Requests.clearIrqs, Requests.clearIoIrq, Requests.setRequest, Requests.request, Invariant.All, Invariant.Sound, Take.takes, MoveList.plays}
+use Rattle.rules.specs.{Bytes.choose, State.Limits, State.State, State.free, State.fresh, State.nothing, State.paperLimits, State.withPending, Outcome.Outcome, Outcome.refuseWith, Outcome.refuse, Outcome.need_else_⨾_, Outcome.result, Outcome.tell, Outcome.Seen, Outcome.Answer as Told, Requests.enqueue, Requests.clearIrqs, Requests.clearIoIrq, Requests.setRequest, Requests.request, Invariant.All, Invariant.Sound, Take.takes}
 use Rattle.rules.specs.Machine.{Ask, setAttr, getAttr, guestTake, writeList, playList, outcome, step, answerOf}
 use Rattle.rules.proofs.{Checks.passes, Checks.fails, Checks.chosen, Checks.passed, Lists.all-replicate, Outcomes.Known, Outcomes.Plays, Outcomes.known-outcome, Outcomes.never-zero, Reachable.kept-step, Reachable.fresh-sound}
 use Rattle.answers.specs.{declared.Answer.Answer, Answers.Answers, Answers.answered, Answers.saw}

@@ -1,12 +1,12 @@
 -- From a request's code, and what it changes where that is 0, to what the request promises.
-use Rattle.numbers.proofs.Basics.{ℕ, _≡_, refl, ap, sym, subst, _∙_, Bool, true, false, List, map, arith, getD, set}
-use Rattle.numbers.proofs.Basics.{length-set, List·getD-map, eqb, eqb-false}
+use Rattle.numbers.proofs.Basics.{ℕ, _≡_, refl, ap, sym, _∙_, Bool, List, map, arith, getD, set}
+use Rattle.numbers.proofs.Basics.{length-set, List·getD-map}
 use Rattle.rules.specs.{Bytes.choose, State.Limits, State.State, State.free, State.withDevice, Outcome.result, Outcome.tell, Requests.setRequest, Requests.request, Machine.answerOf}
 use Rattle.rules.proofs.Lists.{all-set, all-get}
-use Rattle.adapters.specs.{declared.Device.Device, declared.Place.Place, Values.placeOf, Values.deviceOf, Values.deviceFrom, Values.unused, Values.Canonical, Values.withMasked}
+use Rattle.adapters.specs.{declared.Device.Device, declared.Place.Place, Values.placeOf, Values.deviceOf, Values.deviceFrom, Values.unused, Values.Canonical}
 use Rattle.list_image.specs.Image.{imageSize}
-use Rattle.adapter_requests.specs.States.{payloadId, onPlace, decided, placeAfter, withPlace, modesAfter, Within, changeOf}
-use Rattle.adapter_requests.proofs.Laws.{decided-refused, decided-accepted, on-place-7}
+use Rattle.adapter_requests.specs.States.{payloadId, decided, placeAfter, withPlace, modesAfter}
+use Rattle.adapter_requests.proofs.Laws.{decided-refused, decided-accepted}
 use Rattle.lent_requests.specs.Requests.{ModesSet, withTable, PlaceSet}
 use Rattle.lent_requests.proofs.{Answered.refused, Answered.accepted, Maps.map-set}
 
@@ -34,15 +34,6 @@ module _ (ais : Bool) (group attr : ℕ) (d : Device) (b : List ℕ) (code : ℕ
 -- ---- the table
 pub canonical-unused : Canonical unused
 canonical-unused = record { unusedOne = λ e. refl; iscSmall = omega arith; maskedMaskable = λ e. e }
-
--- a place that MODIFY leaves differs in its masked field alone
-pub place-within : (group : ℕ) (p q : Place) → onPlace group ≡ true → Within (changeOf group) p q → choose (eqb group 6) q (withMasked (q .masked) p) ≡ q
-unfolding changeOf choose
-place-within group p q o w = go (eqb group 6) refl
-  where
-    go : (t : Bool) → eqb group 6 ≡ t → choose t q (withMasked (q .masked) p) ≡ q
-    go true e = refl
-    go false e = sym (subst (λ (g : ℕ). Within (changeOf g) p q) (on-place-7 group o (eqb-false group 6 e)) w)
 
 module _ (group attr : ℕ) (t : List Place) (b : List ℕ) (code : ℕ) where
   abbrev id : ℕ

@@ -2,11 +2,9 @@
 // Proved by hand.
 ghost use mathlib.Core.Path.{_≡_};
 ghost use mathlib.Core.Bool.{true, false};
-ghost use lib.Dec.{eqb};
 ghost use lib.ListN.{getD, set};
-ghost use Rattle.rules.specs.Bytes.{choose};
-ghost use Rattle.adapters.specs.Values.{deviceOf, deviceFrom, unused, withMasked};
-ghost use Rattle.adapter_requests.specs.States.{onPlace, modesAfter, ModesAsked};
+ghost use Rattle.adapters.specs.Values.{deviceOf, deviceFrom, unused};
+ghost use Rattle.adapter_requests.specs.States.{onPlace, storedBy, modesAfter, ModesAsked};
 ghost use Rattle.lent_requests.specs.Requests.{ModesSet, PlaceSet};
 use adapters::Device;
 use adapters::Place;
@@ -38,7 +36,7 @@ pub fn change_modes(d: &mut Device, group: u32, payload: &[u8])
 
 // Changes the table for an accepted request; p is the new place. REGISTER stores it at the id, MODIFY sets its masked field.
 pub fn change_place(t: &mut [Place], id: AdapterId, group: u32, p: Place)
-    ensures { λ _. ⌜ now (t .exit) ≡ set (now (t .entry)) (id .0) (choose (eqb group 6) p (withMasked (p .masked) (getD (now (t .entry)) (id .0) unused))) ⌝ }
+    ensures { λ _. ⌜ now (t .exit) ≡ set (now (t .entry)) (id .0) (storedBy group p (getD (now (t .entry)) (id .0) unused)) ⌝ }
 {
     if group == ADAPTER_REGISTER {
         lent_table::register(t, id, p);

@@ -3,7 +3,7 @@
 --     looks-up-shared, snapshots-shared    the caller passes its own `&[Place]` on: it holds the token of the slice's lifetime and what the slice owns (Gives.antt's `Shared`), and keeps both
 --     changes-table, of any function that is lent the table and plain data, with registers and clears    row ys ∷ Γ  ⟶  row of the new table ∷ Γ
 --     restores                             row ys ∷ cell of the image ∷ Γ  ⟶  row of the new table ∷ cell of the image ∷ Γ
-use Rattle.lent_table.proofs.Walk.{_≡_, emp, drop, rewrite, fsplit, yes, refl, ℕ, _<_, _^_, [], _∷_, List, length, getD, set, URA, fullShare, w64, Val, vunit, vint, SProp, ent, sep, snd∗, exE, id⊢, GName, Lft, Share, ftrue, flft, Memory, Routine, Heap, Env, Calls, Loops, Atoms, sem, Fun, Given, Item, Seq, runs, lands, ‵, _⊛_, _$_, _∵_, !, qed, move, join, fjoin, frame, done, Opds, FmC, Is, uint-makes, u64, sliceVal, Room, row, owned, nothing, tripleOf, Contract, Triple, ensured, lasts, sym, ap, subst, _≤_, Bool, vbool, vptr, fsep, fat, split, shows, Boolean, bool-makes, unit, only, finally, spelt, says}
+use Rattle.lent_table.proofs.Walk.{_≡_, emp, drop, rewrite, fsplit, yes, refl, ℕ, _<_, _^_, [], _∷_, List, length, getD, set, URA, fullShare, w64, Val, vunit, vint, SProp, ent, sep, snd∗, exE, id⊢, GName, Lft, Share, ftrue, flft, Memory, Routine, Heap, Env, Calls, Loops, Atoms, sem, Fun, Given, Item, Seq, runs, lands, ‵, _⊛_, _$_, _∵_, !, qed, move, join, fjoin, frame, done, Opds, FmC, Is, uint-makes, u64, sliceVal, Room, row, owned, nothing, tripleOf, Contract, Triple, ensured, lasts, sym, ap, subst, _≤_, vptr, fsep, fat, split, shows, unit, only, finally, spelt, says}
 use mir.Syntax.{Name, Place as Where, Body as Code, Opd as Operand, seq, call}
 use contract.Lifetimes.{Lfts}
 use denote.Triple.End.{all, lastsOf}
@@ -13,8 +13,8 @@ use Rattle.numbers.proofs.AdapterId as I
 use Rattle.adapters.specs.{declared.Place.Place, Values.unused}
 use Rattle.adapters.proofs.Place as T
 use Rattle.lent_table.specs.Table.{snapTo, restored}
-use Rattle.lent_table.proofs.{Places.adapter-id, Places.place, Slot.Changes, Rows.lends-row, Rows.row-back, Places.R, Places.low, Places.Fits, Places.FitsId, Images.Image, Images.low-image, Images.FitsImage, Images.image-tells, Images.image-makes, look_up.Symbol.name as #look-up, snapshot.Symbol.name as #snapshot, register.Symbol.name as #register, restore.Symbol.name as #restore, Places.makes, Places.makes-id, Images.imageTy, Images.SharedImage, Rows.shares-cell, Rows.cell-shared-back, Called.calls-told, mask.Symbol.name as #mask, clear.Symbol.name as #clear}
-use Rattle.lent_table.proofs.Gives.{last-list, changes-of, at-list, no-others, Gives, Shared, Lent, gives-row, gives-shared, changes-row}
+use Rattle.lent_table.proofs.{Places.adapter-id, Places.place, Slot.Changes, Rows.lends-row, Rows.row-back, Places.R, Places.low, Places.Fits, Places.FitsId, Images.Image, Images.low-image, Images.FitsImage, Images.image-tells, Images.image-makes, look_up.Symbol.name as #look-up, snapshot.Symbol.name as #snapshot, register.Symbol.name as #register, restore.Symbol.name as #restore, Images.imageTy, Images.SharedImage, Rows.shares-cell, Rows.cell-shared-back, Called.calls-told, clear.Symbol.name as #clear}
+use Rattle.lent_table.proofs.Gives.{last-list, changes-of, at-list, Gives, Shared, Lent, gives-row, gives-shared}
 use Rattle.lent_table.proofs.Plain.{Data, datas, slots, Values, Fit, lows, passing, goes-lent}
 use Rattle.lent_table.proofs.look_up as look-up
 use Rattle.lent_table.proofs.snapshot as snapshot

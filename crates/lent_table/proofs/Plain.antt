@@ -4,7 +4,7 @@
 --     slots, Values, lows, Fit    of a list of parameters: the types, the values, their machine values, and that these are theirs
 --     Asks                        what a contract requires: nothing, or a fact
 --     gives-data, calls-data      the call of a function from plain data to plain data as one step of a walk, Γ ⟶ Γ
-use Rattle.lent_table.proofs.Walk.{_≡_, refl, sym, ap, subst, ℕ, [], _∷_, List, _++_, getD, URA, tyBool, tyInt, tyUnit, Ty, Val, vunit, vbool, vint, SProp, ent, sep, emp, via, fst∗, id⊢, Lft, Share, Fml, ftrue, fsep, flft, Heap, Env, Calls, Loops, Atoms, sem, fact, Given, Item, Seq, runs, lands, ‵, _⊛_, _$_, _∵_, !, qed, move, join, fjoin, frame, raw, use0, done, Opds, FmC, RattleType, Is, owns, Boolean, bool-tells, bool-makes, uint-tells, uint-makes, uint-lawful, plain, only, nothing, tripleOf, Contract, Triple, needs, Stays, stay-dropped, goes-dropped, yes}
+use Rattle.lent_table.proofs.Walk.{_≡_, refl, sym, ap, subst, ℕ, [], _∷_, List, _++_, getD, URA, tyBool, tyInt, tyUnit, Ty, Val, vunit, vbool, vint, SProp, ent, sep, emp, via, fst∗, id⊢, Lft, Share, Fml, ftrue, fsep, flft, Heap, Env, Calls, Loops, Atoms, sem, fact, Given, Item, Seq, runs, lands, ‵, _$_, _∵_, !, qed, move, join, fjoin, frame, raw, use0, done, Opds, FmC, RattleType, Is, owns, Boolean, bool-tells, bool-makes, uint-tells, uint-makes, uint-lawful, plain, only, nothing, tripleOf, Contract, Triple, needs, Stays, stay-dropped, goes-dropped, yes}
 use mir.Syntax.{Name, Width, Local, local, valueLocal, Place as Where, Body as Code, Opd as Operand, seq, call}
 use mir.Val.{hasTy, WT}
 use Prim.Native.Nat.{suc}

@@ -1,7 +1,7 @@
 -- Laws of playing: one request on the values, and the requests of a table in turn.
 use Rattle.numbers.proofs.Basics.{ℕ, zero, suc, _+_, _-_, _≤_, _<_, _≡_, refl, ap, sym, _∙_, subst, Bool, true, false, List}
 use Rattle.numbers.proofs.Basics.{[], _∷_, not-suc-le-zero, le-of-suc-le-suc, add-one, arith, take, drop}
-use Rattle.numbers.proofs.Basics.{replicate, eqb, eq-eqb, ne-eqb}
+use Rattle.numbers.proofs.Basics.{replicate, eq-eqb, ne-eqb}
 use Rattle.rules.specs.{Bytes.choose, Bytes.part, State.Limits, State.Pending, State.State, State.nothing, State.fresh, Requests.setRequest, Requests.request, MoveList.ListRequest, MoveList.TableEntry, MoveList.onward, MoveList.applies, MoveList.requestsIn, MoveList.plays, Machine.answerOf}
 use Rattle.rules.specs.State as rules
 use Rattle.rules.specs.Outcome.{Outcome, refuseWith, accept, resetWith, refuse, reset, result, tell}

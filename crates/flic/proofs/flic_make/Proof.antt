@@ -20,10 +20,10 @@ use Rattle.flic.specs.Surface.{Made}
 use Rattle.calls.proofs.Controller as C
 use Rattle.flic.proofs.{Promises.freshDevice, Promises.make-promises, Promises.wrong-makes, Opened.Has}
 use Rattle.flic.proofs.All.{Refs, refs, at-ctl, at-dev, at-tab, table, Owned, Tokens, Passed, Open, Closed, takes-all, opens-all, closes-all, gives-all}
-use Rattle.flic.proofs.Four.{Ways, mutably, apart, Loan, left-by, lent-lfts, lent-shares, lent-args, lent-vals, calls-four}
+use Rattle.flic.proofs.Four.{Ways, mutably, apart, Loan, lent-lfts, lent-shares, lent-args, lent-vals, calls-four}
 use Rattle.answers.proofs.refuse as refuse
 use Rattle.answers.proofs.accept as accept
-use Rattle.lent_requests.proofs.Answered.{FitsAnswer, refused, accepted, Refuse, Accept, refuses, accepts}
+use Rattle.lent_requests.proofs.Answered.{refused, accepted, Refuse, Accept, refuses, accepts}
 use Rattle.adapters.proofs.fresh_device as fresh-device
 use Rattle.lent_table.proofs.store_device as store-device
 use Rattle.lent_table.proofs.clear as clear

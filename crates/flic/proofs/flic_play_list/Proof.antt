@@ -1,6 +1,6 @@
 -- `flic_play_list`: the length of the table is looked at, all is opened, and `play_list` is called with an image of unused places. Where the controller was made fresh, the device
 -- record and the table are stored. Then all is closed.
-use Rattle.flic.proofs.Walk.{_≡_, refl, sym, ap, subst, ℕ, _+_, Bool, true, false, [], _∷_, List, length, URA, fullShare, named, erased, w8, w64, tyInt, tyBool, tyUnit, tyRef, imm, mut, Val, vunit, vint, vbool, vptr, SProp, ent, id⊢, GName, Lft, Share, Fml, ftrue, fsep, flft, fres, fat, Memory, Routine, Heap, Env, Calls, Loops, Wp, WpFn, afterSeq, atReturn, Atoms, Fun, givenOf, tablesOf, Given, Item, Sq, runs, atRet, anyQ, ‵, ⋆, _⊛_, _$_, _∵_, !, qed, by, move, keep, drop, split, join, rewrite, fsplit, fjoin, suffices, frame, done, look, store, init, stop, hop, fld, from, load, lit, bin, addr, of-opd, and-then, no-more, assigns, first, skips, branches, exec, land, returns, returns-within, enter, alloc1, alloc0, params1, pass1, pass0, agg, whole, sub, look-in, FmC, owns, Is, pointee, u8, u64, bool, uint-makes, bool-makes, RefT, MutRef, sliceVal, sliceTy, ShrSlice, Room, ptr-vals, mut-tells, slice-vals, mut-slice-tells, shr-slice-tells, plain, only, owned, nothing, onEntry, tripleOf, Contract, Triple, cited, needs, says, Stays, stay-ref, stay-slice, stay-dropped, walkOf, goes-ref, goes-slice, goes-dropped, ends-at, yes, tyArray}
+use Rattle.flic.proofs.Walk.{_≡_, refl, ap, subst, ℕ, _+_, Bool, true, false, [], _∷_, List, length, URA, fullShare, named, erased, w8, w64, tyInt, tyBool, tyUnit, tyRef, imm, mut, Val, vunit, vint, vbool, vptr, SProp, ent, id⊢, GName, Lft, Share, Fml, ftrue, fsep, flft, fres, fat, Memory, Routine, Heap, Env, Calls, Loops, Wp, WpFn, afterSeq, atReturn, Atoms, Fun, givenOf, tablesOf, Given, Item, Sq, runs, atRet, anyQ, ‵, ⋆, _⊛_, _$_, _∵_, !, qed, by, move, keep, drop, split, join, rewrite, fsplit, fjoin, suffices, frame, done, look, store, init, stop, hop, fld, from, load, lit, bin, addr, of-opd, and-then, no-more, assigns, first, skips, branches, exec, land, returns, returns-within, enter, alloc1, alloc0, params1, pass1, pass0, agg, whole, sub, look-in, FmC, owns, Is, pointee, u8, u64, bool, uint-makes, bool-makes, RefT, MutRef, sliceVal, sliceTy, ShrSlice, Room, ptr-vals, mut-tells, slice-vals, mut-slice-tells, shr-slice-tells, plain, only, owned, nothing, onEntry, tripleOf, Contract, Triple, cited, needs, says, Stays, stay-ref, stay-slice, stay-dropped, walkOf, goes-ref, goes-slice, goes-dropped, ends-at, yes, tyArray}
 use types.Run.{un}
 use Rattle.lent_table.proofs.{Ends.concludes, Record.StoreDevice, Record.stores-device, Calls.Restore, Calls.restores, Count.taken, Tables.length-restored}
 use Rattle.lent_table.proofs.Images.{imageTy, low-image, FitsImage, image-typed, Empty, takes-empty}

@@ -9,13 +9,13 @@ use Rattle.answers.proofs.Answer as An
 use Rattle.answers.proofs.refuse as refuse
 use Rattle.answers.proofs.accept as accept
 use Rattle.lent_table.proofs.Locals.{Content, blank, holds, Blocks, locals, ends-with, holds-false, not-not, zero-fits}
-use Rattle.lent_requests.proofs.{Answered.answer, Request.table₂, Request.behind, Request.payload-of, Request.Beside, Request.table-in, Request.table-out, Answered.FitsAnswer, Answered.refused, Answered.accepted, Answered.Refuse, Answered.Accept, Answered.refuses, Answered.accepts, Payload.asks-slice, Laws.PlaceDecided, Laws.place-within, Laws.place-refused, Laws.place-accepted}
+use Rattle.lent_requests.proofs.{Answered.answer, Request.table₂, Request.behind, Request.payload-of, Request.Beside, Request.table-in, Request.table-out, Answered.FitsAnswer, Answered.refused, Answered.accepted, Answered.Refuse, Answered.Accept, Answered.refuses, Answered.accepts, Payload.asks-slice, Laws.PlaceDecided, Laws.place-refused, Laws.place-accepted}
 use Rattle.numbers.specs.declared.AdapterId.{AdapterId}
 use Rattle.numbers.proofs.AdapterId as I
-use Rattle.rules.specs.{Bytes.choose, State.Limits, State.State, State.free, Requests.setRequest, Requests.request}
-use Rattle.adapters.specs.{declared.Place.Place, Values.placeOf, Values.unused, Values.Canonical, Values.withMasked}
+use Rattle.rules.specs.{State.Limits, State.State, State.free, Requests.setRequest, Requests.request}
+use Rattle.adapters.specs.{declared.Place.Place, Values.placeOf, Values.unused, Values.Canonical}
 use Rattle.list_image.specs.Image.{imageSize}
-use Rattle.adapter_requests.specs.States.{payloadId, onPlace, decided as decidedBy, withPlace, placeAfter, PlaceAsked, Within, changeOf}
+use Rattle.adapter_requests.specs.States.{payloadId, onPlace, decided as decidedBy, withPlace, placeAfter, PlaceAsked, storedBy}
 use Rattle.adapter_requests.proofs.payload_id as payload-id
 use Rattle.adapter_requests.proofs.place_code as place-code
 use Rattle.adapter_requests.proofs.place_after as place-after
@@ -45,11 +45,11 @@ Coded places p group attr bytes n = (L : Limits) (s : State) → L .places ≡ p
 
 -- what `place_after` says of the place p that the request leaves
 abbrev Left : Place → ℕ → List ℕ → Place → Type 0
-Left old group bytes p = (placeOf p ≡ placeAfter group bytes (placeOf old)) × (Canonical old → Canonical p) × (onPlace group ≡ true → Within (changeOf group) old p)
+Left old group bytes p = (placeOf p ≡ placeAfter group bytes (placeOf old)) × (Canonical old → Canonical p) × (storedBy group p old ≡ p)
 
 -- what `change_place` leaves of the table
 abbrev changed : List Place → ℕ → ℕ → Place → List Place
-changed ys id group p = set ys id (choose (eqb group 6) p (withMasked (p .masked) (getD ys id unused)))
+changed ys id group p = set ys id (storedBy group p (getD ys id unused))
 
 module _ {M : Type 1} (𝓤 : URA M) (H : Heap 𝓤) (A : Atoms 𝓤) (W : Given 𝓤 H A) (mem′ : Memory → SProp 𝓤) (run : Routine → Fun 𝓤)
     (κ κp : Lft) (q qp : Share) (b o : ℕ) (γ : GName) (ys : List Place) (group attr : ℕ) (bp op : ℕ) (γp : GName) (bytes : List ℕ) (room : Room R (length ys)) (group-fits : group < 2 ^ 32) (attr-fits : attr < 2 ^ 64) (on : onPlace group ≡ true) (Post : Val → SProp 𝓤)
@@ -92,7 +92,7 @@ module _ {M : Type 1} (𝓤 : URA M) (H : Heap 𝓤) (A : Atoms 𝓤) (W : Given
         zs = changed ys (id .0) group p
 
         set-it : PlaceSet group attr ys zs bytes (accepted 0)
-        set-it = subst (λ (l : List Place). PlaceSet group attr ys l bytes (accepted 0)) (sym (ap (set ys (id .0)) (place-within group old p on (left .2 on)) ∙ ap (λ (k : ℕ). set ys k p) id-is))
+        set-it = subst (λ (l : List Place). PlaceSet group attr ys l bytes (accepted 0)) (sym (ap (set ys (id .0)) (left .2) ∙ ap (λ (k : ℕ). set ys k p) id-is))
             (place-accepted group attr ys bytes n decided (eqb-true n 0 e) p (left .0 ∙ ap (λ (k : ℕ). placeAfter group bytes (placeOf (getD ys k unused))) id-is) (subst (λ (k : ℕ). Canonical (getD ys k unused) → Canonical p) id-is (left .1)))
 
         changes-it : Sq W (Open ys (tested blank (holds (low p)) [])) (runs C Λ E f.Code.Mir.t-9 (atRet E Post))

@@ -1,5 +1,5 @@
 -- `clear`: the table is opened, a loop puts the free place at each id by a call of `register`, and the table is closed.
-use Rattle.lent_table.proofs.Walk.{_≡_, refl, sym, ap, subst, ℕ, _<_, _^_, [], _∷_, List, length, ltb, ltb→lt, nltb→le, URA, fullShare, named, erased, w64, tyInt, tyBool, tyUnit, tyRef, mut, Val, vunit, vint, vbool, SProp, ent, emp, via, fst∗, GName, Lft, Share, ftrue, flft, fobs, fobor, fauth, fat, Memory, Routine, Heap, Env, Calls, Loops, Wp, WpFn, Tables, afterSeq, atReturn, Atoms, Fun, givenOf, tables, tablesOf, Given, Item, Sq, runs, anyQ, atRet, ‵, ⋆, _⊛_, _$_, _∵_, !, qed, by, move, keep, drop, split, join, rewrite, fsplit, fjoin, feqI, suffices, frame, done, look, store, init, forget, stop, hop, fld, from, load, lit, unit-lit, addr, of-opd, bin, and-then, no-more, assigns, assigns-last, first, skips, branches, exec, land, returns, enter, alloc1, alloc0, params1, pass1, pass0, agg, whole, sub, look-in, FmC, fmOf, owns, pointee, sliceVal, sliceTy, MutSlice, Room, heres, codedHoleys, at-slice, slice-vals, mut-slice-tells, Held, row, opens-slice, closes-slice, pureI, plain, nothing, onEntry, Triple, cited, says, Stays, stay-slice, walkOf, goes-slice, ends-at}
+use Rattle.lent_table.proofs.Walk.{_≡_, refl, sym, ap, subst, ℕ, _<_, [], _∷_, List, length, ltb, ltb→lt, nltb→le, URA, fullShare, named, erased, w64, tyInt, tyBool, tyUnit, tyRef, mut, Val, vunit, vint, vbool, SProp, ent, emp, via, fst∗, GName, Lft, Share, ftrue, flft, fobs, fobor, fauth, fat, Memory, Routine, Heap, Env, Calls, Loops, Wp, WpFn, Tables, afterSeq, atReturn, Atoms, Fun, givenOf, tables, tablesOf, Given, Item, Sq, runs, anyQ, atRet, ‵, ⋆, _⊛_, _$_, _∵_, !, qed, by, move, keep, drop, split, join, rewrite, fsplit, fjoin, feqI, suffices, frame, done, look, store, init, forget, stop, hop, fld, from, load, lit, unit-lit, addr, of-opd, bin, and-then, no-more, assigns, assigns-last, first, skips, branches, exec, land, returns, enter, alloc1, alloc0, params1, pass1, pass0, agg, whole, sub, look-in, FmC, fmOf, owns, pointee, sliceVal, sliceTy, MutSlice, Room, heres, codedHoleys, at-slice, slice-vals, mut-slice-tells, Held, row, opens-slice, closes-slice, pureI, plain, nothing, onEntry, Triple, cited, says, Stays, stay-slice, walkOf, goes-slice, ends-at}
 use Prim.Native.Nat.{_+_, zero-le}
 use native.Mathlib.{Nat.le-antisymm, Numerals.add-one-le, Numerals.add-one-dec}
 use lib.Dec.{lit<}

@@ -22,7 +22,8 @@ use Rattle.calls.specs.Cases.{answerFor}
 
 -- a controller from its arrays and its capability
 abbrev pub controller : (slots order counts singles : List ℕ) → Bool → Controller
-controller slots order counts singles ais = record { slots = slots; order = order; counts = counts; singles = singles; ais = ais }
+controller slots order counts singles ais =
+    record { slots = slots; order = order; counts = counts; singles = singles; ais = ais }
 
 -- the pending records of a controller
 abbrev pub pendingIn : Controller → Pending
@@ -35,10 +36,13 @@ notedIn ais d p r = choose (eqb (r .count) 1) (injectedDevice ais d p) d
 -- INJECT of an adapter id whose place is p, where so many records are queued. `was` and `is` are what is pending before
 -- and after, by the two single records, which stay. For an id in the table the answer is also given by the case of the
 -- injection.
-pub record Injected (places room id queued : ℕ) (ais : Bool) (d : Device) (p : Place) (was is : List ℕ → Pending) (r : Answer) : Type 0 where
-  pub answer : (L : Limits) (s : State) (singles b : List ℕ) → L .places ≡ places → L .room ≡ room → s .ais ≡ ais → s .pending ≡ was singles
+pub record Injected (places room id queued : ℕ) (ais : Bool) (d : Device) (p : Place) (was is : List ℕ → Pending)
+    (r : Answer) : Type 0 where
+  pub answer : (L : Limits) (s : State) (singles b : List ℕ) → L .places ≡ places → L .room ≡ room → s .ais ≡ ais
+      → s .pending ≡ was singles
       → s .device ≡ deviceOf d → getD (s .adapters) id free ≡ placeOf p
-      → Answers L s b (request L s airqInject id b) r (withDevice (deviceOf (notedIn ais d p r)) (withPending (is singles) s)) b
+      → Answers L s b (request L s airqInject id b) r
+      (withDevice (deviceOf (notedIn ais d p r)) (withPending (is singles) s)) b
   pub unnoted : (r .code ≡ 0 → ⊥) → notedIn ais d p r ≡ d
   pub told : id < places → r ≡ answerFor (injectionOf ais d p (leb room queued))
 
@@ -58,7 +62,8 @@ imageState ais places image pending device =
     record { ais = ais; adapters = take places (placesOf image); pending = pending; device = deviceOf device }
 
 -- A set request, from the image, the pending records and the device record before it to those after it.
-abbrev pub SetTo : (places room : ℕ) → Bool → (group attr : ℕ) → (b image : List ℕ) → Pending → Device → (image′ : List ℕ) → Pending → Ran → Type 0
+abbrev pub SetTo : (places room : ℕ) → Bool → (group attr : ℕ) → (b image : List ℕ) → Pending → Device
+    → (image′ : List ℕ) → Pending → Ran → Type 0
 SetTo places room ais group attr b image p d image′ p′ r =
     let L = limitsFrom places room in
     let s = imageState ais places image p d in

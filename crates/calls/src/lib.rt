@@ -1,5 +1,5 @@
-// Inner crate: a controller, and requests on its arrays, with the device record by value: INJECT of one adapter's place,
-// requests that get, and set requests of any group, for which the adapter table is given as an image.
+// Inner crate: a controller, and requests on its arrays, with the device record by value: INJECT of one adapter's
+// place, requests that get, and set requests of any group, for which the adapter table is given as an image.
 ghost use mathlib.Core.Path.{_≡_};
 ghost use mathlib.Core.Bool.{Bool, true, false};
 ghost use mathlib.Core.List.{List};
@@ -90,7 +90,8 @@ pub fn answer_get(
     out: &mut [u8],
 ) -> Answer
     requires { ⌜ Held (now order) (now counts) ⌝ }
-    ensures { λ r. ⌜ Got group attr (controller (now (slots .entry)) (now (order .entry)) (now (counts .entry)) (now (singles .entry)) ais) device (now (out .entry)) (now (out .exit)) r ⌝ }
+    ensures { λ r. ⌜ Got group attr (controller (now (slots .entry)) (now (order .entry)) (now (counts .entry))
+        (now (singles .entry)) ais) device (now (out .entry)) (now (out .exit)) r ⌝ }
 {
     if group == GET_ALL_IRQS {
         return record_take::get_all(slots, order, counts, singles, attr, out);
@@ -147,8 +148,9 @@ fn set_place(
     payload: &[u8],
 ) -> Answer
     requires { ⌜ (places ≤ imageSize) × Imaged (now image) × (onPlace group ≡ true) ⌝ }
-    ensures { λ r. ⌜ ((room : ℕ) (ais : Bool) (p : Pending) (d : Device) → SetTo places room ais group attr (now (payload .entry))
-        (now (image .entry)) p d (now (image .exit)) p (record { answer = r; device = d })) ⌝ }
+    ensures { λ r. ⌜ ((room : ℕ) (ais : Bool) (p : Pending) (d : Device)
+        → SetTo places room ais group attr (now (payload .entry)) (now (image .entry)) p d
+        (now (image .exit)) p (record { answer = r; device = d })) ⌝ }
     ensures held { λ r. ⌜ Imaged (now (image .exit)) × ((r .code ≡ 0 → ⊥) → Stays image) ⌝ }
 {
     let id = adapter_requests::payload_id(payload);

@@ -47,7 +47,8 @@ pub record Moved : Type 0 where
   pub ran₁ : Ran start₁ calls₁ seen₁ first
   pub buffer : List ℕ
   pub wrote : Seen
-  pub writes : Requested writeList (first .ctl) (first .ctl) (first .dev) (first .dev) (first .tab) (first .tab) buffer wrote
+  pub writes : Requested writeList (first .ctl) (first .ctl) (first .dev) (first .dev) (first .tab) (first .tab)
+      buffer wrote
   pub long : total (listRequests (machine limits ais calls₁)) ≤ length buffer
   pub start₂ : Host
   pub fresh₂ : Fresh limits ais start₂
@@ -57,7 +58,8 @@ pub record Moved : Type 0 where
   pub ran₂ : Ran start₂ calls₂ seen₂ before
   pub second : Host
   pub played : Seen
-  pub plays : Requested playList (before .ctl) (second .ctl) (before .dev) (second .dev) (before .tab) (second .tab) (take (wrote .count) (wrote .buffer)) played
+  pub plays : Requested playList (before .ctl) (second .ctl) (before .dev) (second .dev) (before .tab) (second .tab)
+      (take (wrote .count) (wrote .buffer)) played
 
 -- the bytes that are played; the calls on the first host, the writing included
 abbrev pub listOf : Moved → List ℕ
@@ -71,10 +73,13 @@ pub record Claim (m : Moved) : Type 0 where
   -- the first controller gives the plain machine's answers, counts and bytes, of the writing too
   pub first-seen : m .seen₁ ++ (m .wrote ∷ []) ≡ machineAnswers (m .limits) (m .ais) [] (callsOf m)
   -- the writing is accepted, and its count is the list's length
-  pub written : (m .wrote .code ≡ 0) × (m .wrote .count ≡ total (listRequests (machine (m .limits) (m .ais) (m .calls₁)))) × (length (listOf m) ≡ m .wrote .count)
+  pub written : (m .wrote .code ≡ 0)
+      × (m .wrote .count ≡ total (listRequests (machine (m .limits) (m .ais) (m .calls₁))))
+      × (length (listOf m) ≡ m .wrote .count)
   -- the second controller accepts exactly those bytes, whatever it held, and applies as many requests as they say, at
   -- most 131
   pub accepted : (m .played .code ≡ 0) × (m .played .count ≡ countIn (listOf m)) × (m .played .count ≤ mostRequests)
   -- from then on both give the plain machine's answers, counts and bytes, for every further list of calls
   pub alike : (ds : List Call) (xs ys : List Seen) (e₁ e₂ : Host) → Ran (m .first) ds xs e₁ → Ran (m .second) ds ys e₂
-      → (xs ≡ machineAnswers (m .limits) (m .ais) (callsOf m) ds) × (ys ≡ machineAnswers (m .limits) (m .ais) (callsOf m) ds)
+      → (xs ≡ machineAnswers (m .limits) (m .ais) (callsOf m) ds)
+      × (ys ≡ machineAnswers (m .limits) (m .ais) (callsOf m) ds)

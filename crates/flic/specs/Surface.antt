@@ -55,7 +55,8 @@ Premise c d t = length t ≡ limitsOf c .places → Valid c d t
 -- the caller sees, x, is the code, the count and the buffer as the call left it.
 abbrev pub Steps : Ask → (c c′ : Controller) (d d′ : Device) (t t′ : List Place) (b : List ℕ) → Seen → Type 0
 Steps ask c c′ d d′ t t′ b x =
-    step (limitsOf c) (stateOf c d t) (record { ask = ask; buffer = b; tableLength = length t }) ≡ answering x (stateOf c′ d′ t′)
+    step (limitsOf c) (stateOf c d t) (record { ask = ask; buffer = b; tableLength = length t })
+    ≡ answering x (stateOf c′ d′ t′)
 
 -- The promise of every call that is lent a table and does not make a controller. It is about the controller, the device
 -- record and the table before and after the call, the buffer before it, and what its caller sees. A refusal leaves each

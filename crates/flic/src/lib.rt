@@ -26,7 +26,8 @@ pub extern "C" fn flic_make(
     t: &mut [Place],
     ais: bool,
 ) -> Answer
-    ensures { λ r. ⌜ Made paperLimits ais (now (c .entry)) (now (c .exit)) (now (d .entry)) (now (d .exit)) (now (t .entry)) (now (t .exit)) r ⌝ }
+    ensures { λ r. ⌜ Made paperLimits ais (now (c .entry)) (now (c .exit)) (now (d .entry)) (now (d .exit))
+        (now (t .entry)) (now (t .exit)) r ⌝ }
 {
     if t.len() != PLACES {
         return answers::refuse(EFAULT);
@@ -49,7 +50,8 @@ pub extern "C" fn flic_set(
     payload: &[u8],
 ) -> Answer
     requires { ⌜ Premise (now c) (now d) (now t) ⌝ }
-    ensures { λ r. ⌜ Requested (setAttr group attr) (now (c .entry)) (now (c .exit)) (now (d .entry)) (now (d .exit)) (now (t .entry)) (now (t .exit)) (now (payload .entry)) (saw r (now (payload .entry))) ⌝ }
+    ensures { λ r. ⌜ Requested (setAttr group attr) (now (c .entry)) (now (c .exit)) (now (d .entry)) (now (d .exit))
+        (now (t .entry)) (now (t .exit)) (now (payload .entry)) (saw r (now (payload .entry))) ⌝ }
 {
     if t.len() != PLACES {
         return answers::refuse(EFAULT);
@@ -112,7 +114,8 @@ pub extern "C" fn flic_get(
     out: &mut [u8],
 ) -> Answer
     requires { ⌜ Premise (now c) (now d) (now t) ⌝ }
-    ensures { λ r. ⌜ Requested (getAttr group attr) (now (c .entry)) (now (c .entry)) (now (d .entry)) (now (d .entry)) (now (t .entry)) (now (t .entry)) (now (out .entry)) (saw r (now (out .exit))) ⌝ }
+    ensures { λ r. ⌜ Requested (getAttr group attr) (now (c .entry)) (now (c .entry)) (now (d .entry)) (now (d .entry))
+        (now (t .entry)) (now (t .entry)) (now (out .entry)) (saw r (now (out .exit))) ⌝ }
 {
     if t.len() != PLACES {
         return answers::refuse(EFAULT);
@@ -141,7 +144,8 @@ pub extern "C" fn flic_take(
     out: &mut [u8],
 ) -> Answer
     requires { ⌜ Ready (now c) ⌝ }
-    ensures { λ r. ⌜ Taken subclasses external mcheck (now (c .entry)) (now (c .exit)) (now (out .entry)) (saw r (now (out .exit))) ⌝ }
+    ensures { λ r. ⌜ Taken subclasses external mcheck (now (c .entry)) (now (c .exit)) (now (out .entry))
+        (saw r (now (out .exit))) ⌝ }
 {
     record_take::take(
         &c.slots,
@@ -159,7 +163,8 @@ pub extern "C" fn flic_take(
 #[no_mangle]
 pub extern "C" fn flic_write_list(c: &Controller, d: &Device, t: &[Place], out: &mut [u8]) -> Answer
     requires { ⌜ Premise (now c) (now d) (now t) ⌝ }
-    ensures { λ r. ⌜ Requested writeList (now (c .entry)) (now (c .entry)) (now (d .entry)) (now (d .entry)) (now (t .entry)) (now (t .entry)) (now (out .entry)) (saw r (now (out .exit))) ⌝ }
+    ensures { λ r. ⌜ Requested writeList (now (c .entry)) (now (c .entry)) (now (d .entry)) (now (d .entry))
+        (now (t .entry)) (now (t .entry)) (now (out .entry)) (saw r (now (out .exit))) ⌝ }
 {
     if t.len() != PLACES {
         return answers::refuse(EFAULT);
@@ -187,7 +192,8 @@ pub extern "C" fn flic_play_list(
     list: &[u8],
 ) -> Answer
     requires { ⌜ Premise (now c) (now d) (now t) ⌝ }
-    ensures { λ r. ⌜ Requested playList (now (c .entry)) (now (c .exit)) (now (d .entry)) (now (d .exit)) (now (t .entry)) (now (t .exit)) (now (list .entry)) (saw r (now (list .entry))) ⌝ }
+    ensures { λ r. ⌜ Requested playList (now (c .entry)) (now (c .exit)) (now (d .entry)) (now (d .exit))
+        (now (t .entry)) (now (t .exit)) (now (list .entry)) (saw r (now (list .entry))) ⌝ }
 {
     if t.len() != PLACES {
         return answers::refuse(EFAULT);

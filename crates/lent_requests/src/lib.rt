@@ -1,4 +1,4 @@
-// Inner crate: the requests about an adapter's place and about the device record, on the lent table and the lent record.
+// Inner crate: the requests about an adapter's place and about the device record, on the lent table and record.
 // Proved by hand.
 ghost use mathlib.Core.Path.{_≡_};
 ghost use mathlib.Core.Bool.{true, false};
@@ -19,7 +19,8 @@ use numbers::IDS;
 // The device record after an accepted request about it.
 pub fn change_modes(d: &mut Device, group: u32, payload: &[u8])
     requires { ⌜ ModesAsked group (now payload) ⌝ }
-    ensures { λ _. ⌜ now (d .exit) ≡ deviceFrom (modesAfter group (now (payload .entry)) (deviceOf (now (d .entry)))) ⌝ }
+    ensures { λ _. ⌜ now (d .exit) ≡
+        deviceFrom (modesAfter group (now (payload .entry)) (deviceOf (now (d .entry)))) ⌝ }
 {
     if group == AISM {
         let m = adapter_requests::mode_in(payload);
@@ -34,9 +35,11 @@ pub fn change_modes(d: &mut Device, group: u32, payload: &[u8])
     lent_table::set_flag(d, group == APF_ENABLE);
 }
 
-// Changes the table for an accepted request; p is the new place. REGISTER stores it at the id, MODIFY sets its masked field.
+// Changes the table for an accepted request; p is the new place. REGISTER stores it at the id, MODIFY sets the masked
+// field of the place there.
 pub fn change_place(t: &mut [Place], id: AdapterId, group: u32, p: Place)
-    ensures { λ _. ⌜ now (t .exit) ≡ set (now (t .entry)) (id .0) (storedBy group p (getD (now (t .entry)) (id .0) unused)) ⌝ }
+    ensures { λ _. ⌜ now (t .exit) ≡ set (now (t .entry)) (id .0)
+        (storedBy group p (getD (now (t .entry)) (id .0) unused)) ⌝ }
 {
     if group == ADAPTER_REGISTER {
         lent_table::register(t, id, p);

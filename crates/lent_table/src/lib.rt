@@ -36,7 +36,8 @@ pub fn register(t: &mut [Place], id: AdapterId, p: Place)
 
 // Masks or unmasks the adapter at the id. With an id past the table's end nothing happens.
 pub fn mask(t: &mut [Place], id: AdapterId, on: bool)
-    ensures { λ _. ⌜ now (t .exit) ≡ set (now (t .entry)) (id .0) (withMasked on (getD (now (t .entry)) (id .0) unused)) ⌝ }
+    ensures { λ _. ⌜ now (t .exit) ≡ set (now (t .entry)) (id .0)
+        (withMasked on (getD (now (t .entry)) (id .0) unused)) ⌝ }
 {
     let i = id.0 as usize;
     if i < t.len() {

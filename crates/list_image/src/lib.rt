@@ -27,7 +27,8 @@ pub fn look_up(image: &[u64; PLACES], places: u64, id: AdapterId) -> Place
 // Stores p at an id below `places`. For any other id nothing changes.
 pub fn put(image: &mut [u64; PLACES], places: u64, id: AdapterId, p: Place)
     requires { ⌜ (places ≤ imageSize) × Imaged (now image) × Canonical p ⌝ }
-    ensures { λ _. ⌜ (take places (placesOf (now (image .exit))) ≡ set (take places (placesOf (now (image .entry)))) (id .0) (placeOf p)) × Imaged (now (image .exit)) ⌝ }
+    ensures { λ _. ⌜ (take places (placesOf (now (image .exit)))
+        ≡ set (take places (placesOf (now (image .entry)))) (id .0) (placeOf p)) × Imaged (now (image .exit)) ⌝ }
 {
     if id.0 < places {
         let i = id.0 as usize;

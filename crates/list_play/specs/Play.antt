@@ -20,7 +20,8 @@ use Rattle.calls.specs.Inner.{limitsFrom, imageState, SetTo}
 use Rattle.list_play.specs.declared.Played.{Played}
 
 -- the request of a table entry of the list b, from the values before it to those after it
-abbrev pub SetByEntry : (places room : ℕ) → Bool → (b : List ℕ) → TableEntry → (image : List ℕ) → Pending → Device → (image′ : List ℕ) → Pending → Ran → Type 0
+abbrev pub SetByEntry : (places room : ℕ) → Bool → (b : List ℕ) → TableEntry → (image : List ℕ) → Pending → Device
+    → (image′ : List ℕ) → Pending → Ran → Type 0
 SetByEntry places room ais b e image p d image′ p′ r =
     SetTo places room ais (e .group) (e .attr) (part (e .at) (e .size) b) image p d image′ p′ r
 
@@ -30,15 +31,17 @@ unfoldable pub ranTo : Answer → State → Outcome State
 ranTo a next = choose (eqb (a .code) 0) (accept (a .count) next []) (reset (a .code) (a .count))
 
 -- all requests of the list b
-abbrev pub SetByEntries : (places room : ℕ) → Bool → (b image : List ℕ) → Pending → Device → (image′ : List ℕ) → Pending → Ran → Type 0
+abbrev pub SetByEntries : (places room : ℕ) → Bool → (b image : List ℕ) → Pending → Device → (image′ : List ℕ) → Pending
+    → Ran → Type 0
 SetByEntries places room ais b image p d image′ p′ r =
     applies (limitsFrom places room) 0 (imageState ais places image p d) (requestsIn b (slotsOf b))
     ≡ ranTo (r .answer) (imageState ais places image′ p′ (r .device))
 
--- A list that is played. Where its form is refused the state stays; otherwise the controller was made fresh, and its next
--- state is that of the image, the pending records and the device record.
+-- A list that is played. Where its form is refused the state stays; otherwise the controller was made fresh, and its
+-- next state is that of the image, the pending records and the device record.
 pub record PlayedTo (places room : ℕ) (ais : Bool) (b image′ : List ℕ) (p′ : Pending) (r : Played) : Type 0 where
   pub answer : (L : Limits) (s : State) → L .places ≡ places → L .room ≡ room → s .ais ≡ ais
       → Answers L s b (plays L s b) (r .answer) (choose (r .fresh) (imageState ais places image′ p′ (r .device)) s) b
   pub canonical : AllCanonical (take places image′)
-  pub refused : (L : Limits) (s : State) → s .ais ≡ ais → (code count : ℕ) → plays L s b ≡ refuseWith code count → r .fresh ≡ false
+  pub refused : (L : Limits) (s : State) → s .ais ≡ ais → (code count : ℕ) → plays L s b ≡ refuseWith code count
+      → r .fresh ≡ false

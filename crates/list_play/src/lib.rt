@@ -36,8 +36,9 @@ fn apply_at(
 ) -> Ran
     requires { ⌜ (room ≤ slotCount) × (places ≤ imageSize) × Held (now order) (now counts) × Imaged (now image)
         × Formed (now list) × (place < countIn (now list)) ⌝ }
-    ensures { λ r. ⌜ SetByEntry places room ais (now (list .entry)) (slotAt place (now (list .entry))) (now (image .entry))
-        (before order counts slots singles) device (now (image .exit)) (after order counts slots singles) r ⌝ }
+    ensures { λ r. ⌜ SetByEntry places room ais (now (list .entry)) (slotAt place (now (list .entry)))
+        (now (image .entry)) (before order counts slots singles) device
+        (now (image .exit)) (after order counts slots singles) r ⌝ }
     ensures held { λ _. ⌜ HeldAfter order counts × Imaged (now (image .exit)) ⌝ }
 {
     let e = 20 + 24 * place;
@@ -77,8 +78,8 @@ fn apply_all(
 ) -> Ran
     requires { ⌜ (room ≤ slotCount) × (places ≤ imageSize) × Held (now order) (now counts) × Imaged (now image)
         × Formed (now list) × (count ≡ countIn (now list)) ⌝ }
-    ensures { λ r. ⌜ SetByEntries places room ais (now (list .entry)) (now (image .entry)) (before order counts slots singles)
-        device (now (image .exit)) (after order counts slots singles) r ⌝ }
+    ensures { λ r. ⌜ SetByEntries places room ais (now (list .entry)) (now (image .entry))
+        (before order counts slots singles) device (now (image .exit)) (after order counts slots singles) r ⌝ }
     ensures held { λ _. ⌜ HeldAfter order counts × Imaged (now (image .exit)) ⌝ }
 {
     let mut d = device;
@@ -120,8 +121,8 @@ pub struct Played {
     pub fresh: bool,
 }
 
-// Plays a move list. The image is one of unused places. A refusal of form changes nothing. A refusal part-way leaves the
-// controller fresh.
+// Plays a move list. The image is one of unused places. A refusal of form changes nothing. A refusal part-way leaves
+// the controller fresh.
 pub fn play_list(
     slots: &mut [u8; SLOT_BYTES],
     order: &mut [u8; ORDER_BYTES],
@@ -135,7 +136,8 @@ pub fn play_list(
 ) -> Played
     requires { ⌜ (room ≤ slotCount) × (places ≤ imageSize) × Held (now order) (now counts)
         × (now image ≡ replicate imageSize 0) ⌝ }
-    ensures { λ r. ⌜ PlayedTo places room ais (now (list .entry)) (now (image .exit)) (after order counts slots singles) r
+    ensures { λ r. ⌜ PlayedTo places room ais (now (list .entry)) (now (image .exit))
+        (after order counts slots singles) r
         × (HeldAfter order counts × (r .fresh ≡ false → Stays slots × Stays order × Stays counts × Stays singles)) ⌝ }
 {
     let code = list_form::form(list, ais);

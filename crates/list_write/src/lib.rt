@@ -12,7 +12,8 @@ ghost use Rattle.rules.specs.State.{Record, recordBytes, listing};
 ghost use Rattle.rules.specs.Requests.{nonZero};
 ghost use Rattle.store_queues.specs.Queues.{Held};
 ghost use Rattle.store.specs.Memory.{pendingOf};
-ghost use Rattle.list_write.specs.Write.{otherEntries, entriesFrom, otherCount, countOf, bytesOf, mostEntries, mostPayload, Counted, WholeListing, Written};
+ghost use Rattle.list_write.specs.Write.{otherEntries, entriesFrom, otherCount, countOf, bytesOf, mostEntries};
+ghost use Rattle.list_write.specs.Write.{mostPayload, Counted, WholeListing, Written};
 ghost use Rattle.store_queues.specs.Slots.{mostPending};
 ghost use Rattle.store.specs.Lent.{before};
 use adapters::Device;
@@ -122,8 +123,10 @@ pub fn count(image: &[u64; PLACES], modify: bool) -> usize
 
 // The table entries of the adapters, by rising id; the first payload begins at pay.
 pub fn put_slots(out: &mut [u8], at: usize, pay: usize, image: &[u64; PLACES], modify: bool)
-    requires { ⌜ (length (now image) ≡ imageSize) × (pay ≤ 65536) × (at + tableEntryBytes * length (each modify (now image)) ≤ length (now out)) ⌝ }
-    ensures { λ _. ⌜ now (out .exit) ≡ put (now (out .entry)) at (writtenTable pay (each modify (now (image .entry)))) ⌝ }
+    requires { ⌜ (length (now image) ≡ imageSize) × (pay ≤ 65536)
+        × (at + tableEntryBytes * length (each modify (now image)) ≤ length (now out)) ⌝ }
+    ensures { λ _. ⌜ now (out .exit) ≡ put (now (out .entry)) at
+        (writtenTable pay (each modify (now (image .entry)))) ⌝ }
 {
     let group = group_of(modify);
     let size = size_of(modify) as u64;
@@ -141,7 +144,8 @@ pub fn put_slots(out: &mut [u8], at: usize, pay: usize, image: &[u64; PLACES], m
 
 // The payloads of the adapters' entries, by rising id.
 pub fn put_adapter_payloads(out: &mut [u8], at: usize, image: &[u64; PLACES], modify: bool)
-    requires { ⌜ (length (now image) ≡ imageSize) × (at + sizeOf modify * length (each modify (now image)) ≤ length (now out)) ⌝ }
+    requires { ⌜ (length (now image) ≡ imageSize)
+        × (at + sizeOf modify * length (each modify (now image)) ≤ length (now out)) ⌝ }
     ensures { λ _. ⌜ now (out .exit) ≡ put (now (out .entry)) at (payloads (each modify (now (image .entry)))) ⌝ }
 {
     let mut a = at;
@@ -196,8 +200,10 @@ fn payload_bytes(p: Parts) -> usize
 
 // The table entries of ENQUEUE, AISM_ALL and APF_ENABLE, the first payload at pay.
 fn put_others(out: &mut [u8], at: usize, pay: usize, p: Parts)
-    requires { ⌜ (p .records ≤ mostPending) × (pay ≤ payloadOffset mostEntries + mostPayload) × (at + tableEntryBytes * otherCount p ≤ length (now out)) ⌝ }
-    ensures { λ _. ⌜ ((rs : List Record) (simm nimm : ℕ) → WholeListing rs (p .records) → now (out .exit) ≡ put (now (out .entry)) at (writtenTable pay (otherEntries rs (p .masks) simm nimm (p .apf)))) ⌝ }
+    requires { ⌜ (p .records ≤ mostPending) × (pay ≤ payloadOffset mostEntries + mostPayload)
+        × (at + tableEntryBytes * otherCount p ≤ length (now out)) ⌝ }
+    ensures { λ _. ⌜ ((rs : List Record) (simm nimm : ℕ) → WholeListing rs (p .records) → now (out .exit) ≡
+        put (now (out .entry)) at (writtenTable pay (otherEntries rs (p .masks) simm nimm (p .apf)))) ⌝ }
 {
     let queued = 0 < p.records;
     let bytes = 72 * p.records;
@@ -211,8 +217,11 @@ fn put_others(out: &mut [u8], at: usize, pay: usize, p: Parts)
 
 // The table, its first payload at start.
 fn put_table(out: &mut [u8], start: usize, image: &[u64; PLACES], p: Parts)
-    requires { ⌜ Counted (now image) p × (start ≤ payloadOffset mostEntries) × (headerBytes + tableEntryBytes * countOf p ≤ length (now out)) ⌝ }
-    ensures { λ _. ⌜ ((rs : List Record) (simm nimm : ℕ) → WholeListing rs (p .records) → now (out .exit) ≡ put (now (out .entry)) headerBytes (writtenTable start (entriesFrom (now (image .entry)) rs (p .masks) simm nimm (p .apf)))) ⌝ }
+    requires { ⌜ Counted (now image) p × (start ≤ payloadOffset mostEntries)
+        × (headerBytes + tableEntryBytes * countOf p ≤ length (now out)) ⌝ }
+    ensures { λ _. ⌜ ((rs : List Record) (simm nimm : ℕ) → WholeListing rs (p .records) → now (out .exit) ≡
+        put (now (out .entry)) headerBytes
+        (writtenTable start (entriesFrom (now (image .entry)) rs (p .masks) simm nimm (p .apf)))) ⌝ }
 {
     put_slots(out, 20, start, image, false);
     let at = 20 + 24 * p.registers;
@@ -231,8 +240,11 @@ fn put_listing(
     at: usize,
     n: usize,
 )
-    requires { ⌜ Held (now order) (now counts) × WholeListing (listing (pendingOf (now order) (now counts) (now slots) (now singles))) n × (at + recordBytes * n ≤ length (now out)) ⌝ }
-    ensures { λ _. ⌜ now (out .exit) ≡ put (now (out .entry)) at (flatten (listing (before order counts slots singles))) ⌝ }
+    requires { ⌜ Held (now order) (now counts)
+        × WholeListing (listing (pendingOf (now order) (now counts) (now slots) (now singles))) n
+        × (at + recordBytes * n ≤ length (now out)) ⌝ }
+    ensures { λ _. ⌜ now (out .exit) ≡ put (now (out .entry)) at
+        (flatten (listing (before order counts slots singles))) ⌝ }
 {
     record_take::list_all(slots, order, counts, singles, &mut out[at..]);
 }
@@ -259,8 +271,12 @@ fn put_payloads(
     device: Device,
     p: Parts,
 )
-    requires { ⌜ Held (now order) (now counts) × Counted (now image) p × WholeListing (listing (pendingOf (now order) (now counts) (now slots) (now singles))) (p .records) × (start ≤ payloadOffset mostEntries) × (start + bytesOf p ≤ length (now out)) ⌝ }
-    ensures { λ _. ⌜ now (out .exit) ≡ put (now (out .entry)) start (payloads (entriesFrom (now (image .entry)) (listing (before order counts slots singles)) (p .masks) (device .simm) (device .nimm) (p .apf))) ⌝ }
+    requires { ⌜ Held (now order) (now counts) × Counted (now image) p
+        × WholeListing (listing (pendingOf (now order) (now counts) (now slots) (now singles))) (p .records)
+        × (start ≤ payloadOffset mostEntries) × (start + bytesOf p ≤ length (now out)) ⌝ }
+    ensures { λ _. ⌜ now (out .exit) ≡ put (now (out .entry)) start
+        (payloads (entriesFrom (now (image .entry)) (listing (before order counts slots singles))
+        (p .masks) (device .simm) (device .nimm) (p .apf))) ⌝ }
 {
     put_adapter_payloads(out, start, image, false);
     let mut at = start + 8 * p.registers;
@@ -283,7 +299,8 @@ pub fn write_list(
     out: &mut [u8],
 ) -> Answer
     requires { ⌜ Held (now order) (now counts) × (length (now image) ≡ imageSize) ⌝ }
-    ensures { λ r. ⌜ Written ais device (now (image .entry)) (before order counts slots singles) (now (out .entry)) (now (out .exit)) r ⌝ }
+    ensures { λ r. ⌜ Written ais device (now (image .entry)) (before order counts slots singles) (now (out .entry))
+        (now (out .exit)) r ⌝ }
 {
     let p = Parts {
         registers: count(image, false),

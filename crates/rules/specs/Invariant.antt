@@ -7,7 +7,8 @@ use mathlib.Core.Bool.{Bool, true, false}
 use mathlib.Core.Option.{Option, none, some}
 use mathlib.Core.List.{List, [], _∷_}
 use lib.ListN.{length}
-use Rattle.rules.specs.State.{Limits, Adapter, Place, free, holds, Record, recordBytes, Pending, State, fresh, Kind, kind, subclass, queued, listing}
+use Rattle.rules.specs.State.{Limits, Adapter, Place, free, holds, Record, recordBytes, Pending, State, fresh}
+use Rattle.rules.specs.State.{Kind, kind, subclass, queued, listing}
 use Rattle.rules.specs.Machine.{Call, after}
 
 -- `All P`: P holds of every element of a list. `Maybe P`: P holds of what an option has. `A × B` says both A and B, and

@@ -63,7 +63,8 @@ ofIo Kind.other w = ascii "-"
 -- The line of a record: place from 0; kind; subclass; type; interruption word. The last two have eight hex digits.
 unfoldable pub recordLine : ℕ → Record → List ℕ
 recordLine place r =
-    line (decimal place ∷ name (kind r) ∷ ofIo (kind r) (decimal (subclass r)) ∷ hex8 (field 0 8 r) ∷ ofIo (kind r) (hex8 (interruptionWord r)) ∷ [])
+    line (decimal place ∷ name (kind r) ∷ ofIo (kind r) (decimal (subclass r)) ∷ hex8 (field 0 8 r)
+    ∷ ofIo (kind r) (hex8 (interruptionWord r)) ∷ [])
 
 -- The lines of records; the first has the place given.
 unfoldable pub linesFrom : ℕ → List Record → List ℕ
@@ -94,4 +95,5 @@ mostBytes = 65536
 -- What the program prints for an input. More than 65,536 bytes are answered as code 7.
 unfoldable pub printed : List ℕ → List ℕ
 printed b =
-    choose (ltb mostBytes (length b)) (refusal E2BIG) (told (answerOf paperLimits (freshFor b) b (plays paperLimits (freshFor b) b)))
+    choose (ltb mostBytes (length b)) (refusal E2BIG)
+    (told (answerOf paperLimits (freshFor b) b (plays paperLimits (freshFor b) b)))

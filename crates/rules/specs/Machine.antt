@@ -27,9 +27,12 @@ pub record Call : Type 0 where
 
 -- 'Codes and the order of checks': the adapter table is checked first (14), except at a take.
 unfoldable pub outcome : Limits → State → Ask → ℕ → List ℕ → Outcome State
-outcome L s (setAttr group attr) tableLength b = need eqb tableLength (L .places) else EFAULT ⨾ request L s (setRequest group) attr b
-outcome L s (getAttr group attr) tableLength b = need eqb tableLength (L .places) else EFAULT ⨾ request L s (getRequest group) attr b
-outcome L s (guestTake subclasses externalAllowed mchkAllowed) tableLength b = takes s subclasses externalAllowed mchkAllowed b
+outcome L s (setAttr group attr) tableLength b =
+    need eqb tableLength (L .places) else EFAULT ⨾ request L s (setRequest group) attr b
+outcome L s (getAttr group attr) tableLength b =
+    need eqb tableLength (L .places) else EFAULT ⨾ request L s (getRequest group) attr b
+outcome L s (guestTake subclasses externalAllowed mchkAllowed) tableLength b =
+    takes s subclasses externalAllowed mchkAllowed b
 outcome L s writeList tableLength b = need eqb tableLength (L .places) else EFAULT ⨾ writes s b
 outcome L s playList tableLength b = need eqb tableLength (L .places) else EFAULT ⨾ plays L s b
 

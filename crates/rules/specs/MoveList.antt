@@ -6,7 +6,8 @@ use lib.ListN.{length, drop, replicate}
 use lib.Dec.{leb, eqb}
 use Rattle.rules.specs.Bytes.{choose, bytes, part, field}
 use Rattle.rules.specs.State.{Limits, Adapter, Place, free, holds, Record, recordBytes, State, fresh, listing}
-use Rattle.rules.specs.Outcome.{EINVAL, EOPNOTSUPP, EFAULT, ENOMEM, E2BIG, Outcome, refuseWith, accept, resetWith, reset, need_else_⨾_}
+use Rattle.rules.specs.Outcome.{EINVAL, EOPNOTSUPP, EFAULT, ENOMEM, E2BIG}
+use Rattle.rules.specs.Outcome.{Outcome, refuseWith, accept, resetWith, reset, need_else_⨾_}
 use Rattle.rules.specs.Requests.{isZero, nonZero, setRequest, request}
 
 -- A request of a list with its payload. It is always a set.
@@ -37,7 +38,8 @@ registerRequest id x =
 
 -- Written second: MODIFY type 1 for each masked adapter by rising id (mask 1, unread bytes 0).
 unfoldable pub modifyRequest : ℕ → Adapter → List ListRequest
-modifyRequest id x = choose (x .masked) (record { group = 7; attr = 0; payload = bytes 4 id ++ (1 ∷ 1 ∷ replicate 10 0) } ∷ []) []
+modifyRequest id x =
+    choose (x .masked) (record { group = 7; attr = 0; payload = bytes 4 id ++ (1 ∷ 1 ∷ replicate 10 0) } ∷ []) []
 
 -- Written third: one ENQUEUE of the whole listing, if any. Its attribute is the length; the other requests have 0.
 unfoldable pub enqueueRequest : List Record → List ListRequest
@@ -59,7 +61,8 @@ unfoldable pub listRequests : State → List ListRequest
 listRequests s =
     byRisingId registerRequest 0 (s .adapters)
     ++ (byRisingId modifyRequest 0 (s .adapters)
-    ++ (enqueueRequest (listing (s .pending)) ++ (aismAllRequest (s .ais) (s .device .simm) (s .device .nimm) ++ apfRequest (s .device .apf))))
+    ++ (enqueueRequest (listing (s .pending))
+    ++ (aismAllRequest (s .ais) (s .device .simm) (s .device .nimm) ++ apfRequest (s .device .apf))))
 
 -- The header has five 4-byte numbers: total length, request count, table offset (20), payload offset (20 + 24 x count),
 -- flag (AIS capability 0 or 1). A table entry has 24 bytes: payload offset, group, payload length, zero (4 each),
@@ -79,7 +82,8 @@ payloads (e ∷ es) = e .payload ++ payloads es
 unfoldable pub writtenTable : ℕ → List ListRequest → List ℕ
 writtenTable at [] = []
 writtenTable at (e ∷ es) =
-    bytes 4 at ++ (bytes 4 (e .group) ++ (bytes 4 (length (e .payload)) ++ (bytes 4 0 ++ (bytes 8 (e .attr) ++ writtenTable (at + length (e .payload)) es))))
+    bytes 4 at ++ (bytes 4 (e .group) ++ (bytes 4 (length (e .payload)) ++ (bytes 4 0 ++ (bytes 8 (e .attr)
+    ++ writtenTable (at + length (e .payload)) es))))
 
 -- The payload offset of a list of so many requests.
 abbrev pub payloadOffset : ℕ → ℕ
@@ -92,7 +96,8 @@ total es = payloadOffset (length es) + length (payloads es)
 -- The bytes of a move list: header, table, payloads.
 unfoldable pub moveList : Bool → List ListRequest → List ℕ
 moveList ais es =
-    bytes 4 (total es) ++ (bytes 4 (length es) ++ (bytes 4 headerBytes ++ (bytes 4 (payloadOffset (length es)) ++ (bytes 4 (oneIf ais)
+    bytes 4 (total es) ++ (bytes 4 (length es) ++ (bytes 4 headerBytes
+    ++ (bytes 4 (payloadOffset (length es)) ++ (bytes 4 (oneIf ais)
     ++ (writtenTable (payloadOffset (length es)) es ++ payloads es)))))
 
 -- Writing: the list is written from the buffer's start; count: its length. Bytes after it stay. 12 where the buffer is
@@ -127,7 +132,8 @@ pub record TableEntry : Type 0 where
   pub attr : ℕ
 
 abbrev pub tableEntryIn : List ℕ → TableEntry
-tableEntryIn b = record { at = field 0 4 b; group = field 4 4 b; size = field 8 4 b; zeroWord = field 12 4 b; attr = field 16 8 b }
+tableEntryIn b =
+    record { at = field 0 4 b; group = field 4 4 b; size = field 8 4 b; zeroWord = field 12 4 b; attr = field 16 8 b }
 
 -- So many table entries.
 unfoldable pub tableEntriesIn : ℕ → List ℕ → List TableEntry
@@ -143,12 +149,14 @@ movable group = eqb group 2 || (eqb group 4 || (eqb group 6 || (eqb group 7 || e
 -- check of the last end. No offset can wrap, because numbers have no bound.)
 unfoldable pub formed : ℕ → ℕ → List TableEntry → Bool
 formed end at [] = eqb at end
-formed end at (e ∷ es) = eqb (e .at) at && (isZero (e .zeroWord) && (movable (e .group) && formed end (at + e .size) es))
+formed end at (e ∷ es) =
+    eqb (e .at) at && (isZero (e .zeroWord) && (movable (e .group) && formed end (at + e .size) es))
 
 -- The requests that well-formed table entries stand for.
 unfoldable pub requestsIn : List ℕ → List TableEntry → List ListRequest
 requestsIn b [] = []
-requestsIn b (e ∷ es) = record { group = e .group; attr = e .attr; payload = part (e .at) (e .size) b } ∷ requestsIn b es
+requestsIn b (e ∷ es) =
+    record { group = e .group; attr = e .attr; payload = part (e .at) (e .size) b } ∷ requestsIn b es
 
 -- The first refused request ends the list, with its code and its place, counted from 0.
 unfoldable pub onward : Outcome State → ℕ → (State → Outcome State) → Outcome State
@@ -160,7 +168,8 @@ onward (resetWith code at further) place rest = reset code place
 -- The requests are applied one after another; the first of them has the place given. Count: the number applied.
 unfoldable pub applies : Limits → ℕ → State → List ListRequest → Outcome State
 applies L place s [] = accept place s []
-applies L place s (e ∷ es) = onward (request L s (setRequest (e .group)) (e .attr) (e .payload)) place (λ t. applies L (suc place) t es)
+applies L place s (e ∷ es) =
+    onward (request L s (setRequest (e .group)) (e .attr) (e .payload)) place (λ t. applies L (suc place) t es)
 
 -- The most requests of a played list: 64 REGISTER, 64 MODIFY, and one each of ENQUEUE, AISM_ALL and APF_ENABLE are
 -- 64 + 64 + 3. It is a number of its own and does not follow the limits.
@@ -176,7 +185,8 @@ plays L s b =
     need eqb (totalIn b) (length b) else EINVAL ⨾
     need leb (aisFlagIn b) 1 else EINVAL ⨾
     need leb (countIn b) mostRequests else E2BIG ⨾
-    need eqb (tableOffsetIn b) headerBytes && (eqb (payloadOffsetIn b) (payloadOffset (countIn b)) && leb (payloadOffsetIn b) (length b)) else EINVAL ⨾
+    need eqb (tableOffsetIn b) headerBytes && (eqb (payloadOffsetIn b) (payloadOffset (countIn b))
+    && leb (payloadOffsetIn b) (length b)) else EINVAL ⨾
     need formed (length b) (payloadOffsetIn b) (tableEntriesIn (countIn b) (drop headerBytes b)) else EINVAL ⨾
     need eqb (aisFlagIn b) (oneIf (s .ais)) else EOPNOTSUPP ⨾
     applies L 0 (fresh L (s .ais)) (requestsIn b (tableEntriesIn (countIn b) (drop headerBytes b)))

@@ -8,13 +8,17 @@ use mathlib.Core.List.{List, [], _∷_, _++_, flatten}
 use lib.ListN.{length, getD, take, drop, replicate}
 use lib.Dec.{leb, ltb, eqb}
 use Rattle.rules.specs.Bytes.{choose, bytes, byte, field}
-use Rattle.rules.specs.State.{Limits, Adapter, Place, free, holds, Record, recordBytes, State, nothing, withPending, withDevice, withAdapter, hasBit, withBit, withoutBit, Kind, kind, subchannelId, subchannelNumber, addIo, addAll, queued, listing}
-use Rattle.rules.specs.Outcome.{EINVAL, EOPNOTSUPP, EFAULT, ENOMEM, EBUSY, Outcome, refuse, accept, need_else_⨾_, present_else_⨾_}
+use Rattle.rules.specs.State.{Limits, Adapter, Place, free, holds, Record, recordBytes, State, nothing}
+use Rattle.rules.specs.State.{withPending, withDevice, withAdapter, hasBit, withBit, withoutBit, Kind, kind}
+use Rattle.rules.specs.State.{subchannelId, subchannelNumber, addIo, addAll, queued, listing}
+use Rattle.rules.specs.Outcome.{EINVAL, EOPNOTSUPP, EFAULT, ENOMEM, EBUSY}
+use Rattle.rules.specs.Outcome.{Outcome, refuse, accept, need_else_⨾_, present_else_⨾_}
 
 -- The requests, by group number and direction. A group that is unknown, or whose direction (set or get) is wrong for
 -- it, is no request.
 pub data Request : Type 0 where
-  noRequest getAllIrqs enqueue clearIrqs apfEnable apfDisableWait adapterRegister adapterModify clearIoIrq aism airqInject setAismAll getAismAll : Request
+  noRequest getAllIrqs enqueue clearIrqs apfEnable apfDisableWait adapterRegister adapterModify : Request
+  clearIoIrq aism airqInject setAismAll getAismAll : Request
 
 -- What is asked by a set of group 0, 1, 2 and so on.
 abbrev pub setGroups : List Request
@@ -157,7 +161,8 @@ adapterIn b =
 
 -- The adapter, masked or unmasked.
 abbrev pub withMask : Bool → Adapter → Adapter
-withMask on x = record { isc = x .isc; maskable = x .maskable; swap = x .swap; suppressible = x .suppressible; masked = on }
+withMask on x =
+    record { isc = x .isc; maskable = x .maskable; swap = x .swap; suppressible = x .suppressible; masked = on }
 
 -- 7 ADAPTER_MODIFY: type 1 masks (mask not 0) or unmasks; types 2 and 3 (MAP, UNMAP) do nothing (000); count: 0.
 -- Refused: id above 63, free id, type not 1 to 3, type 1 on an unmaskable adapter.
@@ -200,7 +205,8 @@ withoutFirst f (q ∷ qs) = orIn (without f q) q qs (withoutFirst f qs)
 unfoldable pub removes : State → Option (List (List Record)) → Outcome State
 removes s none = accept 0 s []
 removes s (some qs) =
-    accept 1 (withPending (record { io = qs; done = s .pending .done; service = s .pending .service; mchk = s .pending .mchk }) s) []
+    accept 1
+    (withPending (record { io = qs; done = s .pending .done; service = s .pending .service; mchk = s .pending .mchk }) s) []
 
 -- 8 CLEAR_IO_IRQ: the first I/O record in listing order that has both subchannel id and number is removed; count: 0 or
 -- 1. None: code 0, count 0. Word 0, which is id 0 and number 0, is refused (000, last note).
@@ -219,7 +225,8 @@ unfoldable pub setsMode : State → ℕ → ℕ → Outcome State
 setsMode s isc mode =
     need leb isc 7 else EINVAL ⨾
     need leb mode 1 else EINVAL ⨾
-    accept 0 (withMasks (choose (eqb mode 0) (withoutBit isc (s .device .simm)) (withBit isc (s .device .simm))) (withoutBit isc (s .device .nimm)) s) []
+    accept 0 (withMasks (choose (eqb mode 0) (withoutBit isc (s .device .simm)) (withBit isc (s .device .simm)))
+    (withoutBit isc (s .device .nimm)) s) []
 
 -- For 10 AIRQ_INJECT: there is AIS capability, the adapter is suppressible, and the bit of its subclass is set in a
 -- mask.
@@ -230,14 +237,16 @@ underAis s x mask = s .ais && (x .suppressible && hasBit (x .isc) mask)
 -- subclass x 2^27, rest 0.
 abbrev pub adapterInterrupt : ℕ → Record
 adapterInterrupt isc =
-    bytes 8 0x04000000 ++ (bytes 2 0 ++ (bytes 2 0 ++ (bytes 4 0 ++ (bytes 4 (0x80000000 + isc * 2 ^ 27) ++ replicate 52 0))))
+    bytes 8 0x04000000 ++ (bytes 2 0 ++ (bytes 2 0 ++ (bytes 4 0
+    ++ (bytes 4 (0x80000000 + isc * 2 ^ 27) ++ replicate 52 0))))
 
 -- The record is appended. Then the nimm bit is set, if there is AIS capability, the adapter is suppressible and the
 -- simm bit is set.
 unfoldable pub injected : State → Adapter → State
 injected s x =
     withPending (addIo (x .isc) (adapterInterrupt (x .isc)) (s .pending))
-    (withMasks (s .device .simm) (choose (underAis s x (s .device .simm)) (withBit (x .isc) (s .device .nimm)) (s .device .nimm)) s)
+    (withMasks (s .device .simm)
+    (choose (underAis s x (s .device .simm)) (withBit (x .isc) (s .device .nimm)) (s .device .nimm)) s)
 
 -- 10 AIRQ_INJECT: code 0, count 0 and no change, if the adapter is masked, or if there is AIS capability, the adapter
 -- is suppressible and its nimm bit is set. Otherwise the record is appended; count: 1. Refused: id above 63, free id;

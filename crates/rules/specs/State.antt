@@ -88,7 +88,8 @@ withDevice d s = record { ais = s .ais; adapters = s .adapters; pending = s .pen
 
 -- The state with another adapter at an id.
 abbrev pub withAdapter : ℕ → Adapter → State → State
-withAdapter id x s = record { ais = s .ais; adapters = set (s .adapters) id (holds x); pending = s .pending; device = s .device }
+withAdapter id x s =
+    record { ais = s .ais; adapters = set (s .adapters) id (holds x); pending = s .pending; device = s .device }
 
 -- Subclass n, 0 to 7, is the bit 128 / 2^n of a mask (000: MSB0 bit 0 to ISC 0 and so on). `bit` is used for no other
 -- n.
@@ -139,12 +140,18 @@ subclass r = interruptionWord r / 2 ^ 27 % 8
 -- After the type a machine check has: cr14 (8), mcic (8), further fields. A second machine check adds its cr14 and mcic
 -- bits to the first one by OR. The first one's other bytes stay.
 unfoldable pub merged : Record → Record → Record
-merged first second = take 8 first ++ (zipWith bitOr (take 16 (drop 8 first)) (take 16 (drop 8 second)) ++ drop 24 first)
+merged first second =
+    take 8 first ++ (zipWith bitOr (take 16 (drop 8 first)) (take 16 (drop 8 second)) ++ drop 24 first)
 
 -- Adding a record. An I/O record goes to the end of the queue of its subclass.
 unfoldable pub addIo : ℕ → Record → Pending → Pending
 addIo isc r p =
-    record { io = set (p .io) isc (getD (p .io) isc [] ++ (r ∷ [])); done = p .done; service = p .service; mchk = p .mchk }
+    record {
+      io = set (p .io) isc (getD (p .io) isc [] ++ (r ∷ []));
+      done = p .done;
+      service = p .service;
+      mchk = p .mchk;
+    }
 
 -- The service record that is pending after r came. A second one is accepted and dropped.
 abbrev pub firstOr : Option Record → Record → Record

@@ -23,17 +23,20 @@ orElse (some a) later = some a
 -- The machine check is handed out, where there is one.
 abbrev pub handMchk : Pending → Option Record → Option (Handed Pending)
 handMchk p none = none
-handMchk p (some r) = some (record { given = r; left = record { io = p .io; done = p .done; service = p .service; mchk = none } })
+handMchk p (some r) =
+    some (record { given = r; left = record { io = p .io; done = p .done; service = p .service; mchk = none } })
 
 -- The service record is handed out, where there is one.
 abbrev pub handService : Pending → Option Record → Option (Handed Pending)
 handService p none = none
-handService p (some r) = some (record { given = r; left = record { io = p .io; done = p .done; service = none; mchk = p .mchk } })
+handService p (some r) =
+    some (record { given = r; left = record { io = p .io; done = p .done; service = none; mchk = p .mchk } })
 
 -- The oldest page fault done is handed out, where there is one.
 abbrev pub handDone : Pending → List Record → Option (Handed Pending)
 handDone p [] = none
-handDone p (r ∷ q) = some (record { given = r; left = record { io = p .io; done = q; service = p .service; mchk = p .mchk } })
+handDone p (r ∷ q) =
+    some (record { given = r; left = record { io = p .io; done = q; service = p .service; mchk = p .mchk } })
 
 -- A queue that nothing is taken from stays in front of what is left of the others.
 abbrev pub keep : List Record → Option (Handed (List (List Record))) → Option (Handed (List (List Record)))
@@ -46,13 +49,15 @@ unfoldable pub firstAllowed : ℕ → ℕ → List (List Record) → Option (Han
 firstAllowed n allowed [] = none
 firstAllowed n allowed ([] ∷ qs) = keep [] (firstAllowed (suc n) allowed qs)
 firstAllowed n allowed ((r ∷ q) ∷ qs) =
-    choose (hasBit n allowed) (some (record { given = r; left = q ∷ qs })) (keep (r ∷ q) (firstAllowed (suc n) allowed qs))
+    choose (hasBit n allowed) (some (record { given = r; left = q ∷ qs }))
+    (keep (r ∷ q) (firstAllowed (suc n) allowed qs))
 
 -- That record and the pending records without it.
 abbrev pub handIo : Pending → Option (Handed (List (List Record))) → Option (Handed Pending)
 handIo p none = none
 handIo p (some h) =
-    some (record { given = h .given; left = record { io = h .left; done = p .done; service = p .service; mchk = p .mchk } })
+    some
+    (record { given = h .given; left = record { io = h .left; done = p .done; service = p .service; mchk = p .mchk } })
 
 -- The first allowed of: machine check, service, oldest page fault done, I/O. Service and page fault are external.
 unfoldable pub handed : Pending → ℕ → Bool → Bool → Option (Handed Pending)

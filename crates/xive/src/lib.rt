@@ -31,7 +31,8 @@ pub extern "C" fn xive_initialise(
     number: u64,
     payload: &[u8],
 ) -> Answer
-    ensures { λ r. ⌜ Called (initialise number) (now (sources .entry)) (now (sources .exit)) (now (payload .entry)) (saw r (now (payload .entry))) ⌝ }
+    ensures { λ r. ⌜ Called (initialise number) (now (sources .entry)) (now (sources .exit)) (now (payload .entry))
+        (saw r (now (payload .entry))) ⌝ }
 {
     if payload.len() < WORD_BYTES {
         return answers::refuse(EFAULT);
@@ -51,7 +52,8 @@ pub extern "C" fn xive_initialise(
 // Targets an initialised source, or targets it again.
 #[no_mangle]
 pub extern "C" fn xive_target(sources: &mut [u64; SOURCES], number: u64, payload: &[u8]) -> Answer
-    ensures { λ r. ⌜ Called (target number) (now (sources .entry)) (now (sources .exit)) (now (payload .entry)) (saw r (now (payload .entry))) ⌝ }
+    ensures { λ r. ⌜ Called (target number) (now (sources .entry)) (now (sources .exit))
+        (now (payload .entry)) (saw r (now (payload .entry))) ⌝ }
 {
     if payload.len() < WORD_BYTES {
         return answers::refuse(EFAULT);

@@ -125,7 +125,8 @@ wordOrZero (some word) = word
 -- Ticket 1: what is read of a source. Without a source every value is 0 or false.
 unfoldable pub valuesOf : Option Source → Values
 valuesOf none = record { level = 0; kind = 0; masked = false; word = 0 }
-valuesOf (some x) = record { level = x .level; kind = x .kind; masked = isMasked (x .targeting); word = wordOrZero (x .targeting) }
+valuesOf (some x) =
+    record { level = x .level; kind = x .kind; masked = isMasked (x .targeting); word = wordOrZero (x .targeting) }
 
 -- The initialised source of a number, if there is one.
 unfoldable pub sourceAt : Limits → Sources → ℕ → Option Source

@@ -16,15 +16,6 @@ use Rattle.calls.proofs.answer_inject.Tie as tie
 abbrev was : tie.Start → List ℕ → Pending
 was f = let a = f .args in pendingOf (a .order .now) (a .counts .now) (a .slots .now)
 
-returns : tie.Need-returns
-returns c =
-    let f = c .before .before .before in
-    let a = f .args in (
-      nothing-changes _ _ _ _ _ _ _ (was f) _ 22 (c .refuse .ensures) (λ h. absurd (omega (arith, h, c .before .if1 .taken))) (λ L s singles b e1 e2 e3 e4 e5 e6.
-          refused-as L s _ _ _ 22 _ (as-it-was s _ _ e4 e5) (out-of-range L s (a .ais) (a .device) (a .place) (a .id .0) b (omega (arith, e1, c .before .if1 .taken))) (c .refuse .ensures)),
-      (f .pre .1, λ k. (refl, refl, refl)),
-    )
-
 -- what is known once `adapters::inject` was called
 abbrev start : tie.After-inject → tie.Start
 start j = j .before .before .before .before .before
@@ -121,6 +112,13 @@ returns-5 c =
 pub answer-inject-spec : {M : Type 1} → statement M
 answer-inject-spec =
     tie.close
-    (tie.spec (λ c κs. search needs) returns (λ c κs. search needs) (λ c κs. search needs) (λ c. search needs) (λ c κs. search needs)
-    (λ c. search needs) (λ c κs. search needs) (λ c. search needs) (λ c κs. search needs) (λ c. search needs) append-interrupt-requires
+    (tie.spec (λ c κs. search needs)
+    (λ c. let f = c .before .before .before in
+    let a = f .args in (
+      nothing-changes _ _ _ _ _ _ _ (was f) _ 22 (c .refuse .ensures) (λ h. absurd (omega (arith, h, c .before .if1 .taken))) (λ L s singles b e1 e2 e3 e4 e5 e6.
+          refused-as L s _ _ _ 22 _ (as-it-was s _ _ e4 e5) (out-of-range L s (a .ais) (a .device) (a .place) (a .id .0) b (omega (arith, e1, c .before .if1 .taken))) (c .refuse .ensures)),
+      (f .pre .1, λ k. (refl, refl, refl)),
+    ))
+    (λ c κs. search needs) (λ c κs. search needs) (λ c. search needs) (λ c κs. search needs) (λ c. search needs)
+    (λ c κs. search needs) (λ c. search needs) (λ c κs. search needs) (λ c. search needs) append-interrupt-requires
     (λ c κs. search needs) returns-2 returns-3 returns-4 returns-5)

@@ -7,16 +7,6 @@ use Rattle.calls.specs.Inner.{limitsFrom, imageState}
 use Rattle.calls.proofs.set_modes.Statement.{statement}
 use Rattle.calls.proofs.set_modes.Tie as tie
 
-returns : tie.Need-returns
-returns c =
-    let k = c .before .before in (
-      λ places room image p. refused-as _ _ _ _ _ (k .modes-code .result) _ refl (k .modes-code .ensures .0 _ _ refl ∙ decided-refused _ _ (c .before .if1 .taken)) (c .refuse .ensures),
-      λ n. refl,
-    )
-
-modes-after-requires : tie.Need-modes-after-requires
-modes-after-requires c κs = c .before .before .modes-code .ensures .1 (c .before .if1 .left)
-
 returns-2 : tie.Need-returns-2
 returns-2 c =
     let k = c .before .before .before in
@@ -30,4 +20,9 @@ returns-2 c =
 pub set-modes-spec : {M : Type 1} → statement M
 set-modes-spec =
     tie.close
-    (tie.spec (λ c κs. search needs) (λ c κs. search needs) returns (λ c κs. search needs) modes-after-requires returns-2)
+    (tie.spec (λ c κs. search needs) (λ c κs. search needs)
+    (λ c. let k = c .before .before in (
+      λ places room image p. refused-as _ _ _ _ _ (k .modes-code .result) _ refl (k .modes-code .ensures .0 _ _ refl ∙ decided-refused _ _ (c .before .if1 .taken)) (c .refuse .ensures),
+      λ n. refl,
+    ))
+    (λ c κs. search needs) (λ c κs. c .before .before .modes-code .ensures .1 (c .before .if1 .left)) returns-2)

@@ -17,23 +17,6 @@ looked c =
     let a = c .before .before .before .before .args in
     sym (c .look-up .ensures .0 ∙ ap (λ (id : ℕ). getD (take (a .places) (placesOf (a .image .now))) id free) (c .before .before .payload-id .ensures))
 
-returns : tie.Need-returns
-returns c =
-    let k = c .before .before in
-    let f = k .before .before .before .before .before in (
-      λ room ais p d. refused-as _ _ _ _ _ (k .place-code .result) _ refl (k .place-code .ensures .0 _ _ refl (looked (k .before)) ∙ decided-refused _ _ (c .before .if1 .taken)) (c .refuse .ensures),
-      (f .pre .1, λ n. refl),
-    )
-
-place-after-requires : tie.Need-place-after-requires
-place-after-requires c κs = c .before .place-code .ensures .1 (c .if1 .left)
-
-put-requires : tie.Need-put-requires
-put-requires c κs =
-    let l = c .before .before .before .before in
-    let f = l .before .before .before .before in
-    (f .pre .0, f .pre .1, c .before .place-after .ensures .1 (l .look-up .ensures .1))
-
 returns-2 : tie.Need-returns-2
 returns-2 c =
     let m = c .before .before .before in
@@ -54,5 +37,14 @@ returns-2 c =
 pub set-place-spec : {M : Type 1} → statement M
 set-place-spec =
     tie.close
-    (tie.spec (λ c κs. search needs) (λ c κs. search needs) (λ c κs. search needs) (λ c κs. search needs) returns place-after-requires put-requires
+    (tie.spec (λ c κs. search needs) (λ c κs. search needs) (λ c κs. search needs) (λ c κs. search needs)
+    (λ c. let k = c .before .before in
+    let f = k .before .before .before .before .before in (
+      λ room ais p d. refused-as _ _ _ _ _ (k .place-code .result) _ refl (k .place-code .ensures .0 _ _ refl (looked (k .before)) ∙ decided-refused _ _ (c .before .if1 .taken)) (c .refuse .ensures),
+      (f .pre .1, λ n. refl),
+    ))
+    (λ c κs. c .before .place-code .ensures .1 (c .if1 .left))
+    (λ c κs. let l = c .before .before .before .before in
+    let f = l .before .before .before .before in
+    (f .pre .0, f .pre .1, c .before .place-after .ensures .1 (l .look-up .ensures .1)))
     (λ c κs. search needs) returns-2)

@@ -19,15 +19,6 @@ Inv-loop slots₀ order₀ counts₀ singles₀ image₀ places room ais list co
 abbrev μ-loop : tie.MeasureT-loop
 μ-loop slots₀ order₀ counts₀ singles₀ image₀ places room ais list count d₀ i₀ slots order counts singles image d i = count - i
 
-loop-holds : tie.Need-loop-holds Inv-loop μ-loop
-loop-holds c = let p = c .before .pre in (omega arith, p .2, p .3, rw (slots-all, p .5))
-
-apply-at-requires : tie.Need-apply-at-requires Inv-loop μ-loop
-apply-at-requires c κs =
-    let p = c .before .before .before .before .before .before .before .before .pre in
-    let v = c .before .before .before .before .before .before .loop .inv in
-    (p .0, p .1, v .1, v .2, p .4, omega (arith, p .5, c .before .before .before .before .before .loop-test .taken))
-
 returns : tie.Need-returns Inv-loop μ-loop
 returns c =
     let a = c .before .before .before .before .before .before .before .before .before .before .before .args in
@@ -62,5 +53,8 @@ returns-2 c =
 pub apply-all-spec : {M : Type 1} → statement M
 apply-all-spec =
     tie.close
-    (tie.spec Inv-loop μ-loop loop-holds apply-at-requires returns (λ c. search needs) (λ c. search needs) loop-again (λ c κs. search needs)
-    returns-2)
+    (tie.spec Inv-loop μ-loop (λ c. let p = c .before .pre in (omega arith, p .2, p .3, rw (slots-all, p .5)))
+    (λ c κs. let p = c .before .before .before .before .before .before .before .before .pre in
+    let v = c .before .before .before .before .before .before .loop .inv in
+    (p .0, p .1, v .1, v .2, p .4, omega (arith, p .5, c .before .before .before .before .before .loop-test .taken)))
+    returns (λ c. search needs) (λ c. search needs) loop-again (λ c κs. search needs) returns-2)

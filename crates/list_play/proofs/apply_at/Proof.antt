@@ -13,16 +13,6 @@ ends-within : (c : tie.After-read-be3) → c .before .before .read-be .result + 
 ends-within c =
     omega (arith, size-is c, c .before .before .read-be .ensures .0, slot-within (c .before .before .before .before .args .list .now) (c .before .before .before .before .args .place) (c .before .before .before .before .pre .4) (c .before .before .before .before .pre .5) .0)
 
-part-set-listed-end : tie.Need-part-set-listed-end
-part-set-listed-end c = ends-within (c .before .before .before .before .before .before)
-
-set-listed-requires : tie.Need-set-listed-requires
-set-listed-requires c κs =
-    let r = c .before .before .before .before .before .before in
-    let f = r .before .before .before .before .before in
-    let m = ap movable (r .before .before .read-be2 .ensures .0 ∙ inside (20 + 24 * f .args .place) 4 4 (f .args .list .now)) ∙ slot-within (f .args .list .now) (f .args .place) (f .pre .4) (f .pre .5) .1 in
-    (f .pre .0, f .pre .1, f .pre .2, f .pre .3, λ z. true≢false (sym m ∙ ap movable z), λ z. true≢false (sym m ∙ ap movable z), λ z. true≢false (sym m ∙ ap movable z))
-
 returns : tie.Need-returns
 returns c =
     let r = c .before .before .before .before .before .before .before in
@@ -37,6 +27,12 @@ returns c =
 pub apply-at-spec : {M : Type 1} → statement M
 apply-at-spec =
     tie.close
-    (tie.spec (λ c. search needs) (λ c. search needs) (λ c κs. search needs) (λ c. search needs) (λ c κs. search needs) (λ c. search needs)
-    (λ c. search needs) (λ c κs. search needs) (λ c. search needs) (λ c. search needs) (λ c κs. search needs) (λ c. search needs)
-    (λ c. search needs) part-set-listed-end set-listed-requires returns)
+    (tie.spec (λ c. search needs) (λ c. search needs) (λ c κs. search needs) (λ c. search needs)
+    (λ c κs. search needs) (λ c. search needs) (λ c. search needs) (λ c κs. search needs) (λ c. search needs)
+    (λ c. search needs) (λ c κs. search needs) (λ c. search needs) (λ c. search needs)
+    (λ c. ends-within (c .before .before .before .before .before .before))
+    (λ c κs. let r = c .before .before .before .before .before .before in
+    let f = r .before .before .before .before .before in
+    let m = ap movable (r .before .before .read-be2 .ensures .0 ∙ inside (20 + 24 * f .args .place) 4 4 (f .args .list .now)) ∙ slot-within (f .args .list .now) (f .args .place) (f .pre .4) (f .pre .5) .1 in
+    (f .pre .0, f .pre .1, f .pre .2, f .pre .3, λ z. true≢false (sym m ∙ ap movable z), λ z. true≢false (sym m ∙ ap movable z), λ z. true≢false (sym m ∙ ap movable z)))
+    returns)

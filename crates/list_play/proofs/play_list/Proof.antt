@@ -19,16 +19,6 @@ returns c =
       (f .pre .2, λ z. (refl, refl, refl, refl)),
     )
 
-read-be-requires : tie.Need-read-be-requires
-read-be-requires c κs = let d = c .before .before .before .before .before in let t = d .before .form .ensures .good (c .before .before .before .before .if1 .left) .table in (omega arith, omega arith)
-
-apply-all-requires : tie.Need-apply-all-requires
-apply-all-requires c κs =
-    let b = c .before .before .before .before .before in
-    let d = b .before .before .before .before .before .before in
-    let s = d .before .before .before in
-    (s .pre .0, s .pre .1, b .before .fresh .ensures .0, rw (s .pre .3) imaged-zeros, d .before .form .ensures .good (b .before .before .before .before .before .if1 .left), b .read-be .ensures .0)
-
 -- what is known once the requests were applied: of the start, and of the form
 abbrev device : tie.After-apply-all → tie.After-fresh-device
 device r = r .before .before .before .before .before .before .before .before .before .before .before .before
@@ -80,5 +70,10 @@ returns-3 c =
 pub play-list-spec : {M : Type 1} → statement M
 play-list-spec =
     tie.close
-    (tie.spec (λ c κs. search needs) (λ c κs. search needs) (λ c κs. search needs) returns (λ c κs. search needs) read-be-requires
-    apply-all-requires (λ c κs. search needs) (λ c κs. search needs) returns-2 returns-3)
+    (tie.spec (λ c κs. search needs) (λ c κs. search needs) (λ c κs. search needs) returns (λ c κs. search needs)
+    (λ c κs. let d = c .before .before .before .before .before in let t = d .before .form .ensures .good (c .before .before .before .before .if1 .left) .table in (omega arith, omega arith))
+    (λ c κs. let b = c .before .before .before .before .before in
+    let d = b .before .before .before .before .before .before in
+    let s = d .before .before .before in
+    (s .pre .0, s .pre .1, b .before .fresh .ensures .0, rw (s .pre .3) imaged-zeros, d .before .form .ensures .good (b .before .before .before .before .before .if1 .left), b .read-be .ensures .0))
+    (λ c κs. search needs) (λ c κs. search needs) returns-2 returns-3)

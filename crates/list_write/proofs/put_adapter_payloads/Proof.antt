@@ -26,9 +26,6 @@ room c =
     let l = c .before .before .before .loop in
     room-turn (c .before .before .before .before .before .args .modify) (l .i) (c .before .before .before .before .before .args .image .now) (search needs) _ (on-is c) (l .a) _ _ (l .inv .2)
 
-put-payload-requires : tie.Need-put-payload-requires Inv-loop μ-loop
-put-payload-requires c κs = (rw (c .before .before .place-at .ensures) (unpacked-isc (getD (c .before .before .before .before .before .before .args .image .now) (c .before .before .before .before .loop .i) 0)), omega (arith, room (c .before)))
-
 loop-again : tie.Need-loop-again Inv-loop μ-loop
 loop-again c =
     let a = c .before .before .before .before .before .before .before .before .before .before .args in
@@ -43,16 +40,14 @@ loop-again c =
           (rw (c .before .before .before .before .before .before .place-at .ensures) at (c .before .before .before .put-payload .ensures))),
     )
 
-returns : tie.Need-returns Inv-loop μ-loop
-unfolding payloads
-returns c =
-    let a = c .before .before .before .args in
-    let l = c .before .loop in
-    sym (l .inv .3 ∙ rw (each-last (a .modify) (l .i) (a .image .now) (omega (arith, c .before .before .before .pre .0))) (sym (put-none (l .out) (l .a))))
-
 pub put-adapter-payloads-spec : {M : Type 1} → statement M
 put-adapter-payloads-spec =
     tie.close
     (tie.spec Inv-loop μ-loop (λ c. let s = c .before in (omega arith, refl, s .pre .1, refl))
-    (λ c κs. search needs) (λ c κs. search needs) put-payload-requires (λ c κs. search needs) (λ c. search needs)
-    (λ c. search needs) (λ c. search needs) loop-again (λ c. c .before .loop .inv .1) returns)
+    (λ c κs. search needs) (λ c κs. search needs)
+    (λ c κs. (rw (c .before .before .place-at .ensures) (unpacked-isc (getD (c .before .before .before .before .before .before .args .image .now) (c .before .before .before .before .loop .i) 0)), omega (arith, room (c .before))))
+    (λ c κs. search needs) (λ c. search needs) (λ c. search needs) (λ c. search needs) loop-again
+    (λ c. c .before .loop .inv .1)
+    (λ c. unfold payloads in let a = c .before .before .before .args in
+    let l = c .before .loop in
+    sym (l .inv .3 ∙ rw (each-last (a .modify) (l .i) (a .image .now) (omega (arith, c .before .before .before .pre .0))) (sym (put-none (l .out) (l .a))))))

@@ -16,28 +16,6 @@ module _ (c : tie.Else1) where
   room : (start .args .at + 8 ≤ length (now (start .args .out))) × (start .args .modify ≡ true → start .args .at + 16 ≤ length (now (start .args .out)))
   room = payload-room (start .args .on) (start .args .modify) _ _ (start .pre .1) wanted
 
-write-be-requires-3 : tie.Need-write-be-requires-3
-write-be-requires-3 c κs =
-    let t = c .before .before .before .before .before in
-    let r = room (t .before .before .before .before .before) .1 (t .if2 .taken) in
-    (omega arith, omega arith)
-
-returns-2 : tie.Need-returns-2
-unfolding choose
-returns-2 c =
-    let w = c .before .before in
-    let v = w .before .before .before .before in
-    let t = v .before .before in
-    let u = t .before .before .before in
-    let e = u .before .before in
-    rw (wanted e, t .if2 .taken) (modify-put _ _ _ _ _ _ (room e .0) (u .write-be .ensures) _ (v .write-be2 .ensures) (w .write-be3 .ensures))
-
-write-be-requires-4 : tie.Need-write-be-requires-4
-write-be-requires-4 c κs =
-    let t = c .before .before .before .before .before .before in
-    let r = room (t .before .before .before .before .before) .0 in
-    (omega arith, omega arith)
-
 returns-3 : tie.Need-returns-3
 unfolding choose
 returns-3 c =
@@ -57,7 +35,21 @@ put-payload-spec =
     (tie.spec (λ c. unfold choose in rw (not-true (c .before .before .args .on) (c .if1 .taken)) (put-none _ _))
     (λ c κs. let r = room (c .before) .0 in (omega arith, omega arith)) (λ c. search needs)
     (λ c κs. let r = room (c .before .before .before .before .before .before) .0 in (omega arith, omega arith))
-    (λ c. search needs) write-be-requires-3 (λ c. search needs) returns-2 (λ c κs. search needs) (λ c. search needs)
+    (λ c. search needs)
+    (λ c κs. let t = c .before .before .before .before .before in
+    let r = room (t .before .before .before .before .before) .1 (t .if2 .taken) in
+    (omega arith, omega arith))
+    (λ c. search needs)
+    (λ c. unfold choose in let w = c .before .before in
+    let v = w .before .before .before .before in
+    let t = v .before .before in
+    let u = t .before .before .before in
+    let e = u .before .before in
+    rw (wanted e, t .if2 .taken) (modify-put _ _ _ _ _ _ (room e .0) (u .write-be .ensures) _ (v .write-be2 .ensures) (w .write-be3 .ensures)))
+    (λ c κs. search needs) (λ c. search needs) (λ c κs. search needs) (λ c. search needs) (λ c. search needs)
     (λ c κs. search needs) (λ c. search needs) (λ c. search needs) (λ c κs. search needs) (λ c. search needs)
-    (λ c. search needs) (λ c κs. search needs) (λ c. search needs) (λ c. search needs) write-be-requires-4
+    (λ c. search needs)
+    (λ c κs. let t = c .before .before .before .before .before .before in
+    let r = room (t .before .before .before .before .before) .0 in
+    (omega arith, omega arith))
     (λ c. search needs) returns-3)

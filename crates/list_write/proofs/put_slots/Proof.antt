@@ -40,17 +40,13 @@ loop-again c =
           (rw (c .before .before .before .before .before .before .before .before .before .before .before .group-of .ensures, c .before .before .before .before .before .before .before .before .before .before .size-of .ensures .0) at (c .before .before .before .before .put-slot .ensures))),
     )
 
-returns : tie.Need-returns Inv-loop μ-loop
-unfolding writtenTable
-returns c =
-    let a = c .before .before .before .before .before .args in
-    let l = c .before .loop in
-    sym (l .inv .4 ∙ rw (each-last (a .modify) (l .i) (a .image .now) (omega (arith, c .before .before .before .before .before .pre .0))) (sym (put-none (l .out) (l .a))))
-
 pub put-slots-spec : {M : Type 1} → statement M
 put-slots-spec =
     tie.close
     (tie.spec Inv-loop μ-loop (λ c κs. search needs) (λ c κs. search needs) (λ c. search needs)
     (λ c κs. search needs) (λ c κs. search needs) (λ c κs. omega (arith, room (c .before))) (λ c κs. search needs)
     (λ c. search needs) (λ c. search needs) (λ c κs. search needs) (λ c. search needs) (λ c. search needs)
-    (λ c. search needs) loop-again (λ c. c .before .loop .inv .1) returns)
+    (λ c. search needs) loop-again (λ c. c .before .loop .inv .1)
+    (λ c. unfold writtenTable in let a = c .before .before .before .before .before .args in
+    let l = c .before .loop in
+    sym (l .inv .4 ∙ rw (each-last (a .modify) (l .i) (a .image .now) (omega (arith, c .before .before .before .before .before .pre .0))) (sym (put-none (l .out) (l .a))))))

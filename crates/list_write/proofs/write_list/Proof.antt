@@ -56,16 +56,6 @@ same-entries : (c : tie.After-has-masks) (s : State) → let a = c .before .befo
     → s .pending ≡ pendingOf (a .order .now) (a .counts .now) (a .slots .now) (a .singles .now) → s .device ≡ deviceOf (a .device) → wanted c ≡ listRequests s
 same-entries c s e1 e2 e3 e4 = sym (entries-are s _ _ _ (c .before .before .before .before .before .before .before .args .device) _ e1 e2 e3 e4 (c .has-masks .ensures))
 
-returns : tie.Need-returns
-returns c = record {
-  answer = λ L s e1 e2 e3 e4. too-short L s _ _ _ _ (same-entries (c .before .before .before .before) s e1 e2 e3 e4) (total-is (c .before .before)) (c .before .if1 .taken) (c .refuse .ensures);
-  kept = λ k. refl;
-}
-
-put-payloads-requires : tie.Need-put-payloads-requires
-put-payloads-requires c κs =
-    (c .before .before .before .before .before .before .before .before .before .before .before .before .before .before .before .before .before .before .before .before .pre .0, counted (c .before .before .before .before .before .before .before .before .before .before .before .before .before), whole (c .before .before .before .before .before .before .before .before .before .before .before .before .before), omega (arith, c .before .before .before .before .before .before .before .before .before .before .before .before .entry-count .ensures .1), rw (← c .before .before .before .before .before .before .before .before .before .before .before .payload-bytes .ensures .0) (omega (arith, c .before .before .before .before .before .before .before .before .before .before .if1 .left)))
-
 returns-2 : tie.Need-returns-2
 returns-2 c =
     let a = c .before .before .before .before .before .before .before .before .before .before .before .before .before .before .before .before .before .before .before .before .before .before .before .before .args in
@@ -80,6 +70,13 @@ returns-2 c =
 pub write-list-spec : {M : Type 1} → statement M
 write-list-spec =
     tie.close
-    (tie.spec (λ c κs. search needs) (λ c κs. search needs) (λ c κs. search needs) (λ c κs. search needs) (λ c κs. search needs)
-    (λ c. search needs) (λ c. search needs) (λ c κs. search needs) (λ c. search needs) (λ c κs. search needs) returns (λ c κs. search needs)
-    (λ c κs. search needs) (λ c κs. search needs) put-payloads-requires (λ c κs. search needs) (λ c. search needs) returns-2)
+    (tie.spec (λ c κs. search needs) (λ c κs. search needs) (λ c κs. search needs) (λ c κs. search needs)
+    (λ c κs. search needs) (λ c. search needs) (λ c. search needs) (λ c κs. search needs) (λ c. search needs)
+    (λ c κs. search needs)
+    (λ c. record {
+      answer = λ L s e1 e2 e3 e4. too-short L s _ _ _ _ (same-entries (c .before .before .before .before) s e1 e2 e3 e4) (total-is (c .before .before)) (c .before .if1 .taken) (c .refuse .ensures);
+      kept = λ k. refl;
+    })
+    (λ c κs. search needs) (λ c κs. search needs) (λ c κs. search needs)
+    (λ c κs. (c .before .before .before .before .before .before .before .before .before .before .before .before .before .before .before .before .before .before .before .before .pre .0, counted (c .before .before .before .before .before .before .before .before .before .before .before .before .before), whole (c .before .before .before .before .before .before .before .before .before .before .before .before .before), omega (arith, c .before .before .before .before .before .before .before .before .before .before .before .before .entry-count .ensures .1), rw (← c .before .before .before .before .before .before .before .before .before .before .before .payload-bytes .ensures .0) (omega (arith, c .before .before .before .before .before .before .before .before .before .before .if1 .left))))
+    (λ c κs. search needs) (λ c. search needs) returns-2)

@@ -4,16 +4,12 @@ use Rattle.list_image.proofs.Laws.{imaged-zeros}
 use Rattle.sample_list.proofs.main.Statement.{statement}
 use Rattle.sample_list.proofs.main.Tie as tie
 
-set-requires : tie.Need-set-requires
-set-requires c κs =
-    let m = c .before .before .before .before .before .before .before in
-    (m .fresh .ensures .0, rw (m .before .before .before .before .empty .ensures) imaged-zeros)
-
-write-list-requires : tie.Need-write-list-requires
-write-list-requires c κs = let e = c .before .before .before .before .before .before .set3 .ensures in (e .0, e .1 .whole)
-
 pub main-spec : {M : Type 1} → statement M
 main-spec =
     tie.close
-    (tie.spec (λ c κs. search needs) (λ c κs. search needs) (λ c κs. search needs) (λ c. search needs) set-requires (λ c. search needs) (λ c κs. search needs) (λ c. search needs)
-    (λ c κs. search needs) (λ c. search needs) write-list-requires (λ c. search needs) (λ c κs. search needs) (λ c. search needs) (λ c. search needs))
+    (tie.spec (λ c κs. search needs) (λ c κs. search needs) (λ c κs. search needs) (λ c. search needs)
+    (λ c κs. let m = c .before .before .before .before .before .before .before in
+    (m .fresh .ensures .0, rw (m .before .before .before .before .empty .ensures) imaged-zeros))
+    (λ c. search needs) (λ c κs. search needs) (λ c. search needs) (λ c κs. search needs) (λ c. search needs)
+    (λ c κs. let e = c .before .before .before .before .before .before .set3 .ensures in (e .0, e .1 .whole))
+    (λ c. search needs) (λ c κs. search needs) (λ c. search needs) (λ c. search needs))

@@ -1,7 +1,7 @@
 -- Laws on the bits of a mask and on places.
 use Rattle.numbers.proofs.{Basics.ℕ, Basics._+_, Basics._≤_, Basics._<_, Basics._≡_, Basics.refl, Basics.Bool, Basics.true, Basics.false, Basics.arith, Basics.eqb-true, Basics.eqb-false, Laws.each-subclass}
 use Rattle.rules.specs.{Bytes.choose, State.free, State.holds, State.bit, State.hasBit}
-use Rattle.adapters.specs.{declared.Place.Place, Values.adapterOf, Values.placeOf}
+use Rattle.adapters.specs.{declared.Place.Place, Values.adapterOf, Values.placeOf, Values.unused, Values.Canonical}
 
 -- a bit that is not set has room in a byte, and one that is set is at most the mask: by the eight subclasses
 pub bit-room : (n m : ℕ) → n ≤ 7 → m < 256 → (hasBit n m ≡ false → m + bit n < 256) × (hasBit n m ≡ true → bit n ≤ m)
@@ -21,6 +21,10 @@ place-used p e = rw e
 pub place-free : (p : Place) → p .used ≡ false → placeOf p ≡ free
 unfolding placeOf choose
 place-free p e = rw e
+
+-- the unused place
+pub canonical-unused : Canonical unused
+canonical-unused = record { unusedOne = λ e. refl; iscSmall = omega arith; maskedMaskable = λ e. e }
 
 pub place-is-free : (p : Place) → placeOf p ≡ free → p .used ≡ false
 place-is-free p e = go (p .used) refl

@@ -2,8 +2,8 @@
 ghost use mathlib.Core.Path.{_≡_};
 ghost use mathlib.Core.Bool.{true, false};
 ghost use Prim.Native.Nat.{_<_, _≤_};
-ghost use Rattle.rules.specs.State.{free, holds, bit, hasBit, withBit, withoutBit};
-ghost use Rattle.adapters.specs.Values.{placeOf, deviceOf, Canonical, maskedAs, withMasked, modeSet};
+ghost use Rattle.rules.specs.State.{holds, bit, hasBit, withBit, withoutBit};
+ghost use Rattle.adapters.specs.Values.{placeOf, deviceOf, unused, Canonical, maskedAs, withMasked, modeSet};
 ghost use Rattle.adapters.specs.Values.{underAis, injectionOf, injectedDevice};
 use numbers::Subclass;
 
@@ -37,22 +37,9 @@ pub fn fresh_device() -> Device
     }
 }
 
-// Copies the device record field by field. A copy of the whole record would read bytes that were just written one by
-// one as one wider word, and would have to wait for them.
-pub fn by_fields(d: Device) -> Device
-    ensures { λ r. ⌜ r ≡ d ⌝ }
-{
-    Device {
-        simm: d.simm,
-        nimm: d.nimm,
-        apf: d.apf,
-    }
-}
-
 // A place that no adapter has.
 pub fn free_place() -> Place
-    ensures { λ r. ⌜ placeOf r ≡ free ⌝ }
-    ensures canonical { λ r. ⌜ Canonical r ⌝ }
+    ensures { λ r. ⌜ r ≡ unused ⌝ }
 {
     Place {
         used: false,

@@ -1,6 +1,7 @@
 -- `list_image::look_up` meets its contract, by the test.
-use Rattle.numbers.proofs.Basics.{ap, _∙_, needs}
-use Rattle.adapters.specs.Values.{placeOf}
+use Rattle.numbers.proofs.Basics.{refl, ap, _∙_, needs}
+use Rattle.adapters.specs.Values.{placeOf, unused}
+use Rattle.adapters.proofs.Laws.{canonical-unused, place-free}
 use Rattle.list_image.proofs.{Laws.read-in, Laws.read-out, Laws.read-canonical, look_up.Statement.statement}
 use Rattle.list_image.proofs.look_up.Tie as tie
 
@@ -15,4 +16,4 @@ look-up-spec =
     ))
     (λ c κs. search needs)
     (λ c. let a = c .before .before .before in
-    (c .free-place .ensures .0 ∙ read-out (a .args .image .now) (a .args .places) (a .args .id .0) (c .before .if1 .left), c .free-place .ensures .1)))
+    (ap placeOf (c .free-place .ensures) ∙ place-free unused refl ∙ read-out (a .args .image .now) (a .args .places) (a .args .id .0) (c .before .if1 .left), rw (c .free-place .ensures) canonical-unused)))

@@ -21,8 +21,7 @@ use Rattle.lent_requests.proofs.set_modes as set-modes
 -- a `&mut [u8]` is given up: what is in it then is its last value
 module _ {M : Type 1} {𝓤 : URA M} {H : Heap 𝓤} {A : Atoms 𝓤} {K : Type 0} {W : Given 𝓤 H A} {Γ : List (Item 𝓤)} {G : Goal 𝓤 H} where
   pub gives-up : K → (κ : Lft) (b o : ℕ) (γ : GName) (bs : List ℕ) → Step K W (‵ (finally u8 γ bs) ∷ Γ) G (‵ (MutSlice (named 0) κ u8 .own (at-list b o γ bs) (sliceVal (b, o) (length bs) ∷ [])) ∷ Γ) G
-  gives-up t κ b o γ bs = step (λ k. fsplit {W = W} t $ drop t $ fsplit t $
-      use1 W (‵ (fres γ (codedHoleys u8 .code (heres u8 bs)))) (W .names .obs-res γ (codedHoleys u8 .code (heres u8 bs))) $
+  gives-up t κ b o γ bs = step (λ k. fsplit {W = W} t $ drop t $ fsplit t $ use1 W (‵ (fres γ (codedHoleys u8 .code (heres u8 bs)))) (W .names .obs-res γ (codedHoleys u8 .code (heres u8 bs))) $
       use1 W (‵ (finally u8 γ bs)) (res-finally 𝓤 H A W (named 0) κ u8 γ bs) $ move t (1 ∷ []) $ drop t $ k)
 
 module _ {M : Type 1} (𝓤 : URA M) (H : Heap 𝓤) (A : Atoms 𝓤) (mem′ : Memory → SProp 𝓤) (run : Routine → Fun 𝓤) where

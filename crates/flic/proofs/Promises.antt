@@ -77,8 +77,7 @@ module _ (c : Controller) (d : Device) (t : List Place) (b : List ℕ) (w : leng
   wrong-steps ask tabled = ap (answerOf (limitsOf c) (stateOf c d t) b) (refused-table (limitsOf c) (stateOf c d t) ask (length t) b tabled w)
 
   pub wrong-promises : (ask : Ask) → Tabled ask → Requested ask c c d d t t b (saw (answered 14 0) b)
-  wrong-promises ask tabled =
-      record { steps = wrong-steps ask tabled; kept = λ code count o. (refl, refl, refl, refl); valid = λ e. absurd (w e); limits = refl }
+  wrong-promises ask tabled = record { steps = wrong-steps ask tabled; kept = λ code count o. (refl, refl, refl, refl); valid = λ e. absurd (w e); limits = refl }
 
 pub wrong-makes : (L : Limits) (ais : Bool) (c : Controller) (d : Device) (t : List Place) → (length t ≡ L .places → ⊥) → Made L ais c c d d t t (answered 14 0)
 wrong-makes L ais c d t w = record { right = λ e. absurd (w e); wrong = λ _. (refl, refl, refl, refl) }
@@ -290,12 +289,7 @@ module _ (c : Controller) (d : Device) (t : List Place) (b b′ : List ℕ) (r :
 
   pub write-promises : Requested writeList c c d d t t b (saw r b′)
   write-promises =
-      record {
-        steps = write-steps;
-        kept = λ code count o. (refl, refl, refl, f .kept (refused-code writeList c c d d t t b (saw r b′) write-steps code count o));
-        valid = λ _. h;
-        limits = refl;
-      }
+      record { steps = write-steps; kept = λ code count o. (refl, refl, refl, f .kept (refused-code writeList c c d d t t b (saw r b′) write-steps code count o)); valid = λ _. h; limits = refl }
 
 -- the state that a controller's arrays and the first places of an image stand for
 abbrev playedState : (places : ℕ) → Controller → List ℕ → Device → State

@@ -83,8 +83,7 @@ module _ (c : Controller) (d : Device) (t : List Place) where
 
     -- a call that changes the state, and writes nothing: a set, the playing of a list. The next state is that of a host.
     becomes : (ask : Ask) → ((c′ : Controller) (d′ : Device) (t′ : List Place) → Leaves ask c c′ d d′ t t′ b b) → (r : Answer) (next : State)
-        → Sound L next → step L s (asked ask b (length t)) ≡ answering (saw r b) next
-        → ((code count : ℕ) → outcome L s ask (length t) b ≡ refuseWith code count → ⊥) → AnswerTo ask b
+        → Sound L next → step L s (asked ask b (length t)) ≡ answering (saw r b) next → ((code count : ℕ) → outcome L s ask (length t) b ≡ refuseWith code count → ⊥) → AnswerTo ask b
     becomes ask left r next h e not-refused =
         let k = represent c next h in
         record {
@@ -94,13 +93,7 @@ module _ (c : Controller) (d : Device) (t : List Place) where
           r = r;
           b′ = b;
           leaves = left (k .host .ctl) (k .host .dev) (k .host .tab);
-          said =
-              record {
-                steps = e ∙ ap (answering (saw r b)) (sym (k .state));
-                kept = λ code count o. absurd (not-refused code count o);
-                valid = λ n. k .good;
-                limits = k .limits;
-              };
+          said = record { steps = e ∙ ap (answering (saw r b)) (sym (k .state)); kept = λ code count o. absurd (not-refused code count o); valid = λ n. k .good; limits = k .limits };
         }
 
     changes : (ask : Ask) → Tabled ask → ((c′ : Controller) (d′ : Device) (t′ : List Place) → Leaves ask c c′ d d′ t t′ b b) → length t ≡ L .places
@@ -125,8 +118,7 @@ module _ (c : Controller) (d : Device) (t : List Place) where
     answer-to (getAttr group attr) k =
         reads (getAttr group attr) k (λ p. p) (λ _. (refl, refl, refl)) _ refl (shaped L s (getAttr group attr) (length t) b) (known-outcome L s (getAttr group attr) (length t) b)
     answer-to (guestTake subclasses external mcheck) k = absurd k
-    answer-to writeList k =
-        reads writeList k (λ p. p) (λ _. (refl, refl, refl)) _ refl (shaped L s writeList (length t) b) (known-outcome L s writeList (length t) b)
+    answer-to writeList k = reads writeList k (λ p. p) (λ _. (refl, refl, refl)) _ refl (shaped L s writeList (length t) b) (known-outcome L s writeList (length t) b)
     answer-to playList k =
         by-length L (length t)
         (λ n. changes playList k (λ _ _ _. refl) n _ refl (shaped L s playList (length t) b) (known-outcome L s playList (length t) b))
@@ -252,10 +244,8 @@ lent-premise g (another w) n = absurd (w n)
 
 pub premises : {h e : Host} {cs : List Call} {xs : List Seen} → Good h → (r : Ran h cs xs e) → Premises r
 premises g end = tt
-premises {h} g (asks ask b c′ d′ t t′ u x k l f rest) =
-    (lent-premise g l, premises (requested h g ask (tabled ask _ _ _ _ _ _ _ _ k) b c′ d′ t t′ x f u l .good) rest)
-premises {h} g (take subclasses external mcheck b c′ n x f rest) =
-    (g .ready, premises (taken h g subclasses external mcheck b c′ n x f .good) rest)
+premises {h} g (asks ask b c′ d′ t t′ u x k l f rest) = (lent-premise g l, premises (requested h g ask (tabled ask _ _ _ _ _ _ _ _ k) b c′ d′ t t′ x f u l .good) rest)
+premises {h} g (take subclasses external mcheck b c′ n x f rest) = (g .ready, premises (taken h g subclasses external mcheck b c′ n x f .good) rest)
 
 -- ---- from the host that the code makes
 -- making one has an answer, for each capability
@@ -295,8 +285,7 @@ premises-fresh h r = premises (fresh-good h) r
 -- a writing leaves its host as it was
 same-host : {c c′ : Controller} {d d′ : Device} {t t′ : List Place} {b : List ℕ} {x : Seen} → (c′ ≡ c) × (d′ ≡ d) × (t′ ≡ t)
     → Requested writeList c c′ d d′ t t′ b x → Requested writeList c c d d t t b x
-same-host {c} {c′} {d} {d′} {t} {t′} {b} {x} k f =
-    subst (λ (h : Host). Requested writeList c (h .ctl) d (h .dev) t (h .tab) b x) (λ i. record { ctl = k .0 i; dev = k .1 i; tab = k .2 i }) f
+same-host {c} {c′} {d} {d′} {t} {t′} {b} {x} k f = subst (λ (h : Host). Requested writeList c (h .ctl) d (h .dev) t (h .tab) b x) (λ i. record { ctl = k .0 i; dev = k .1 i; tab = k .2 i }) f
 
 -- and a playing its list
 left-list : {c c′ : Controller} {d d′ : Device} {t t′ : List Place} {b b′ : List ℕ} {r : Answer} → b′ ≡ b
@@ -304,8 +293,7 @@ left-list : {c c′ : Controller} {d d′ : Device} {t t′ : List Place} {b b�
 left-list {c} {c′} {d} {d′} {t} {t′} {b} {b′} {r} e f = subst (λ (l : List ℕ). Requested playList c c′ d d′ t t′ b (saw r l)) e f
 
 -- for any two fresh hosts of the same limits and capability, any two lists of calls and any buffer that is long enough there is a move
-pub moved : (L : Limits) (ais : Bool) (f₁ f₂ : Host) → Fresh L ais f₁ → Fresh L ais f₂ → (cs₁ cs₂ : List Call) (b : List ℕ)
-    → total (listRequests (machine L ais cs₁)) ≤ length b → Moved
+pub moved : (L : Limits) (ais : Bool) (f₁ f₂ : Host) → Fresh L ais f₁ → Fresh L ais f₂ → (cs₁ cs₂ : List Call) (b : List ℕ) → total (listRequests (machine L ais cs₁)) ≤ length b → Moved
 moved L ais f₁ f₂ h₁ h₂ cs₁ cs₂ b long =
     let x = runs-fresh h₁ cs₁ in
     let y = runs-fresh h₂ cs₂ in

@@ -173,8 +173,7 @@ module _ {M : Type 1} (𝓤 : URA M) (H : Heap 𝓤) (A : Atoms 𝓤) (W : Given
       -- [out's token; true; t's; d's; c's; the parameters']
       move ! (5 ∷ []) $ fsplit ! $ move ! (1 ∷ []) $ fsplit ! $ move ! (1 ∷ []) $ fsplit ! $ drop ! $ fsplit ! $ drop ! $ fsplit ! $ drop ! $ fsplit ! $
       -- [out's; true; d's; c's; the tokens o; true; t; d; c]
-      keep ! (7 ∷ 2 ∷ 3 ∷ 8 ∷ 0 ∷ 4 ∷ 6 ∷ []) $
-      enter ! C′ Λ f.Code.function (vptr bc oc ∷ vptr bd od ∷ s ∷ vint w32 group ∷ vint w64 attr ∷ out ∷ []) _ $
+      keep ! (7 ∷ 2 ∷ 3 ∷ 8 ∷ 0 ∷ 4 ∷ 6 ∷ []) $ enter ! C′ Λ f.Code.function (vptr bc oc ∷ vptr bd od ∷ s ∷ vint w32 group ∷ vint w64 attr ∷ out ∷ []) _ $
       alloc1 ! (λ l₀. alloc1 ! (λ l₁. alloc1 ! (λ l₂. alloc1 ! (λ l₃. alloc1 ! (λ l₄. alloc1 ! (λ l₅. alloc1 ! (λ l₆. alloc1 ! (λ l₇. alloc1 ! (λ l₈. alloc1 ! (λ l₉. alloc1 ! (λ l₁₀. alloc1 ! (λ l₁₁. alloc1 ! (λ l₁₂. alloc1 ! (λ l₁₃. alloc1 ! (λ l₁₄. alloc1 ! (λ l₁₅. alloc0 ! $ params1 ! $
       pass1 ! (init ! 28 refl (tt, tt)) $ pass1 ! (init ! 26 refl (tt, tt)) $ pass1 ! (init ! 24 refl (tt, (tt, (record { fits = room .0 }, tt)))) $ pass1 ! (init ! 22 refl (tt, record { fits = group-fits })) $ pass1 ! (init ! 20 refl (tt, record { fits = attr-fits })) $ pass1 ! (init ! 18 refl (tt, (tt, (record { fits = room-o .0 }, tt)))) $ pass0 ! $
       keep ! (32 ∷ 33 ∷ 34 ∷ 35 ∷ 36 ∷ 37 ∷ 38 ∷ 30 ∷ 31 ∷ 28 ∷ 29 ∷ 26 ∷ 27 ∷ 24 ∷ 25 ∷ 22 ∷ 23 ∷ 20 ∷ 21 ∷ 18 ∷ 19 ∷ 16 ∷ 17 ∷ 14 ∷ 15 ∷ 12 ∷ 13 ∷ 10 ∷ 11 ∷ 8 ∷ 9 ∷ 6 ∷ 7 ∷ 4 ∷ 5 ∷ 2 ∷ 3 ∷ 0 ∷ 1 ∷ []) $ starts C′ Λ fm known-refuse known-read known l₀ l₁ l₂ l₃ l₄ l₅ l₆ l₇ l₈ l₉ l₁₀ l₁₁ l₁₂ l₁₃ l₁₄ l₁₅))))))))))))))))

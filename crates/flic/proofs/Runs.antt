@@ -209,9 +209,6 @@ pub record Chain (h : Host) (cs : List Call) : Type 0 where
   pub last : Host
   pub ran : Ran h cs seen last
 
-as-asked : (h : Host) (ask : Ask) (b : List ℕ) (cs : List Call) {m n : ℕ} → m ≡ n → Chain h (asked ask b m ∷ cs) → Chain h (asked ask b n ∷ cs)
-as-asked h ask b cs e k = subst (λ (i : ℕ). Chain h (asked ask b i ∷ cs)) e k
-
 -- one call more, that is lent a table
 lent-more : (cs : List Call) → ((h : Host) → Good h → Chain h cs) → (h : Host) → Good h → (ask : Ask) → Tabled ask → (b : List ℕ) (n : ℕ) → Chain h (asked ask b n ∷ cs)
 lent-more cs then h g ask lent b n =
@@ -219,7 +216,7 @@ lent-more cs then h g ask lent b n =
     let y = answer-to (h .ctl) (h .dev) (x .lent) (x .valid) b ask lent in
     let f = requested h g ask lent b (y .c′) (y .d′) (x .lent) (y .t′) (saw (y .r) (y .b′)) (y .said) (x .own (y .t′)) (x .lends (y .t′)) in
     let k = then _ (f .good) in
-    as-asked h ask b cs (x .places)
+    subst (λ (i : ℕ). Chain h (asked ask b i ∷ cs)) (x .places)
     (record { seen = _; last = k .last; ran = asks ask b (y .c′) (y .d′) (x .lent) (y .t′) (x .own (y .t′)) (saw (y .r) (y .b′)) (y .leaves) (x .lends (y .t′)) (y .said) (k .ran) })
 
 one-more : (cs : List Call) → ((h : Host) → Good h → Chain h cs) → (h : Host) → Good h → (ask : Ask) (b : List ℕ) (n : ℕ) → Chain h (asked ask b n ∷ cs)

@@ -24,7 +24,7 @@ use Rattle.store_queues.specs.Queues.{total, Held}
 use Rattle.store.specs.Memory.{pendingOf}
 
 -- a state that a step leads to is sound
-pub next-sound : (ask : Ask) (c c′ : Controller) (d d′ : Device) (t t′ : List Place) (b : List ℕ) (x : Seen) → limitsOf c′ ≡ limitsOf c
+next-sound : (ask : Ask) (c c′ : Controller) (d d′ : Device) (t t′ : List Place) (b : List ℕ) (x : Seen) → limitsOf c′ ≡ limitsOf c
     → Valid c d t → Steps ask c c′ d d′ t t′ b x → Sound (limitsOf c′) (stateOf c′ d′ t′)
 next-sound ask c c′ d d′ t t′ b x l h e =
     subst (λ (L : Limits). Sound L (stateOf c′ d′ t′)) (sym l)
@@ -40,7 +40,7 @@ refused-code ask c c′ d d′ t t′ b x f code count o z =
 
 -- the promise of a request, from its step and from what it keeps where its code is not 0
 module _ (ask : Ask) {c c′ : Controller} {d d′ : Device} {t t′ : List Place} (b : List ℕ) (x : Seen) (h : Valid c d t) (s : Steps ask c c′ d d′ t t′ b x) (ready : Ready c′) (places : All Canonical t′) where
-  next-valid : Valid c′ d′ t′
+  pub next-valid : Valid c′ d′ t′
   next-valid = record { ready = ready; places = places; sound = next-sound ask c c′ d d′ t t′ b x (limits-kept c c′) h s }
 
   promises : ((x .code ≡ 0 → ⊥) → (c′ ≡ c) × (d′ ≡ d) × (t′ ≡ t) × (x .buffer ≡ b)) → Requested ask c c′ d d′ t t′ b x

@@ -16,9 +16,9 @@ use Rattle.adapters.proofs.Device as D
 use Rattle.adapters.proofs.Place as P
 use Rattle.flic.specs.Surface.{Valid, Requested}
 use Rattle.calls.proofs.Controller as C
-use Rattle.flic.proofs.{Promises.get-promises, Promises.wrong-promises, Opened.Has, Opened.Cells, Opened.looks-ctl, Opened.shuts-ctl, Calls.gives-up, Calls.reads-passed}
+use Rattle.flic.proofs.{Promises.get-promises, Promises.wrong-promises, Opened.Has, Opened.Cells, Opened.looks-ctl, Opened.shuts-ctl, Calls.asks-that, Calls.gives-up, Calls.reads-passed}
 use Rattle.lent_table.proofs.Locals.{Content, blank, holds, since, locals, frees-all, swaps, holds-false, not-not}
-use Rattle.flic.proofs.Four.{all, shared, at-array, Loan, Toks, Lent, lent-lfts, lent-shares, lent-args, lent-vals, calls-four}
+use Rattle.flic.proofs.Four.{all, shared, at-array, Loan, lent-lfts, lent-shares, lent-args, lent-vals, calls-four}
 use Rattle.lent_requests.proofs.Answered.{refused, Refuse, refuses}
 use Rattle.answers.proofs.refuse as refuse
 use Rattle.lent_table.proofs.read_device as read-device
@@ -71,9 +71,6 @@ module _ {M : Type 1} (𝓤 : URA M) (H : Heap 𝓤) (A : Atoms 𝓤) (W : Given
   abbrev T : Item 𝓤
   T = ‵ (flft κo qo) ⊛ ‵ ftrue
 
-  abbrev O : Fml
-  O = fsep (bool .own (c .ais) (vbool (c .ais) ∷ [])) (fsep (D.the-row .own d (D.Laws.lowered d ∷ [])) (fsep (u32 .own group (vint w32 group ∷ [])) (fsep (u64 .own attr (vint w64 attr ∷ [])) (fsep OwnO ftrue))))
-
   abbrev Y : Type 0
   Y = Unit {0} × (Unit {0} × (Unit {0} × (Unit {0} × (List ℕ × Unit {0}))))
 
@@ -85,9 +82,6 @@ module _ {M : Type 1} (𝓤 : URA M) (H : Heap 𝓤) (A : Atoms 𝓤) (W : Given
 
   abbrev to-answer-get : Share → Loan → AnswerGet 𝓤 H A mem′ run .Ghost
   to-answer-get sh n = ((lent-lfts (all (shared sh)) n (κo, tt), lent-shares (all (shared sh)) (qo, tt), tt, lent-args (all (shared sh)) n c bc oc (c .ais, (d, (group, (attr, (at-array bo oo γo bytes, tt))))), lent-vals (all (shared sh)) bc oc (vbool (c .ais) ∷ [], (D.Laws.lowered d ∷ [], (vint w32 group ∷ [], (vint w64 attr ∷ [], (out ∷ [], tt)))))), tt)
-
-  goes : length ys ≡ limitsOf c .places → (sh : Share) (n : Loan) → ent 𝓤 (⋆ 𝓤 H A (Toks (all (shared sh)) n T ∷ ‵ (Lent (all (shared sh)) n c bc oc O) ∷ [])) (AnswerGet 𝓤 H A mem′ run .pre (to-answer-get sh n))
-  goes right sh n = qed W (Toks (all (shared sh)) n T ∷ ‵ (Lent (all (shared sh)) n c bc oc O) ∷ []) ∵ says ! (valid right .ready) $ done !
 
   module _ (C′ : Calls 𝓤 H) (Λ : Loops 𝓤 H) (fm : FmC 𝓤 H (W .laws) C′) (known-refuse : Triple 𝓤 (C′ refuse.Symbol.name) (Refuse 𝓤 H A mem′ run)) (known-read : Triple 𝓤 (C′ read-device.Symbol.name) (ReadDevice 𝓤 H A mem′ run)) (known : Triple 𝓤 (C′ answer-get.Symbol.name) (AnswerGet 𝓤 H A mem′ run)) (l₀ l₁ l₂ l₃ l₄ l₅ l₆ l₇ l₈ l₉ l₁₀ l₁₁ l₁₂ l₁₃ l₁₄ l₁₅ : ℕ) where
     abbrev E : Env 𝓤 H
@@ -119,7 +113,7 @@ module _ {M : Type 1} (𝓤 : URA M) (H : Heap 𝓤) (A : Atoms 𝓤) (W : Given
       calls-it sh g gd =
           nothing ! $ move ! (9 ∷ 0 ∷ []) $ fjoin ! $ owned ! u64 (Is u64) (uint-makes 𝓤 H A W w64) attr _ (refl, attr-fits) $ fjoin ! $ owned ! u32 (Is u32) (uint-makes 𝓤 H A W w32) group _ (refl, group-fits) $ fjoin ! $ owned ! D.the-row (Is D.the-row) (LL.makes D.the-type D.Laws.the-plain 𝓤 H A) d _ gd $ fjoin ! $
           owned ! bool (Is bool) (bool-makes 𝓤 H A W) (c .ais) _ refl $ fjoin ! $ nothing ! $ move ! (10 ∷ 0 ∷ []) $ join ! $ move ! (2 ∷ 3 ∷ 4 ∷ 5 ∷ 0 ∷ 1 ∷ []) $
-          calls-four (all (shared sh)) ! fm (AnswerGet 𝓤 H A mem′ run) known (to-answer-get sh) c g bc oc An.the-row T O Leaves (λ z w. Got group attr c d bytes (last (w .1 .1 .1 .1)) z) (goes right sh) (λ n v. id⊢ 𝓤 _) (λ n i.
+          calls-four (all (shared sh)) ! fm (AnswerGet 𝓤 H A mem′ run) known (to-answer-get sh) c g bc oc An.the-row Leaves (λ z w. Got group attr c d bytes (last (w .1 .1 .1 .1)) z) (λ n. asks-that 𝓤 H A W _ (valid right .ready)) (λ n v. id⊢ 𝓤 _) (λ n i.
           (and-then ! (load ! (from ! (stop !)) (look ! 30 refl)) (and-then ! (load ! (from ! (stop !)) (look ! 32 refl)) (and-then ! (load ! (from ! (stop !)) (look ! 34 refl)) (and-then ! (load ! (from ! (stop !)) (look ! 36 refl)) (and-then ! (load ! (from ! (stop !)) (look ! 28 refl)) (and-then ! (load ! (from ! (stop !)) (look ! 24 refl)) (and-then ! (load ! (from ! (stop !)) (look ! 18 refl)) (and-then ! (load ! (from ! (stop !)) (look ! 20 refl)) (and-then ! (load ! (from ! (stop !)) (look ! 40 refl)) (no-more !))))))))))) (λ z v w got g′ is.
           land ! (from ! (stop !)) (init ! 11 refl (LL.lawful An.the-type An.Laws.the-laws 𝓤 H A W .typed z _ is .0)) $ move ! (0 ∷ 1 ∷ 2 ∷ 3 ∷ 6 ∷ 7 ∷ 8 ∷ []) $ ends sh g z v (w .1 .1 .1 .1) got is)
 

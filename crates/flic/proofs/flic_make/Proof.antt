@@ -144,7 +144,7 @@ module _ {M : Type 1} (𝓤 : URA M) (H : Heap 𝓤) (A : Atoms 𝓤) (W : Given
         nothing ! $ nothing ! $
         -- [true; true; the table; the device record; what closes each; the arrays from 10; …]
         move ! (10 ∷ 11 ∷ 12 ∷ 13 ∷ 0 ∷ 1 ∷ []) $
-        calls-four ways ! fm (Fresh 𝓤 H A mem′ run) (known .fresh) to-fresh (a .c) gc (a .bc) (a .oc) unit (‵ ftrue) ftrue {Y = Unit {0}} (λ y. ftrue) (λ z w. Freshly (w .0) (w .1 .0) (w .1 .1 .0)) (λ n. asks-nothing 𝓤 _) (λ n v. id⊢ 𝓤 _) (λ n i.
+        calls-four ways ! fm (Fresh 𝓤 H A mem′ run) (known .fresh) to-fresh (a .c) gc (a .bc) (a .oc) unit {Y = Unit {0}} (λ y. ftrue) (λ z w. Freshly (w .0) (w .1 .0) (w .1 .1 .0)) (λ n. asks-nothing 𝓤 _) (λ n v. id⊢ 𝓤 _) (λ n i.
         (and-then ! (load ! (from ! (stop !)) (look ! 34 refl)) (and-then ! (load ! (from ! (stop !)) (look ! 36 refl)) (and-then ! (load ! (from ! (stop !)) (look ! 38 refl)) (no-more !))))) (λ z v w φ g′ is.
         land ! (from ! (stop !)) (init ! 33 refl (unit-typed is)) $ rewrite ! 33 (λ (u : Val). ‵ (fat fullShare tyUnit l₇ 0 u)) (ap only is) refl $
         -- [the arrays; true; the rest's last values; the table; …]

@@ -1,6 +1,6 @@
 -- `flic_play_list`: the length of the table is looked at, all is opened, and `play_list` is called with an image of unused places. Where the controller was made fresh, the device
 -- record and the table are stored. Then all is closed.
-use Rattle.flic.proofs.Walk.{_≡_, refl, ap, subst, ℕ, _+_, Bool, true, false, [], _∷_, List, length, URA, fullShare, named, erased, w8, w64, tyInt, tyBool, tyUnit, tyRef, imm, mut, Val, vunit, vint, vbool, vptr, SProp, ent, id⊢, GName, Lft, Share, Fml, ftrue, fsep, flft, fres, fat, Memory, Routine, Heap, Env, Calls, Loops, Wp, WpFn, afterSeq, atReturn, Atoms, Fun, givenOf, tablesOf, Given, Item, Sq, runs, atRet, anyQ, ‵, ⋆, _⊛_, _$_, _∵_, !, qed, by, move, keep, drop, split, join, rewrite, fsplit, fjoin, suffices, frame, done, look, store, init, stop, hop, fld, from, load, lit, bin, addr, of-opd, and-then, no-more, assigns, first, skips, branches, exec, land, returns, returns-within, enter, alloc1, alloc0, params1, pass1, pass0, agg, whole, sub, look-in, FmC, owns, Is, pointee, u8, u64, bool, uint-makes, bool-makes, RefT, MutRef, sliceVal, sliceTy, ShrSlice, Room, ptr-vals, mut-tells, slice-vals, mut-slice-tells, shr-slice-tells, plain, only, owned, nothing, onEntry, tripleOf, Contract, Triple, cited, needs, says, Stays, stay-ref, stay-slice, stay-dropped, walkOf, goes-ref, goes-slice, goes-dropped, ends-at, yes, tyArray}
+use Rattle.flic.proofs.Walk.{_≡_, refl, ap, subst, ℕ, _+_, Bool, true, false, [], _∷_, List, length, URA, fullShare, named, erased, w8, w64, tyInt, tyBool, tyUnit, tyRef, imm, mut, Val, vunit, vint, vbool, vptr, SProp, ent, id⊢, GName, Lft, Share, Fml, ftrue, fsep, flft, fat, Memory, Routine, Heap, Env, Calls, Loops, Wp, WpFn, afterSeq, atReturn, Atoms, Fun, givenOf, tablesOf, Given, Item, Sq, runs, atRet, anyQ, ‵, ⋆, _⊛_, _$_, _∵_, !, qed, by, move, keep, drop, split, join, rewrite, fsplit, fjoin, suffices, frame, done, look, store, init, stop, hop, fld, from, load, lit, bin, addr, of-opd, and-then, no-more, assigns, first, skips, branches, exec, land, returns, returns-within, enter, alloc1, alloc0, params1, pass1, pass0, agg, whole, sub, look-in, FmC, owns, Is, pointee, u8, u64, bool, uint-makes, bool-makes, RefT, sliceVal, sliceTy, ShrSlice, Room, ptr-vals, mut-tells, slice-vals, mut-slice-tells, shr-slice-tells, plain, only, owned, nothing, onEntry, tripleOf, Contract, Triple, cited, needs, says, Stays, stay-ref, stay-slice, stay-dropped, walkOf, goes-ref, goes-slice, goes-dropped, ends-at, yes, tyArray}
 use types.Run.{un}
 use Rattle.lent_table.proofs.{Ends.concludes, Record.StoreDevice, Record.stores-device, Calls.Restore, Calls.restores, Count.taken, Tables.length-restored}
 use Rattle.lent_table.proofs.Images.{imageTy, low-image, FitsImage, image-typed, Empty, takes-empty}
@@ -23,9 +23,9 @@ use Rattle.list_play.specs.declared.Played.{Played}
 use Rattle.flic.specs.Surface.{Valid, Requested}
 use Rattle.calls.proofs.Controller as C
 use Rattle.list_play.proofs.Played as St
-use Rattle.flic.proofs.{Promises.Replayed, Promises.same-promises, Promises.play-promises, Promises.wrong-promises, Opened.Has, Ints.Ints}
+use Rattle.flic.proofs.{Promises.Replayed, Promises.same-promises, Promises.play-promises, Promises.wrong-promises, Opened.Has, Calls.asks-that}
 use Rattle.flic.proofs.All.{Refs, refs, at-ctl, at-dev, at-tab, table, Owned, Tokens, Passed, Open, Closed, opens-all, closes-all, takes-all, gives-all}
-use Rattle.flic.proofs.Four.{all, mutably, at-array, lends-array, array-back, Loan, Toks, Lent, left-by, lent-lfts, lent-shares, lent-args, lent-vals, calls-four}
+use Rattle.flic.proofs.Four.{said-of, all, mutably, at-array, lends-array, array-back, Loan, left-by, lent-lfts, lent-shares, lent-args, lent-vals, calls-four}
 use Rattle.answers.proofs.refuse as refuse
 use Rattle.lent_requests.proofs.Answered.{refused, Refuse, refuses}
 use Rattle.lent_table.proofs.store_device as store-device
@@ -84,20 +84,11 @@ module _ {M : Type 1} (𝓤 : URA M) (H : Heap 𝓤) (A : Atoms 𝓤) (W : Given
   abbrev T : Item 𝓤
   T = ‵ (flft κp qp) ⊛ ‵ ftrue
 
-  abbrev O : Fml
-  O = fsep (u64 .own imageSize (vint w64 imageSize ∷ [])) (fsep (u64 .own 256 (vint w64 256 ∷ [])) (fsep (bool .own (a .c .ais) (vbool (a .c .ais) ∷ [])) (fsep OwnP ftrue)))
-
-  abbrev O-image : (l ν : ℕ) → GName → Fml
-  O-image l ν δ = fsep (MutRef (named 0) (ν ∷ []) (Ints w64 imageSize) .own (at-array l 0 δ zeros) (vptr l 0 ∷ [])) O
-
   abbrev Y : Type 0
   Y = Unit {0} × (Unit {0} × (Unit {0} × (Unit {0} × Unit {0})))
 
   abbrev Leaves : Y → Fml
   Leaves y = fsep ftrue (fsep ftrue (fsep ftrue (fsep ftrue ftrue)))
-
-  abbrev Leaves-image : GName → List ℕ × Y → Fml
-  Leaves-image δ y = fsep (fres δ (Ints w64 imageSize .coded .code (y .0))) (Leaves (y .1))
 
   abbrev to-play : (l ν : ℕ) → GName → Loan → PlayList 𝓤 H A mem′ run .Ghost
   to-play l ν δ n = ((lent-lfts (all mutably) n (ν ∷ [], (κp, tt)), lent-shares (all mutably) (fullShare, (qp, tt)), tt, lent-args (all mutably) n (a .c) (a .bc) (a .oc) (at-array l 0 δ zeros, (imageSize, (256, (a .c .ais, (at-array bp op γp ps, tt))))), lent-vals (all mutably) (a .bc) (a .oc) (vptr l 0 ∷ [], (vint w64 imageSize ∷ [], (vint w64 256 ∷ [], (vbool (a .c .ais) ∷ [], (sp ∷ [], tt)))))), tt)
@@ -186,16 +177,13 @@ module _ {M : Type 1} (𝓤 : URA M) (H : Heap 𝓤) (A : Atoms 𝓤) (W : Given
             assigns ! (un ! (load ! (from ! (fld ! refl (stop !))) (look-in ! 29 (sub ! 2 refl (whole !)))) tt) (from ! (stop !)) (store ! 33 refl (tt, tt)) $
             first ! $ branches ! (load ! (from ! (stop !)) (look ! 33 refl)) (λ t. keeps-it (holds-false (r .fresh) t)) (λ t. skips ! $ exec ! C′ Λ E f.Code.Mir.t-15 (atRet E Post) $ stores-it (not-not (r .fresh) t))
 
-      goes : (ν : ℕ) (δ : GName) (n : Loan) → ent 𝓤 (⋆ 𝓤 H A (Toks (all mutably) n (‵ (flft (ν ∷ []) fullShare) ⊛ T) ∷ ‵ (Lent (all mutably) n (a .c) (a .bc) (a .oc) (O-image l₅ ν δ)) ∷ [])) (PlayList 𝓤 H A mem′ run .pre (to-play l₅ ν δ n))
-      goes ν δ n = qed W (Toks (all mutably) n (‵ (flft (ν ∷ []) fullShare) ⊛ T) ∷ ‵ (Lent (all mutably) n (a .c) (a .bc) (a .oc) (O-image l₅ ν δ)) ∷ []) ∵ says ! (omega arith, omega arith, valid right .ready, refl) $ done !
-
       calls-it : Has (a .c) → FitsImage zeros → Sq W (Open H a (a .t) (a .d) (a .c) (locals E (held blank (holds (low-image zeros)) blank (holds (vbool (a .c .ais))) 11) (‵ (flft κp qp) ∷ ‵ OwnP ∷ []))) (runs C′ Λ E f.Code.Mir.t-12 (atRet E Post))
       calls-it gc gz =
           nothing ! $ move ! (59 ∷ 0 ∷ []) $ fjoin ! $ owned ! bool (Is bool) (bool-makes 𝓤 H A W) (a .c .ais) _ refl $ fjoin ! $
           owned ! u64 (Is u64) (uint-makes 𝓤 H A W w64) 256 _ (refl, omega arith) $ fjoin ! $ owned ! u64 (Is u64) (uint-makes 𝓤 H A W w64) imageSize _ (refl, omega arith) $ fjoin ! $ nothing ! $ move ! (59 ∷ 0 ∷ []) $ join ! $
           -- [T; O; what is open, 17; the locals], and the image's cell goes to the front
           move ! (29 ∷ 0 ∷ 1 ∷ []) $ lends-array ! tt w64 imageSize zeros gz l₅ 0 mutably (λ ν δ. move ! (11 ∷ 12 ∷ 13 ∷ 14 ∷ 0 ∷ 1 ∷ []) $
-          calls-four (all mutably) ! fm (PlayList 𝓤 H A mem′ run) (known .play-list) (to-play l₅ ν δ) (a .c) gc (a .bc) (a .oc) St.the-row (‵ (flft (ν ∷ []) fullShare) ⊛ T) (O-image l₅ ν δ) (Leaves-image δ) (λ z w. Replayed (a .c) (w .0) (w .1 .0) (w .1 .1 .0) (w .1 .1 .1 .0) (w .1 .1 .1 .1 .0) ps z) (goes ν δ) (λ n v. id⊢ 𝓤 _) (λ n i.
+          calls-four (all mutably) ! fm (PlayList 𝓤 H A mem′ run) (known .play-list) (to-play l₅ ν δ) (a .c) gc (a .bc) (a .oc) St.the-row {Y = List ℕ × Y} (said-of mutably w64 imageSize δ Leaves) (λ z w. Replayed (a .c) (w .0) (w .1 .0) (w .1 .1 .0) (w .1 .1 .1 .0) (w .1 .1 .1 .1 .0) ps z) (λ n. asks-that 𝓤 H A W _ (omega arith, omega arith, valid right .ready, refl)) (λ n v. id⊢ 𝓤 _) (λ n i.
           (and-then ! (load ! (from ! (stop !)) (look ! 38 refl)) (and-then ! (load ! (from ! (stop !)) (look ! 40 refl)) (and-then ! (load ! (from ! (stop !)) (look ! 42 refl)) (and-then ! (load ! (from ! (stop !)) (look ! 44 refl)) (and-then ! (load ! (from ! (stop !)) (look ! 46 refl)) (and-then ! (lit ! tt) (and-then ! (lit ! tt) (and-then ! (load ! (from ! (stop !)) (look ! 34 refl)) (and-then ! (load ! (from ! (stop !)) (look ! 27 refl)) (no-more !))))))))))) (λ z v w φ g′ is.
           land ! (from ! (stop !)) (init ! 31 refl (LL.lawful St.the-type St.Laws.the-laws 𝓤 H A W .typed z _ is .0)) $ rewrite ! 31 (λ (u : Val). ‵ (fat fullShare St.Laws.mir l₆ 0 u)) (ap only (St.Laws.lowers .val-is z (v ∷ []) is)) refl $
           -- [the arrays; T; what is left; what the image's lender keeps; the rest that is open; the locals]

@@ -38,9 +38,9 @@ use Rattle.calls.proofs.Controller as C
 use Rattle.calls.proofs.answer_inject as answer-inject
 use Rattle.flic.specs.Surface.{Valid, Requested}
 use Rattle.flic.proofs.Promises.{SetRecords, Enqueued, enqueued, Cleared, cleared, ClearedIo, cleared-io, of-group, wrong-promises, record-promises, InjectedTo, inject-promises, place-promises, modes-promises}
-use Rattle.flic.proofs.{Opened.Has, Calls.OnPlace, Calls.SetPlace, Calls.SetModes, Calls.asks-place, Calls.sets-place, Calls.sets-modes}
+use Rattle.flic.proofs.{Opened.Has, Calls.asks-that, Calls.OnPlace, Calls.SetPlace, Calls.SetModes, Calls.asks-place, Calls.sets-place, Calls.sets-modes}
 use Rattle.flic.proofs.All.{Refs, refs, at-ctl, at-dev, at-tab, table, Owned, Tokens, Passed, Open, Closed, takes-all, opens-all, closes-all, gives-all}
-use Rattle.flic.proofs.Four.{Ways, all, mutably, shared, apart, at-array, Loan, Toks, Lent, left-by, lent-lfts, lent-shares, lent-args, lent-vals, calls-four}
+use Rattle.flic.proofs.Four.{Ways, all, mutably, shared, apart, at-array, Loan, left-by, lent-lfts, lent-shares, lent-args, lent-vals, calls-four}
 use Rattle.flic.proofs.flic_set as f
 
 -- how the arrays are lent: to ENQUEUE all, to CLEAR_IRQS all but the slots, to CLEAR_IO_IRQ and to an injection all but the two single records
@@ -186,17 +186,11 @@ module _ {M : Type 1} (𝓤 : URA M) (H : Heap 𝓤) (A : Atoms 𝓤) (W : Given
 
       -- ENQUEUE: after the arrays it takes the room, the attribute and the payload
       module _ (e : eqb group 2 ≡ true) where
-        abbrev O₁ : Fml
-        O₁ = fsep (u64 .own 256 (vint w64 256 ∷ [])) (fsep (u64 .own attr (vint w64 attr ∷ [])) (fsep OwnP ftrue))
-
         abbrev Y₁ : Type 0
         Y₁ = Unit {0} × (Unit {0} × (Unit {0} × Unit {0}))
 
         abbrev to-enqueue : Loan → Enqueue 𝓤 H A mem′ run .Ghost
         to-enqueue n = ((lent-lfts (all mutably) n (κp, tt), lent-shares (all mutably) (qp, tt), tt, lent-args (all mutably) n c (a .bc) (a .oc) (256, (attr, (at-array bp op γp ps, tt))), lent-vals (all mutably) (a .bc) (a .oc) (vint w64 256 ∷ [], (vint w64 attr ∷ [], (sp ∷ [], tt)))), tt)
-
-        goes₁ : (n : Loan) → ent 𝓤 (⋆ 𝓤 H A (Toks (all mutably) n T ∷ ‵ (Lent (all mutably) n c (a .bc) (a .oc) O₁) ∷ [])) (Enqueue 𝓤 H A mem′ run .pre (to-enqueue n))
-        goes₁ n = qed W (Toks (all mutably) n T ∷ ‵ (Lent (all mutably) n c (a .bc) (a .oc) O₁) ∷ []) ∵ says ! (omega arith, valid right .ready) $ done !
 
         takes-enqueue : Sq W (At ys d c (tested (eqb group 2))) (runs C′ Λ E (taken f.Code.Mir.s-5) (Then f.Code.Mir.t-6))
         takes-enqueue =
@@ -207,7 +201,7 @@ module _ {M : Type 1} (𝓤 : URA M) (H : Heap 𝓤) (A : Atoms 𝓤) (W : Given
             assigns ! (addr ! (from ! (hop ! (look ! 21 refl) (fld ! refl (stop !))))) (from ! (stop !)) (init ! 55 refl (tt, tt)) $
             nothing ! $ move ! (19 ∷ 0 ∷ []) $ fjoin ! $ owned ! u64 (Is u64) (uint-makes 𝓤 H A W w64) attr _ (refl, attr-fits) $ fjoin ! $ owned ! u64 (Is u64) (uint-makes 𝓤 H A W w64) 256 _ (refl, omega arith) $ fjoin ! $
             nothing ! $ move ! (19 ∷ 0 ∷ []) $ join ! $ move ! (10 ∷ 11 ∷ 12 ∷ 13 ∷ 0 ∷ 1 ∷ []) $
-            calls-four (all mutably) ! fm (Enqueue 𝓤 H A mem′ run) (known .enqueue) to-enqueue c gc (a .bc) (a .oc) An.the-row T O₁ {Y = Y₁} (λ y. fsep ftrue (fsep ftrue (fsep ftrue ftrue))) (λ z w. Enqueued c (w .0) (w .1 .0) (w .1 .1 .0) (w .1 .1 .1 .0) attr ps z) goes₁ (λ n v. id⊢ 𝓤 _)
+            calls-four (all mutably) ! fm (Enqueue 𝓤 H A mem′ run) (known .enqueue) to-enqueue c gc (a .bc) (a .oc) An.the-row {Y = Y₁} (λ y. fsep ftrue (fsep ftrue (fsep ftrue ftrue))) (λ z w. Enqueued c (w .0) (w .1 .0) (w .1 .1 .0) (w .1 .1 .1 .0) attr ps z) (λ n. asks-that 𝓤 H A W _ (omega arith, valid right .ready)) (λ n v. id⊢ 𝓤 _)
             (λ n i. (and-then ! (load ! (from ! (stop !)) (look ! 48 refl)) (and-then ! (load ! (from ! (stop !)) (look ! 50 refl)) (and-then ! (load ! (from ! (stop !)) (look ! 52 refl)) (and-then ! (load ! (from ! (stop !)) (look ! 54 refl)) (and-then ! (lit ! tt) (and-then ! (load ! (from ! (stop !)) (look ! 28 refl)) (and-then ! (load ! (from ! (stop !)) (look ! 32 refl)) (no-more !))))))))) (λ z v w φ g′ is.
             land ! (from ! (stop !)) (init ! 35 refl (LL.lawful An.the-type An.Laws.the-laws 𝓤 H A W .typed z _ is .0)) $ rewrite ! 35 (λ (u : Val). ‵ (fat fullShare An.Laws.mir l₈ 0 u)) (ap only (An.Laws.lowers .val-is z (v ∷ []) is)) refl $
             move ! (5 ∷ []) $ drop ! $ move ! (4 ∷ []) $ split ! $ move ! (1 ∷ []) $ drop ! $ move ! (5 ∷ 6 ∷ 7 ∷ 8 ∷ 9 ∷ 10 ∷ 11 ∷ 12 ∷ 1 ∷ 2 ∷ 3 ∷ 4 ∷ 13 ∷ 14 ∷ 15 ∷ 16 ∷ 17 ∷ 0 ∷ []) $
@@ -216,17 +210,11 @@ module _ {M : Type 1} (𝓤 : URA M) (H : Heap 𝓤) (A : Atoms 𝓤) (W : Given
 
       -- CLEAR_IRQS: after the arrays it takes the attribute
       module _ (e : eqb group 3 ≡ true) where
-        abbrev O₂ : Fml
-        O₂ = fsep (u64 .own attr (vint w64 attr ∷ [])) ftrue
-
         abbrev Y₂ : Type 0
         Y₂ = Unit {0} × Unit {0}
 
         abbrev to-clear : Loan → Clear 𝓤 H A mem′ run .Ghost
         to-clear n = ((lent-lfts clear-ways n tt, lent-shares clear-ways tt, tt, lent-args clear-ways n c (a .bc) (a .oc) (attr, tt), lent-vals clear-ways (a .bc) (a .oc) (vint w64 attr ∷ [], tt)), tt)
-
-        goes₂ : (n : Loan) → ent 𝓤 (⋆ 𝓤 H A (Toks clear-ways n (‵ ftrue) ∷ ‵ (Lent clear-ways n c (a .bc) (a .oc) O₂) ∷ [])) (Clear 𝓤 H A mem′ run .pre (to-clear n))
-        goes₂ n = qed W (Toks clear-ways n (‵ ftrue) ∷ ‵ (Lent clear-ways n c (a .bc) (a .oc) O₂) ∷ []) ∵ says ! (valid right .ready) $ done !
 
         takes-clear : Sq W (At ys d c (tested (eqb group 3))) (runs C′ Λ E (taken f.Code.Mir.s-7) (Then f.Code.Mir.t-8))
         takes-clear =
@@ -234,7 +222,7 @@ module _ {M : Type 1} (𝓤 : URA M) (H : Heap 𝓤) (A : Atoms 𝓤) (W : Given
             assigns ! (addr ! (from ! (hop ! (look ! 21 refl) (fld ! refl (stop !))))) (from ! (stop !)) (init ! 59 refl (tt, tt)) $
             assigns ! (addr ! (from ! (hop ! (look ! 21 refl) (fld ! refl (stop !))))) (from ! (stop !)) (init ! 61 refl (tt, tt)) $
             nothing ! $ owned ! u64 (Is u64) (uint-makes 𝓤 H A W w64) attr _ (refl, attr-fits) $ fjoin ! $ nothing ! $ move ! (10 ∷ 11 ∷ 12 ∷ 13 ∷ 0 ∷ 1 ∷ []) $
-            calls-four clear-ways ! fm (Clear 𝓤 H A mem′ run) (known .clear) to-clear c gc (a .bc) (a .oc) An.the-row (‵ ftrue) O₂ {Y = Y₂} (λ y. fsep ftrue ftrue) (λ z w. Cleared c (c .slots) (w .0) (w .1 .0) (w .1 .1 .0) attr ps z) goes₂ (λ n v. id⊢ 𝓤 _)
+            calls-four clear-ways ! fm (Clear 𝓤 H A mem′ run) (known .clear) to-clear c gc (a .bc) (a .oc) An.the-row {Y = Y₂} (λ y. fsep ftrue ftrue) (λ z w. Cleared c (c .slots) (w .0) (w .1 .0) (w .1 .1 .0) attr ps z) (λ n. asks-that 𝓤 H A W _ (valid right .ready)) (λ n v. id⊢ 𝓤 _)
             (λ n i. (and-then ! (load ! (from ! (stop !)) (look ! 58 refl)) (and-then ! (load ! (from ! (stop !)) (look ! 60 refl)) (and-then ! (load ! (from ! (stop !)) (look ! 62 refl)) (and-then ! (load ! (from ! (stop !)) (look ! 30 refl)) (no-more !)))))) (λ z v w φ g′ is.
             land ! (from ! (stop !)) (init ! 21 refl (LL.lawful An.the-type An.Laws.the-laws 𝓤 H A W .typed z _ is .0)) $ rewrite ! 21 (λ (u : Val). ‵ (fat fullShare An.Laws.mir l₀ 0 u)) (ap only (An.Laws.lowers .val-is z (v ∷ []) is)) refl $
             move ! (5 ∷ []) $ drop ! $ move ! (4 ∷ []) $ drop ! $ move ! (4 ∷ 5 ∷ 6 ∷ 7 ∷ 8 ∷ 9 ∷ 10 ∷ 11 ∷ 0 ∷ 1 ∷ 2 ∷ 3 ∷ []) $
@@ -242,17 +230,11 @@ module _ {M : Type 1} (𝓤 : URA M) (H : Heap 𝓤) (A : Atoms 𝓤) (W : Given
 
       -- CLEAR_IO_IRQ: after the arrays it takes the attribute and the payload
       module _ (e : eqb group 8 ≡ true) where
-        abbrev O₃ : Fml
-        O₃ = fsep (u64 .own attr (vint w64 attr ∷ [])) (fsep OwnP ftrue)
-
         abbrev Y₃ : Type 0
         Y₃ = Unit {0} × (Unit {0} × Unit {0})
 
         abbrev to-clear-io : Loan → ClearIo 𝓤 H A mem′ run .Ghost
         to-clear-io n = ((lent-lfts io-ways n (κp, tt), lent-shares io-ways (qp, tt), tt, lent-args io-ways n c (a .bc) (a .oc) (attr, (at-array bp op γp ps, tt)), lent-vals io-ways (a .bc) (a .oc) (vint w64 attr ∷ [], (sp ∷ [], tt))), tt)
-
-        goes₃ : (n : Loan) → ent 𝓤 (⋆ 𝓤 H A (Toks io-ways n T ∷ ‵ (Lent io-ways n c (a .bc) (a .oc) O₃) ∷ [])) (ClearIo 𝓤 H A mem′ run .pre (to-clear-io n))
-        goes₃ n = qed W (Toks io-ways n T ∷ ‵ (Lent io-ways n c (a .bc) (a .oc) O₃) ∷ []) ∵ says ! (valid right .ready) $ done !
 
         takes-clear-io : Sq W (At ys d c (tested (eqb group 8))) (runs C′ Λ E (taken f.Code.Mir.s-9) (Then f.Code.Mir.t-10))
         takes-clear-io =
@@ -261,7 +243,7 @@ module _ {M : Type 1} (𝓤 : URA M) (H : Heap 𝓤) (A : Atoms 𝓤) (W : Given
             assigns ! (addr ! (from ! (hop ! (look ! 21 refl) (fld ! refl (stop !))))) (from ! (stop !)) (init ! 67 refl (tt, tt)) $
             nothing ! $ move ! (19 ∷ 0 ∷ []) $ fjoin ! $ owned ! u64 (Is u64) (uint-makes 𝓤 H A W w64) attr _ (refl, attr-fits) $ fjoin ! $
             nothing ! $ move ! (19 ∷ 0 ∷ []) $ join ! $ move ! (10 ∷ 11 ∷ 12 ∷ 13 ∷ 0 ∷ 1 ∷ []) $
-            calls-four io-ways ! fm (ClearIo 𝓤 H A mem′ run) (known .clear-io) to-clear-io c gc (a .bc) (a .oc) An.the-row T O₃ {Y = Y₃} (λ y. fsep ftrue (fsep ftrue ftrue)) (λ z w. ClearedIo c (c .slots) (w .1 .0) (w .1 .1 .0) (c .singles) attr ps z) goes₃ (λ n v. id⊢ 𝓤 _)
+            calls-four io-ways ! fm (ClearIo 𝓤 H A mem′ run) (known .clear-io) to-clear-io c gc (a .bc) (a .oc) An.the-row {Y = Y₃} (λ y. fsep ftrue (fsep ftrue ftrue)) (λ z w. ClearedIo c (c .slots) (w .1 .0) (w .1 .1 .0) (c .singles) attr ps z) (λ n. asks-that 𝓤 H A W _ (valid right .ready)) (λ n v. id⊢ 𝓤 _)
             (λ n i. (and-then ! (load ! (from ! (stop !)) (look ! 62 refl)) (and-then ! (load ! (from ! (stop !)) (look ! 64 refl)) (and-then ! (load ! (from ! (stop !)) (look ! 66 refl)) (and-then ! (load ! (from ! (stop !)) (look ! 28 refl)) (and-then ! (load ! (from ! (stop !)) (look ! 30 refl)) (no-more !))))))) (λ z v w φ g′ is.
             land ! (from ! (stop !)) (init ! 19 refl (LL.lawful An.the-type An.Laws.the-laws 𝓤 H A W .typed z _ is .0)) $ rewrite ! 19 (λ (u : Val). ‵ (fat fullShare An.Laws.mir l₀ 0 u)) (ap only (An.Laws.lowers .val-is z (v ∷ []) is)) refl $
             move ! (5 ∷ []) $ drop ! $ move ! (4 ∷ []) $ split ! $ move ! (1 ∷ []) $ drop ! $ move ! (5 ∷ 6 ∷ 7 ∷ 8 ∷ 9 ∷ 10 ∷ 11 ∷ 12 ∷ 1 ∷ 2 ∷ 3 ∷ 4 ∷ 13 ∷ 14 ∷ 15 ∷ 16 ∷ 17 ∷ 0 ∷ []) $
@@ -285,17 +267,11 @@ module _ {M : Type 1} (𝓤 : URA M) (H : Heap 𝓤) (A : Atoms 𝓤) (W : Given
         abbrev injected : Content → (c₈ c₉ c₁₀ : Content) → ℕ → (c₃₀ c₃₁ c₃₂ : Content) → List Content
         injected v₀ c₈ c₉ c₁₀ n c₃₀ c₃₁ c₃₂ = v₀ ∷ held blank blank (holds (I.Laws.lowered id)) c₈ c₉ c₁₀ (eqb group 10) 0 0 0 n c₃₀ c₃₁ c₃₂ blank 0 blank
 
-        abbrev O₄ : Fml
-        O₄ = fsep (u64 .own imageSize (vint w64 imageSize ∷ [])) (fsep (u64 .own 256 (vint w64 256 ∷ [])) (fsep (bool .own (c .ais) (vbool (c .ais) ∷ [])) (fsep (D.the-row .own d (D.Laws.lowered d ∷ [])) (fsep (P.the-row .own place (P.Laws.lowered place ∷ [])) (fsep (I.the-row .own id (I.Laws.lowered id ∷ [])) ftrue)))))
-
         abbrev Y₄ : Type 0
         Y₄ = Unit {0} × (Unit {0} × (Unit {0} × (Unit {0} × (Unit {0} × (Unit {0} × Unit {0})))))
 
         abbrev to-inject : Loan → AnswerInject 𝓤 H A mem′ run .Ghost
         to-inject n = ((lent-lfts inject-ways n tt, lent-shares inject-ways tt, tt, lent-args inject-ways n c (a .bc) (a .oc) (imageSize, (256, (c .ais, (d, (place, (id, tt)))))), lent-vals inject-ways (a .bc) (a .oc) (vint w64 imageSize ∷ [], (vint w64 256 ∷ [], (vbool (c .ais) ∷ [], (D.Laws.lowered d ∷ [], (P.Laws.lowered place ∷ [], (I.Laws.lowered id ∷ [], tt))))))), tt)
-
-        goes₄ : (n : Loan) → ent 𝓤 (⋆ 𝓤 H A (Toks inject-ways n (‵ ftrue) ∷ ‵ (Lent inject-ways n c (a .bc) (a .oc) O₄) ∷ [])) (AnswerInject 𝓤 H A mem′ run .pre (to-inject n))
-        goes₄ n = qed W (Toks inject-ways n (‵ ftrue) ∷ ‵ (Lent inject-ways n c (a .bc) (a .oc) O₄) ∷ []) ∵ says ! (omega arith, valid right .ready, canonical) $ done !
 
         module _ (gp : Is P.the-row place (P.Laws.lowered place ∷ [])) (r : Answer) (gr : FitsAnswer r) (slots order counts : List ℕ) (gc′ : Has (controller slots order counts (c .singles) (c .ais))) (φ : InjectedTo attr c slots order counts d place r) where
           abbrev c′ : Controller
@@ -341,8 +317,8 @@ module _ {M : Type 1} (𝓤 : URA M) (H : Heap 𝓤) (A : Atoms 𝓤) (W : Given
             nothing ! $ owned ! I.the-row (Is I.the-row) (makes-id 𝓤 H A W) id _ fits-id $ fjoin ! $ owned ! P.the-row (Is P.the-row) (LL.makes P.the-type P.Laws.the-plain 𝓤 H A) place _ gp $ fjoin ! $ owned ! D.the-row (Is D.the-row) (LL.makes D.the-type D.Laws.the-plain 𝓤 H A) d _ gd $ fjoin ! $
             owned ! bool (Is bool) (bool-makes 𝓤 H A W) (c .ais) _ refl $ fjoin ! $ owned ! u64 (Is u64) (uint-makes 𝓤 H A W w64) 256 _ (refl, omega arith) $ fjoin ! $ owned ! u64 (Is u64) (uint-makes 𝓤 H A W w64) imageSize _ (refl, omega arith) $ fjoin ! $
             nothing ! $ move ! (10 ∷ 11 ∷ 12 ∷ 13 ∷ 0 ∷ 1 ∷ []) $
-            calls-four inject-ways ! fm (AnswerInject 𝓤 H A mem′ run) (known .inject) to-inject c gc (a .bc) (a .oc) An.the-row (‵ ftrue) O₄ {Y = Y₄} (λ y. fsep ftrue (fsep ftrue (fsep ftrue (fsep ftrue (fsep ftrue (fsep ftrue ftrue))))))
-            (λ z w. InjectedTo attr c (w .0) (w .1 .0) (w .1 .1 .0) d place z) goes₄ (λ n v. id⊢ 𝓤 _)
+            calls-four inject-ways ! fm (AnswerInject 𝓤 H A mem′ run) (known .inject) to-inject c gc (a .bc) (a .oc) An.the-row {Y = Y₄} (λ y. fsep ftrue (fsep ftrue (fsep ftrue (fsep ftrue (fsep ftrue (fsep ftrue ftrue))))))
+            (λ z w. InjectedTo attr c (w .0) (w .1 .0) (w .1 .1 .0) d place z) (λ n. asks-that 𝓤 H A W _ (omega arith, valid right .ready, canonical)) (λ n v. id⊢ 𝓤 _)
             (λ n i. (and-then ! (load ! (from ! (stop !)) (look ! 76 refl)) (and-then ! (load ! (from ! (stop !)) (look ! 78 refl)) (and-then ! (load ! (from ! (stop !)) (look ! 80 refl)) (and-then ! (lit ! tt) (and-then ! (lit ! tt) (and-then ! (load ! (from ! (stop !)) (look ! 82 refl)) (and-then ! (load ! (from ! (stop !)) (look ! 42 refl)) (and-then ! (load ! (from ! (stop !)) (look ! 40 refl)) (and-then ! (load ! (from ! (stop !)) (look ! 38 refl)) (no-more !))))))))))) (λ z v w φ g′ is.
             land ! (from ! (stop !)) (init ! 45 refl (LL.lawful An.the-type An.Laws.the-laws 𝓤 H A W .typed z _ is .0)) $ rewrite ! 45 (λ (u : Val). ‵ (fat fullShare An.Laws.mir l₁₂ 0 u)) (ap only (An.Laws.lowers .val-is z (v ∷ []) is)) refl $
             move ! (5 ∷ []) $ drop ! $ move ! (4 ∷ []) $ drop ! $ move ! (4 ∷ 5 ∷ 6 ∷ 7 ∷ 8 ∷ 9 ∷ 10 ∷ 11 ∷ 0 ∷ 1 ∷ 2 ∷ 3 ∷ []) $

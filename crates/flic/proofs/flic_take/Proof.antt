@@ -6,9 +6,9 @@ use Rattle.answers.specs.{declared.Answer.Answer, Answers.saw}
 use Rattle.answers.proofs.Answer as An
 use Rattle.calls.specs.declared.Controller.{Controller}
 use Rattle.flic.specs.Surface.{Ready, Taken}
-use Rattle.flic.proofs.{Promises.TakenOf, Promises.take-promises, Opened.Has, Opened.OpenAt, Opened.opens-ctl, Opened.closes-ctl}
+use Rattle.flic.proofs.{Promises.TakenOf, Promises.take-promises, Opened.Has, Opened.OpenAt, Opened.opens-ctl, Opened.closes-ctl, Calls.asks-that}
 use Rattle.calls.proofs.Controller as C
-use Rattle.flic.proofs.Four.{Ways, mutably, shared, Loan, Toks, Lent, Left, left-by, lent-lfts, lent-shares, lent-args, lent-vals, calls-four}
+use Rattle.flic.proofs.Four.{Ways, mutably, shared, Loan, Left, left-by, lent-lfts, lent-shares, lent-args, lent-vals, calls-four}
 use Rattle.record_take.proofs.take as take
 use Rattle.flic.proofs.flic_take as f
 
@@ -59,9 +59,6 @@ module _ {M : Type 1} (𝓤 : URA M) (H : Heap 𝓤) (A : Atoms 𝓤) (W : Given
   abbrev T : Item 𝓤
   T = ‵ (flft κo qo) ⊛ ‵ ftrue
 
-  abbrev O : Fml
-  O = fsep (u8 .own subclasses (vint w8 subclasses ∷ [])) (fsep (bool .own external (vbool external ∷ [])) (fsep (bool .own mcheck (vbool mcheck ∷ [])) (fsep OwnO ftrue)))
-
   abbrev Y : Type 0
   Y = Unit {0} × (Unit {0} × (Unit {0} × (List ℕ × Unit {0})))
 
@@ -80,9 +77,6 @@ module _ {M : Type 1} (𝓤 : URA M) (H : Heap 𝓤) (A : Atoms 𝓤) (W : Given
 
   abbrev to-take : Loan → Take 𝓤 H A mem′ run .Ghost
   to-take n = ((lent-lfts ways n (κo, tt), lent-shares ways (qo, tt), tt, lent-args ways n c bc oc (subclasses, (external, (mcheck, (xo, tt)))), lent-vals ways bc oc (vint w8 subclasses ∷ [], (vbool external ∷ [], (vbool mcheck ∷ [], (out ∷ [], tt))))), tt)
-
-  goes : (n : Loan) → ent 𝓤 (⋆ 𝓤 H A (Toks ways n T ∷ ‵ (Lent ways n c bc oc O) ∷ [])) (Take 𝓤 H A mem′ run .pre (to-take n))
-  goes n = qed W (Toks ways n T ∷ ‵ (Lent ways n c bc oc O) ∷ []) ∵ says ! ready $ done !
 
   module _ (C′ : Calls 𝓤 H) (Λ : Loops 𝓤 H) (fm : FmC 𝓤 H (W .laws) C′) (known : Triple 𝓤 (C′ take.Symbol.name) (Take 𝓤 H A mem′ run)) (l₀ l₁ l₂ l₃ l₄ l₅ l₆ l₇ l₈ l₉ l₁₀ l₁₁ : ℕ) where
     abbrev E : Env 𝓤 H
@@ -105,7 +99,7 @@ module _ {M : Type 1} (𝓤 : URA M) (H : Heap 𝓤) (A : Atoms 𝓤) (W : Given
     calls-it g =
         nothing ! $ move ! (10 ∷ 0 ∷ []) $ fjoin ! $ owned ! bool (Is bool) (bool-makes 𝓤 H A W) mcheck _ refl $ fjoin ! $ owned ! bool (Is bool) (bool-makes 𝓤 H A W) external _ refl $ fjoin ! $ owned ! u8 (Is u8) (uint-makes 𝓤 H A W w8) subclasses _ (refl, fits) $ fjoin ! $
         nothing ! $ move ! (11 ∷ 0 ∷ []) $ join ! $ move ! (2 ∷ 3 ∷ 4 ∷ 5 ∷ 0 ∷ 1 ∷ []) $
-        calls-four ways ! fm (Take 𝓤 H A mem′ run) known to-take c g bc oc An.the-row T O Leaves Φ goes (λ n v. id⊢ 𝓤 _) (λ n i.
+        calls-four ways ! fm (Take 𝓤 H A mem′ run) known to-take c g bc oc An.the-row Leaves Φ (λ n. asks-that 𝓤 H A W _ ready) (λ n v. id⊢ 𝓤 _) (λ n i.
         (and-then ! (load ! (from ! (stop !)) (look ! 22 refl)) (and-then ! (load ! (from ! (stop !)) (look ! 24 refl)) (and-then ! (load ! (from ! (stop !)) (look ! 26 refl)) (and-then ! (load ! (from ! (stop !)) (look ! 28 refl)) (and-then ! (load ! (from ! (stop !)) (look ! 14 refl)) (and-then ! (load ! (from ! (stop !)) (look ! 16 refl)) (and-then ! (load ! (from ! (stop !)) (look ! 18 refl)) (and-then ! (load ! (from ! (stop !)) (look ! 32 refl)) (no-more !)))))))))) (λ z v w φ g′ is.
         land ! (from ! (stop !)) (init ! 11 refl (LL.lawful An.the-type An.Laws.the-laws 𝓤 H A W .typed z _ is .0)) $ move ! (0 ∷ 1 ∷ 2 ∷ 3 ∷ 6 ∷ 7 ∷ 8 ∷ 9 ∷ 10 ∷ []) $ ends z v w φ g′ is)
 

@@ -17,9 +17,9 @@ use Rattle.lent_table.specs.Table.{snapTo}
 use Rattle.flic.specs.Surface.{Valid, Requested}
 use Rattle.list_write.specs.Write.{Written}
 use Rattle.calls.proofs.Controller as C
-use Rattle.flic.proofs.{Promises.write-promises, Promises.wrong-promises, Opened.Has, Opened.Cells, Opened.looks-ctl, Opened.shuts-ctl, All.Refs, All.refs, All.at-ctl, All.at-dev, All.at-tab, All.table, All.Tokens, Calls.gives-up, Calls.reads-passed}
+use Rattle.flic.proofs.{Promises.write-promises, Promises.wrong-promises, Opened.Has, Opened.Cells, Opened.looks-ctl, Opened.shuts-ctl, All.Refs, All.refs, All.at-ctl, All.at-dev, All.at-tab, All.table, All.Tokens, Calls.asks-that, Calls.gives-up, Calls.reads-passed}
 use Rattle.lent_table.proofs.Locals.{Content, blank, holds, since, locals, frees-all, swaps, holds-false, not-not}
-use Rattle.flic.proofs.Four.{all, shared, at-array, lends-array, array-back, Loan, Toks, Lent, lent-lfts, lent-shares, lent-args, lent-vals, calls-four}
+use Rattle.flic.proofs.Four.{all, shared, at-array, lends-array, array-back, Loan, lent-lfts, lent-shares, lent-args, lent-vals, calls-four}
 use Rattle.lent_requests.proofs.Answered.{refused, Refuse, refuses}
 use Rattle.answers.proofs.refuse as refuse
 use Rattle.lent_table.proofs.read_device as read-device
@@ -27,7 +27,6 @@ use Rattle.lent_table.proofs.snapshot as snapshot
 use Rattle.list_write.proofs.write_list as write-list
 use Rattle.flic.proofs.flic_write_list as f
 use Rattle.list_image.specs.Image.{imageSize}
-use Rattle.flic.proofs.Ints.{Ints}
 
 abbrev stayed : Stays (f.ended .signature .params) (f.ended .kept)
 stayed = (stay-dropped (shrRefTo (0 ∷ []) tt (plain (λ _. C.the-row))) yes, (stay-dropped (shrRefTo (1 ∷ []) tt (plain (λ _. D.the-row))) yes, (stay-dropped (shrSliceOf (2 ∷ []) tt (plain (λ _. P.the-row))) yes, (gave-slice (3 ∷ []) tt (plain (λ _. u8)), tt))))
@@ -80,9 +79,6 @@ module _ {M : Type 1} (𝓤 : URA M) (H : Heap 𝓤) (A : Atoms 𝓤) (W : Given
   abbrev T : Item 𝓤
   T = ‵ (flft κo qo) ⊛ ‵ ftrue
 
-  abbrev O : (l ν : ℕ) → GName → Fml
-  O l ν δ = fsep (bool .own (a .c .ais) (vbool (a .c .ais) ∷ [])) (fsep (D.the-row .own (a .d) (D.Laws.lowered (a .d) ∷ [])) (fsep (ShrRef (named 0) (ν ∷ []) (Ints w64 imageSize) .own (at-array l 0 δ image) (vptr l 0 ∷ [])) (fsep OwnO ftrue)))
-
   -- what it leaves of the bytes, and of all
   abbrev Left-bytes : Type 0
   Left-bytes = List ℕ × Unit {0}
@@ -98,10 +94,6 @@ module _ {M : Type 1} (𝓤 : URA M) (H : Heap 𝓤) (A : Atoms 𝓤) (W : Given
 
   abbrev to-write : (l ν : ℕ) → GName → Share → Loan → WriteList 𝓤 H A mem′ run .Ghost
   to-write l ν δ sh n = ((lent-lfts (all (shared sh)) n (ν ∷ [], (κo, tt)), lent-shares (all (shared sh)) (fullShare, (qo, tt)), tt, lent-args (all (shared sh)) n (a .c) (a .bc) (a .oc) (a .c .ais, (a .d, (at-array l 0 δ image, (at-array bo oo γo bytes, tt)))), lent-vals (all (shared sh)) (a .bc) (a .oc) (vbool (a .c .ais) ∷ [], (D.Laws.lowered (a .d) ∷ [], (vptr l 0 ∷ [], (out ∷ [], tt))))), tt)
-
-  goes : length (a .t) ≡ limitsOf (a .c) .places → (l ν : ℕ) (δ : GName) (sh : Share) (n : Loan)
-      → ent 𝓤 (⋆ 𝓤 H A (Toks (all (shared sh)) n (‵ (flft (ν ∷ []) fullShare) ⊛ T) ∷ ‵ (Lent (all (shared sh)) n (a .c) (a .bc) (a .oc) (O l ν δ)) ∷ [])) (WriteList 𝓤 H A mem′ run .pre (to-write l ν δ sh n))
-  goes right l ν δ sh n = qed W (Toks (all (shared sh)) n (‵ (flft (ν ∷ []) fullShare) ⊛ T) ∷ ‵ (Lent (all (shared sh)) n (a .c) (a .bc) (a .oc) (O l ν δ)) ∷ []) ∵ says ! (valid right .ready, length-snap (a .t) imageSize) $ done !
 
   module _ (C′ : Calls 𝓤 H) (Λ : Loops 𝓤 H) (fm : FmC 𝓤 H (W .laws) C′) (known : Known 𝓤 H A mem′ run C′) (l₀ l₁ l₂ l₃ l₄ l₅ l₆ l₇ l₈ l₉ l₁₀ l₁₁ l₁₂ l₁₃ l₁₄ l₁₅ l₁₆ : ℕ) where
     abbrev E : Env 𝓤 H
@@ -136,7 +128,7 @@ module _ {M : Type 1} (𝓤 : URA M) (H : Heap 𝓤) (A : Atoms 𝓤) (W : Given
           -- [T; the bytes; the controller's, 7; two tokens; the locals], and the image's cell goes to the front
           move ! (23 ∷ 0 ∷ 1 ∷ []) $ lends-array ! tt w64 imageSize image gi l₆ 0 (shared fullShare) (λ ν δ.
           move ! (1 ∷ []) $ owned ! D.the-row (Is D.the-row) (LL.makes D.the-type D.Laws.the-plain 𝓤 H A) (a .d) _ gd $ fjoin ! $ owned ! bool (Is bool) (bool-makes 𝓤 H A W) (a .c .ais) _ refl $ fjoin ! $ move ! (3 ∷ 4 ∷ 5 ∷ 6 ∷ 1 ∷ 0 ∷ []) $
-          calls-four (all (shared sh)) ! fm (WriteList 𝓤 H A mem′ run) (known .write-list) (to-write l₆ ν δ sh) (a .c) g (a .bc) (a .oc) An.the-row (‵ (flft (ν ∷ []) fullShare) ⊛ T) (O l₆ ν δ) Leaves (λ z w. Written (a .c .ais) (a .d) image (pendingIn (a .c)) bytes (w .1 .1 .1 .1 .1 .1 .1 .0) z) (goes right l₆ ν δ sh) (λ n v. id⊢ 𝓤 _) (λ n i.
+          calls-four (all (shared sh)) ! fm (WriteList 𝓤 H A mem′ run) (known .write-list) (to-write l₆ ν δ sh) (a .c) g (a .bc) (a .oc) An.the-row Leaves (λ z w. Written (a .c .ais) (a .d) image (pendingIn (a .c)) bytes (w .1 .1 .1 .1 .1 .1 .1 .0) z) (λ n. asks-that 𝓤 H A W _ (valid right .ready, length-snap (a .t) imageSize)) (λ n v. id⊢ 𝓤 _) (λ n i.
           (and-then ! (load ! (from ! (stop !)) (look ! 30 refl)) (and-then ! (load ! (from ! (stop !)) (look ! 32 refl)) (and-then ! (load ! (from ! (stop !)) (look ! 34 refl)) (and-then ! (load ! (from ! (stop !)) (look ! 36 refl)) (and-then ! (load ! (from ! (stop !)) (look ! 26 refl)) (and-then ! (load ! (from ! (stop !)) (look ! 21 refl)) (and-then ! (load ! (from ! (stop !)) (look ! 38 refl)) (and-then ! (load ! (from ! (stop !)) (look ! 42 refl)) (no-more !)))))))))) (λ z v w wrote g′ is.
           land ! (from ! (stop !)) (init ! 12 refl (LL.lawful An.the-type An.Laws.the-laws 𝓤 H A W .typed z _ is .0)) $
           -- [the arrays; T; what is left; what the image's lender keeps; the rest of the controller's; two tokens; the locals]

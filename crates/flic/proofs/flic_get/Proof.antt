@@ -1,7 +1,7 @@
 -- `flic_get`: of the table only the length is read; a wrong one is refused. Else the controller is looked into, and shut at the exit; its four arrays are lent by `&` to
 -- `answer_get`, the bytes are passed on, and so is the reference to the device record, to `read_device`.
-use Rattle.flic.proofs.Walk.{_≡_, refl, Bool, false, lit, bin, store, first, skips, branches, exec, returns-within, anyQ, afterSeq, Wp, atReturn, ℕ, _<_, _^_, [], _∷_, List, length, URA, named, erased, w8, w64, tyInt, tyBool, tyRef, imm, mut, Val, vint, vbool, vptr, SProp, ent, id⊢, feq, GName, Lft, Share, Fml, ftrue, fsep, flft, fobor, Memory, Routine, Heap, Env, Calls, Loops, WpFn, Atoms, Fun, givenOf, tablesOf, Given, Item, Sq, runs, atRet, ‵, ⋆, _⊛_, _$_, _∵_, !, qed, by, move, keep, drop, split, join, fsplit, fsplit3, fjoin, feqL, suffices, frame, done, look, init, stop, hop, fld, from, load, addr, of-opd, and-then, no-more, assigns, land, returns, enter, alloc1, alloc0, params1, pass1, pass0, agg, whole, sub, look-in, FmC, owns, Is, partAt, pointee, bool-makes, uint-vals, uint-tells, uint-makes, u8, u64, RefT, ShrRef, ptr-vals, shr-tells, finally, sliceVal, sliceTy, MutSlice, ShrSlice, Room, slice-vals, mut-slice-tells, shr-slice-tells, plain, owned, nothing, onEntry, tripleOf, Contract, Triple, cited, says, Stays, walkOf, ends-at, yes, _+_, w32, tyArray, u32, bool, needs, stay-dropped, goes-dropped, gave-slice, goes-gave-slice}
-use Rattle.lent_table.proofs.{Ends.concludes, Record.ReadDevice, Count.taken}
+use Rattle.flic.proofs.Walk.{_≡_, refl, Bool, false, lit, bin, store, first, skips, branches, exec, returns-within, anyQ, afterSeq, Wp, atReturn, ℕ, _<_, _^_, [], _∷_, List, length, URA, named, w64, Val, vint, vbool, vptr, SProp, ent, id⊢, feq, GName, Lft, Share, Fml, ftrue, fsep, flft, fobor, Memory, Routine, Heap, Env, Calls, Loops, WpFn, Atoms, Fun, givenOf, tablesOf, Given, Item, Sq, runs, atRet, ‵, ⋆, _⊛_, _$_, _∵_, !, qed, by, move, keep, drop, split, join, fsplit, fsplit3, fjoin, feqL, suffices, frame, done, look, init, stop, hop, fld, from, load, addr, of-opd, and-then, no-more, assigns, land, returns, enter, agg, whole, sub, look-in, FmC, owns, Is, partAt, bool-makes, uint-vals, uint-tells, uint-makes, u8, u64, RefT, ShrRef, ptr-vals, shr-tells, finally, sliceVal, MutSlice, ShrSlice, Room, slice-vals, mut-slice-tells, shr-slice-tells, plain, owned, nothing, onEntry, tripleOf, Contract, Triple, cited, says, Stays, walkOf, ends-at, yes, _+_, w32, u32, bool, needs, stay-dropped, goes-dropped, gave-slice, goes-gave-slice}
+use Rattle.lent_table.proofs.{Ends.concludes, Shell.others, Record.ReadDevice, Count.taken}
 use Rattle.numbers.proofs.Basics.{arith, eqb, not, eqb-true, eqb-false}
 use denote.Struct.Laws as LL
 use denote.Signature.{shrRefTo, shrSliceOf}
@@ -16,8 +16,8 @@ use Rattle.adapters.proofs.Device as D
 use Rattle.adapters.proofs.Place as P
 use Rattle.flic.specs.Surface.{Valid, Requested}
 use Rattle.calls.proofs.Controller as C
-use Rattle.flic.proofs.{Promises.get-promises, Promises.wrong-promises, Opened.Has, Opened.Cells, Opened.looks-ctl, Opened.shuts-ctl, Calls.asks-that, Calls.gives-up, Calls.reads-passed}
-use Rattle.lent_table.proofs.Locals.{Content, blank, holds, since, locals, frees-all, swaps, holds-false, not-not}
+use Rattle.flic.proofs.{Promises.get-promises, Promises.wrong-promises, Opened.Has, Opened.Cells, Opened.looks-ctl, Opened.shuts-ctl, Calls.asks-that, Calls.gives-up, Calls.reads-passed, Frame.params-of, Frame.laid}
+use Rattle.lent_table.proofs.Locals.{Blocks, Content, blank, holds, since, locals, holds-false, not-not, ends-with, sets-up}
 use Rattle.flic.proofs.Four.{all, shared, at-array, Loan, lent-lfts, lent-shares, lent-args, lent-vals, calls-four}
 use Rattle.lent_requests.proofs.Answered.{refused, Refuse, refuses}
 use Rattle.answers.proofs.refuse as refuse
@@ -83,9 +83,9 @@ module _ {M : Type 1} (𝓤 : URA M) (H : Heap 𝓤) (A : Atoms 𝓤) (W : Given
   abbrev to-answer-get : Share → Loan → AnswerGet 𝓤 H A mem′ run .Ghost
   to-answer-get sh n = ((lent-lfts (all (shared sh)) n (κo, tt), lent-shares (all (shared sh)) (qo, tt), tt, lent-args (all (shared sh)) n c bc oc (c .ais, (d, (group, (attr, (at-array bo oo γo bytes, tt))))), lent-vals (all (shared sh)) bc oc (vbool (c .ais) ∷ [], (D.Laws.lowered d ∷ [], (vint w32 group ∷ [], (vint w64 attr ∷ [], (out ∷ [], tt)))))), tt)
 
-  module _ (C′ : Calls 𝓤 H) (Λ : Loops 𝓤 H) (fm : FmC 𝓤 H (W .laws) C′) (known-refuse : Triple 𝓤 (C′ refuse.Symbol.name) (Refuse 𝓤 H A mem′ run)) (known-read : Triple 𝓤 (C′ read-device.Symbol.name) (ReadDevice 𝓤 H A mem′ run)) (known : Triple 𝓤 (C′ answer-get.Symbol.name) (AnswerGet 𝓤 H A mem′ run)) (l₀ l₁ l₂ l₃ l₄ l₅ l₆ l₇ l₈ l₉ l₁₀ l₁₁ l₁₂ l₁₃ l₁₄ l₁₅ : ℕ) where
+  module _ (C′ : Calls 𝓤 H) (Λ : Loops 𝓤 H) (fm : FmC 𝓤 H (W .laws) C′) (known-refuse : Triple 𝓤 (C′ refuse.Symbol.name) (Refuse 𝓤 H A mem′ run)) (known-read : Triple 𝓤 (C′ read-device.Symbol.name) (ReadDevice 𝓤 H A mem′ run)) (known : Triple 𝓤 (C′ answer-get.Symbol.name) (AnswerGet 𝓤 H A mem′ run)) (l₀ : ℕ) (bs : Blocks (params-of f.Code.function)) (cs : Blocks (others f.Code.function)) where
     abbrev E : Env 𝓤 H
-    E = (An.Laws.mir, l₀) ∷ (tyRef (named 0) imm (pointee (C.the-row .written)), l₁) ∷ (tyRef (named 1) imm (pointee (D.the-row .written)), l₂) ∷ (sliceTy (tyRef (named 2) imm (pointee (P.the-row .written))), l₃) ∷ (tyInt w32, l₄) ∷ (tyInt w64, l₅) ∷ (sliceTy (tyRef (named 3) mut (tyInt w8)), l₆) ∷ (D.Laws.mir, l₇) ∷ (tyInt w64, l₈) ∷ (tyBool, l₉) ∷ (tyRef erased imm (tyArray (tyInt w8) 18432), l₁₀) ∷ (tyRef erased imm (tyArray (tyInt w8) 2560), l₁₁) ∷ (tyRef erased imm (tyArray (tyInt w64) 11), l₁₂) ∷ (tyRef erased imm (tyArray (tyInt w8) 146), l₁₃) ∷ (tyRef erased mut (tyInt w8), l₁₄) ∷ (sliceTy (tyRef erased mut (tyInt w8)), l₁₅) ∷ []
+    E = laid f.Code.function An.Laws.mir l₀ bs cs
 
     -- what the locals hold after n statements, and the result's v₀; the flag is whether the length is wrong, then the capability
     abbrev wrong : Bool
@@ -107,7 +107,7 @@ module _ {M : Type 1} (𝓤 : URA M) (H : Heap 𝓤) (A : Atoms 𝓤) (W : Given
           shuts-ctl ! tt sh c g bc oc $ move ! (2 ∷ []) $ fsplit ! $ drop ! $ fsplit ! $ drop ! $ fsplit ! $ drop ! $ fsplit ! $ drop ! $ fsplit ! $ fsplit ! $ move ! (1 ∷ []) $ feqL ! (λ e.
           -- [the last bytes; true; the token; T; two tokens; the locals]
           move ! (3 ∷ []) $ split ! $ move ! (4 ∷ 5 ∷ 6 ∷ 0 ∷ 2 ∷ 1 ∷ 3 ∷ []) $ move ! (5 ∷ []) $ drop ! $ move ! (5 ∷ []) $ drop ! $
-          returns ! (look ! 5 refl) $ swaps ! (Rest (last y)) (locals E (held (holds v) (c .ais) 11) []) $ frees-all ! E (held (holds v) (c .ais) 11) $ by ! (exits (last y) z v (get-promises group attr c d ys bytes (last y) z right (valid right) got) e is))
+          returns ! (look ! 5 refl) $ ends-with ! (Rest (last y)) E (held (holds v) (c .ais) 11) $ by ! (exits (last y) z v (get-promises group attr c d ys bytes (last y) z right (valid right) got) e is))
 
       calls-it : (sh : Share) → Has c → Is D.the-row d (D.Laws.lowered d ∷ []) → Sq W (Open sh (‵ (flft κd qd) ∷ ‵ OwnO ∷ ‵ (flft κo qo) ∷ ‵ (flft κt qt) ∷ locals E (held blank (c .ais) 11) [])) (runs C′ Λ E f.Code.Mir.t-12 (atRet E Post))
       calls-it sh g gd =
@@ -148,7 +148,7 @@ module _ {M : Type 1} (𝓤 : URA M) (H : Heap 𝓤) (A : Atoms 𝓤) (W : Given
         refuses ! mem′ run fm known-refuse 14 (omega arith) (λ i. (and-then ! (lit ! tt) (no-more !))) (λ g.
         land ! (from ! (stop !)) (init ! 7 refl (LL.lawful An.the-type An.Laws.the-laws 𝓤 H A W .typed (refused 14) _ g .0)) $ move ! (4 ∷ []) $ gives-up ! κo bo oo γo bytes $
         move ! (4 ∷ 1 ∷ 6 ∷ 5 ∷ 0 ∷ []) $ move ! (5 ∷ []) $ drop ! $ move ! (5 ∷ []) $ drop ! $ returns-within ! Post refl (look ! 5 refl) $
-        swaps ! (Rest bytes) (locals E (held (holds (An.Laws.lowered (refused 14))) wrong 2) []) $ frees-all ! E (held (holds (An.Laws.lowered (refused 14))) wrong 2) $
+        ends-with ! (Rest bytes) E (held (holds (An.Laws.lowered (refused 14))) wrong 2) $
         by ! (exits bytes (refused 14) (An.Laws.lowered (refused 14)) (wrong-promises c d ys bytes (wrong-length c _ (eqb-false (length ys) imageSize e)) (getAttr group attr) tt) refl g))
 
     -- the length is looked at
@@ -168,9 +168,7 @@ module _ {M : Type 1} (𝓤 : URA M) (H : Heap 𝓤) (A : Atoms 𝓤) (W : Given
       move ! (5 ∷ []) $ fsplit ! $ move ! (1 ∷ []) $ fsplit ! $ move ! (1 ∷ []) $ fsplit ! $ drop ! $ fsplit ! $ drop ! $ fsplit ! $ drop ! $ fsplit ! $
       -- [out's; true; d's; c's; the tokens o; true; t; d; c]
       keep ! (7 ∷ 2 ∷ 3 ∷ 8 ∷ 0 ∷ 4 ∷ 6 ∷ []) $ enter ! C′ Λ f.Code.function (vptr bc oc ∷ vptr bd od ∷ s ∷ vint w32 group ∷ vint w64 attr ∷ out ∷ []) _ $
-      alloc1 ! (λ l₀. alloc1 ! (λ l₁. alloc1 ! (λ l₂. alloc1 ! (λ l₃. alloc1 ! (λ l₄. alloc1 ! (λ l₅. alloc1 ! (λ l₆. alloc1 ! (λ l₇. alloc1 ! (λ l₈. alloc1 ! (λ l₉. alloc1 ! (λ l₁₀. alloc1 ! (λ l₁₁. alloc1 ! (λ l₁₂. alloc1 ! (λ l₁₃. alloc1 ! (λ l₁₄. alloc1 ! (λ l₁₅. alloc0 ! $ params1 ! $
-      pass1 ! (init ! 28 refl (tt, tt)) $ pass1 ! (init ! 26 refl (tt, tt)) $ pass1 ! (init ! 24 refl (tt, (tt, (record { fits = room .0 }, tt)))) $ pass1 ! (init ! 22 refl (tt, record { fits = group-fits })) $ pass1 ! (init ! 20 refl (tt, record { fits = attr-fits })) $ pass1 ! (init ! 18 refl (tt, (tt, (record { fits = room-o .0 }, tt)))) $ pass0 ! $
-      keep ! (32 ∷ 33 ∷ 34 ∷ 35 ∷ 36 ∷ 37 ∷ 38 ∷ 30 ∷ 31 ∷ 28 ∷ 29 ∷ 26 ∷ 27 ∷ 24 ∷ 25 ∷ 22 ∷ 23 ∷ 20 ∷ 21 ∷ 18 ∷ 19 ∷ 16 ∷ 17 ∷ 14 ∷ 15 ∷ 12 ∷ 13 ∷ 10 ∷ 11 ∷ 8 ∷ 9 ∷ 6 ∷ 7 ∷ 4 ∷ 5 ∷ 2 ∷ 3 ∷ 0 ∷ 1 ∷ []) $ starts C′ Λ fm known-refuse known-read known l₀ l₁ l₂ l₃ l₄ l₅ l₆ l₇ l₈ l₉ l₁₀ l₁₁ l₁₂ l₁₃ l₁₄ l₁₅))))))))))))))))
+      sets-up ! _ An.Laws.mir (params-of f.Code.function) (others f.Code.function) _ ((tt, tt), ((tt, tt), ((tt, (tt, (record { fits = room .0 }, tt))), ((tt, record { fits = group-fits }), ((tt, record { fits = attr-fits }), ((tt, (tt, (record { fits = room-o .0 }, tt))), tt)))))) (starts C′ Λ fm known-refuse known-read known)
 
 pub flic-get-spec : {M : Type 1} → f.Statement.statement M
 unfolding f.Code.routine tablesOf

@@ -1,7 +1,7 @@
 -- `flic_set`: the table's length is looked at first. Then the table, the device record and the controller are opened, the group decides which function is called, and all is
 -- closed at the exit. In between the walk holds their memory.
-use Rattle.flic.proofs.Walk.{_≡_, refl, sym, ap, subst, ℕ, _<_, _^_, Bool, true, false, [], _∷_, List, length, getD, URA, fullShare, named, erased, w8, w64, tyInt, tyBool, tyUnit, tyRef, imm, mut, Val, vunit, vint, vbool, vptr, SProp, ent, id⊢, GName, Lft, Share, Fml, ftrue, fsep, flft, fat, Memory, Routine, Heap, Env, Calls, Loops, WpFn, Atoms, Fun, givenOf, tablesOf, Given, Item, Sq, runs, atRet, ‵, ⋆, _⊛_, _$_, _∵_, !, qed, by, move, keep, drop, split, join, rewrite, fsplit, fjoin, suffices, frame, done, look, store, init, stop, hop, fld, from, load, lit, addr, of-opd, bin, and-then, no-more, assigns, land, enter, alloc1, alloc0, params1, pass1, pass0, agg, whole, sub, look-in, FmC, owns, Is, pointee, bool-makes, uint-vals, uint-tells, uint-makes, u8, u64, RefT, ptr-vals, mut-tells, sliceVal, sliceTy, ShrSlice, Room, slice-vals, mut-slice-tells, shr-slice-tells, plain, only, owned, nothing, onEntry, tripleOf, Contract, Triple, cited, says, Stays, stay-ref, stay-slice, walkOf, goes-ref, goes-slice, ends-at, yes, _+_, w32, tyArray, u32, bool, needs, stay-dropped, goes-dropped, Wp, afterSeq, atReturn, anyQ, first, skips, branches, exec, returns-within}
-use Rattle.lent_table.proofs.{Ends.concludes, Count.afters, Count.taken, Places.FitsId, Places.fit-id, Places.typed-id, Places.makes-id, Record.ReadDevice, Record.NoteInjection, Record.reads-device, Record.notes-injection, Calls.LookUp, Calls.looks-up}
+use Rattle.flic.proofs.Walk.{_≡_, refl, sym, ap, subst, ℕ, _<_, _^_, Bool, true, false, [], _∷_, List, length, getD, URA, fullShare, named, w64, Val, vunit, vint, vbool, vptr, SProp, ent, id⊢, GName, Lft, Share, Fml, ftrue, fsep, flft, fat, Memory, Routine, Heap, Env, Calls, Loops, WpFn, Atoms, Fun, givenOf, tablesOf, Given, Item, Sq, runs, atRet, ‵, ⋆, _⊛_, _$_, _∵_, !, qed, by, move, keep, drop, split, join, rewrite, fsplit, fjoin, suffices, frame, done, look, store, init, stop, hop, fld, from, load, lit, addr, of-opd, bin, and-then, no-more, assigns, land, enter, agg, whole, sub, look-in, FmC, owns, Is, bool-makes, uint-vals, uint-tells, uint-makes, u8, u64, RefT, ptr-vals, mut-tells, sliceVal, ShrSlice, Room, slice-vals, mut-slice-tells, shr-slice-tells, plain, only, owned, nothing, onEntry, tripleOf, Contract, Triple, cited, says, Stays, stay-ref, stay-slice, walkOf, goes-ref, goes-slice, ends-at, yes, _+_, w32, u32, bool, needs, stay-dropped, goes-dropped, Wp, afterSeq, atReturn, anyQ, first, skips, branches, exec, returns-within}
+use Rattle.lent_table.proofs.{Ends.concludes, Shell.others, Count.afters, Count.taken, Places.FitsId, Places.fit-id, Places.typed-id, Places.makes-id, Record.ReadDevice, Record.NoteInjection, Record.reads-device, Record.notes-injection, Calls.LookUp, Calls.looks-up}
 use types.Kit.{post}
 use prog.Wp.{returns as returnsᴼ}
 use Rattle.numbers.proofs.Basics.{arith, eqb, not, eqb-true, eqb-false}
@@ -23,7 +23,7 @@ use Rattle.adapters.proofs.Device as D
 use Rattle.adapters.proofs.Place as P
 use Rattle.adapter_requests.specs.States.{onPlace}
 use Rattle.adapter_requests.proofs.on_place as on-place
-use Rattle.lent_table.proofs.Locals.{Content, blank, holds, since, locals, frees-front, swaps, holds-true, holds-false, not-not}
+use Rattle.lent_table.proofs.Locals.{Blocks, Content, blank, holds, since, locals, holds-true, holds-false, not-not, ends-with, sets-up}
 use Rattle.lent_requests.proofs.{Answered.FitsAnswer, Answered.refused, Answered.Refuse, Answered.ByFields, Answered.refuses, Answered.copies, Laws.canonical-unused}
 use Rattle.answers.proofs.by_fields as by-fields
 use Rattle.record_add.proofs.enqueue_irqs as enqueue
@@ -38,7 +38,7 @@ use Rattle.calls.proofs.Controller as C
 use Rattle.calls.proofs.answer_inject as answer-inject
 use Rattle.flic.specs.Surface.{Valid, Requested}
 use Rattle.flic.proofs.Promises.{SetRecords, Enqueued, enqueued, Cleared, cleared, ClearedIo, cleared-io, of-group, wrong-promises, record-promises, InjectedTo, inject-promises, place-promises, modes-promises}
-use Rattle.flic.proofs.{Opened.Has, Calls.asks-that, Calls.OnPlace, Calls.SetPlace, Calls.SetModes, Calls.asks-place, Calls.sets-place, Calls.sets-modes}
+use Rattle.flic.proofs.{Opened.Has, Calls.asks-that, Calls.OnPlace, Calls.SetPlace, Calls.SetModes, Calls.asks-place, Calls.sets-place, Calls.sets-modes, Frame.params-of, Frame.laid}
 use Rattle.flic.proofs.All.{Refs, refs, at-ctl, at-dev, at-tab, table, Owned, Tokens, Passed, Open, Closed, takes-all, opens-all, closes-all, gives-all}
 use Rattle.flic.proofs.Four.{Ways, all, mutably, shared, apart, at-array, Loan, left-by, lent-lfts, lent-shares, lent-args, lent-vals, calls-four}
 use Rattle.flic.proofs.flic_set as f
@@ -112,11 +112,9 @@ module _ {M : Type 1} (𝓤 : URA M) (H : Heap 𝓤) (A : Atoms 𝓤) (W : Given
       nothing ! $ nothing ! $ fjoin ! $ nothing ! $ fjoin ! $ nothing ! $ fjoin ! $ nothing ! $ move ! (11 ∷ 0 ∷ []) $ join ! $ move ! (2 ∷ 3 ∷ 4 ∷ 5 ∷ 6 ∷ 7 ∷ 8 ∷ 9 ∷ 10 ∷ []) $
       gives-all ! a zs m c′ e room $ frame ! $ frame ! $ owned ! An.the-row (Is An.the-row) (LL.makes An.the-type An.Laws.the-plain 𝓤 H A) z _ g $ done !
 
-  module _ (C′ : Calls 𝓤 H) (Λ : Loops 𝓤 H) (fm : FmC 𝓤 H (W .laws) C′) (known : Known 𝓤 H A mem′ run C′) (l₀ l₁ l₂ l₃ l₄ l₅ l₆ l₇ l₈ l₉ l₁₀ l₁₁ l₁₂ l₁₃ l₁₄ l₁₅ l₁₆ l₁₇ l₁₈ l₁₉ l₂₀ l₂₁ l₂₂ l₂₃ l₂₄ l₂₅ l₂₆ l₂₇ l₂₈ l₂₉ l₃₀ l₃₁ l₃₂ l₃₃ l₃₄ l₃₅ l₃₆ l₃₇ : ℕ) where
+  module _ (C′ : Calls 𝓤 H) (Λ : Loops 𝓤 H) (fm : FmC 𝓤 H (W .laws) C′) (known : Known 𝓤 H A mem′ run C′) (l₀ : ℕ) (bs : Blocks (params-of f.Code.function)) (cs : Blocks (others f.Code.function)) where
     abbrev E : Env 𝓤 H
-    E = (An.Laws.mir, l₀) ∷ (tyRef (named 0) mut (pointee (C.the-row .written)), l₁) ∷ (tyRef (named 1) mut (pointee (D.the-row .written)), l₂) ∷ (sliceTy (tyRef (named 2) mut (pointee (P.the-row .written))), l₃) ∷ (tyInt w32, l₄) ∷ (tyInt w64, l₅) ∷ (sliceTy (tyRef (named 3) imm (tyInt w8)), l₆) ∷ (sliceTy (tyRef erased imm (tyInt w8)), l₇) ∷ (An.Laws.mir, l₈) ∷ (I.Laws.mir, l₉) ∷ (P.Laws.mir, l₁₀) ∷ (D.Laws.mir, l₁₁) ∷ (An.Laws.mir, l₁₂) ∷ (tyInt w64, l₁₃) ∷ (tyBool, l₁₄)
-        ∷ (tyRef erased mut (tyArray (tyInt w8) 18432), l₁₅) ∷ (tyRef erased mut (tyArray (tyInt w8) 2560), l₁₆) ∷ (tyRef erased mut (tyArray (tyInt w64) 11), l₁₇) ∷ (tyRef erased mut (tyArray (tyInt w8) 146), l₁₈) ∷ (tyRef erased mut (tyArray (tyInt w8) 2560), l₁₉) ∷ (tyRef erased mut (tyArray (tyInt w64) 11), l₂₀) ∷ (tyRef erased mut (tyArray (tyInt w8) 146), l₂₁) ∷ (tyRef erased imm (tyArray (tyInt w8) 18432), l₂₂) ∷ (tyRef erased mut (tyArray (tyInt w8) 2560), l₂₃) ∷ (tyRef erased mut (tyArray (tyInt w64) 11), l₂₄)
-        ∷ (tyRef erased imm (pointee (P.the-row .written)), l₂₅) ∷ (sliceTy (tyRef erased imm (pointee (P.the-row .written))), l₂₆) ∷ (tyRef erased imm (pointee (D.the-row .written)), l₂₇) ∷ (tyRef erased mut (tyArray (tyInt w8) 18432), l₂₈) ∷ (tyRef erased mut (tyArray (tyInt w8) 2560), l₂₉) ∷ (tyRef erased mut (tyArray (tyInt w64) 11), l₃₀) ∷ (tyBool, l₃₁) ∷ (tyUnit, l₃₂) ∷ (tyRef erased mut (pointee (D.the-row .written)), l₃₃) ∷ (tyBool, l₃₄) ∷ (tyRef erased mut (pointee (P.the-row .written)), l₃₅) ∷ (sliceTy (tyRef erased mut (pointee (P.the-row .written))), l₃₆) ∷ (tyRef erased mut (pointee (D.the-row .written)), l₃₇) ∷ []
+    E = laid f.Code.function An.Laws.mir l₀ bs cs
 
     abbrev c : Controller
     c = a .c
@@ -156,7 +154,7 @@ module _ {M : Type 1} (𝓤 : URA M) (H : Heap 𝓤) (A : Atoms 𝓤) (W : Given
         → Requested (setAttr group attr) c c′ d m ys zs ps (saw z ps) → (rest : List Content) → Sq W (At zs m c′ (holds (An.Laws.lowered z) ∷ rest)) (runs C′ Λ E return q)
     ends q h c′ m zs z len gc′ gm gz requested rest =
         closes-all ! tt a zs m c′ len gm gc′ $ move ! (10 ∷ []) $ drop ! $ returns-within ! Post h (look ! 10 refl) $
-        swaps ! (Closed a zs m c′ (‵ (flft κp qp) ∷ [])) (locals E (holds (An.Laws.lowered z) ∷ rest) []) $ frees-front ! E (holds (An.Laws.lowered z) ∷ rest) $ by ! (exits c′ m zs z len requested gz)
+        ends-with ! (Closed a zs m c′ (‵ (flft κp qp) ∷ [])) E (holds (An.Laws.lowered z) ∷ rest) $ by ! (exits c′ m zs z len requested gz)
 
     -- what follows a test
     abbrev Then : Code → types.Kit.Post 𝓤 H
@@ -181,8 +179,7 @@ module _ {M : Type 1} (𝓤 : URA M) (H : Heap 𝓤) (A : Atoms 𝓤) (W : Given
       ends-records : (k : ℕ) → eqb group k ≡ true → (rest : Code) (z : Answer) (c′ : Controller) → Has c′ → FitsAnswer z → c′ .ais ≡ c .ais → SetRecords k attr c c′ ps z → (vs : List Content)
           → Sq W (Open H a ys d c′ (‵ (flft κp qp) ∷ locals E (holds (An.Laws.lowered z) ∷ vs) [])) (runs C′ Λ E return (Then rest))
       ends-records k e rest z c′ gc′ gz same φ vs =
-          closes-all ! tt a ys d c′ refl gd gc′ $ returns-within ! Post refl (look ! 10 refl) $ swaps ! (Closed a ys d c′ (‵ (flft κp qp) ∷ [])) (locals E (holds (An.Laws.lowered z) ∷ vs) []) $
-          frees-front ! E (holds (An.Laws.lowered z) ∷ vs) $ by ! (exits c′ d ys z refl (promised-records k e z c′ same φ) gz)
+          closes-all ! tt a ys d c′ refl gd gc′ $ returns-within ! Post refl (look ! 10 refl) $ ends-with ! (Closed a ys d c′ (‵ (flft κp qp) ∷ [])) E (holds (An.Laws.lowered z) ∷ vs) $ by ! (exits c′ d ys z refl (promised-records k e z c′ same φ) gz)
 
       -- ENQUEUE: after the arrays it takes the room, the attribute and the payload
       module _ (e : eqb group 2 ≡ true) where
@@ -203,7 +200,7 @@ module _ {M : Type 1} (𝓤 : URA M) (H : Heap 𝓤) (A : Atoms 𝓤) (W : Given
             nothing ! $ move ! (19 ∷ 0 ∷ []) $ join ! $ move ! (10 ∷ 11 ∷ 12 ∷ 13 ∷ 0 ∷ 1 ∷ []) $
             calls-four (all mutably) ! fm (Enqueue 𝓤 H A mem′ run) (known .enqueue) to-enqueue c gc (a .bc) (a .oc) An.the-row {Y = Y₁} (λ y. fsep ftrue (fsep ftrue (fsep ftrue ftrue))) (λ z w. Enqueued c (w .0) (w .1 .0) (w .1 .1 .0) (w .1 .1 .1 .0) attr ps z) (λ n. asks-that 𝓤 H A W _ (omega arith, valid right .ready)) (λ n v. id⊢ 𝓤 _)
             (λ n i. (and-then ! (load ! (from ! (stop !)) (look ! 48 refl)) (and-then ! (load ! (from ! (stop !)) (look ! 50 refl)) (and-then ! (load ! (from ! (stop !)) (look ! 52 refl)) (and-then ! (load ! (from ! (stop !)) (look ! 54 refl)) (and-then ! (lit ! tt) (and-then ! (load ! (from ! (stop !)) (look ! 28 refl)) (and-then ! (load ! (from ! (stop !)) (look ! 32 refl)) (no-more !))))))))) (λ z v w φ g′ is.
-            land ! (from ! (stop !)) (init ! 35 refl (LL.lawful An.the-type An.Laws.the-laws 𝓤 H A W .typed z _ is .0)) $ rewrite ! 35 (λ (u : Val). ‵ (fat fullShare An.Laws.mir l₈ 0 u)) (ap only (An.Laws.lowers .val-is z (v ∷ []) is)) refl $
+            land ! (from ! (stop !)) (init ! 35 refl (LL.lawful An.the-type An.Laws.the-laws 𝓤 H A W .typed z _ is .0)) $ rewrite ! 35 (λ (u : Val). ‵ (fat fullShare An.Laws.mir (cs .1 .0) 0 u)) (ap only (An.Laws.lowers .val-is z (v ∷ []) is)) refl $
             move ! (5 ∷ []) $ drop ! $ move ! (4 ∷ []) $ split ! $ move ! (1 ∷ []) $ drop ! $ move ! (5 ∷ 6 ∷ 7 ∷ 8 ∷ 9 ∷ 10 ∷ 11 ∷ 12 ∷ 1 ∷ 2 ∷ 3 ∷ 4 ∷ 13 ∷ 14 ∷ 15 ∷ 16 ∷ 17 ∷ 0 ∷ []) $
             copies ! mem′ run fm (known .by-fields) z (subst (Is An.the-row z) (An.Laws.lowers .val-is z (v ∷ []) is) is) (λ i. (and-then ! (load ! (from ! (stop !)) (look ! 35 refl)) (no-more !))) (land ! (from ! (stop !)) (init ! 18 refl (LL.lawful An.the-type An.Laws.the-laws 𝓤 H A W .typed z _ (subst (Is An.the-row z) (An.Laws.lowers .val-is z (v ∷ []) is) is) .0)) $
             ends-records 2 e f.Code.Mir.t-6 z (left-by (all mutably) Y₁ c w) g′ (subst (Is An.the-row z) (An.Laws.lowers .val-is z (v ∷ []) is) is) refl (enqueued c _ _ _ _ attr ps z φ) (held (holds sp) (holds (An.Laws.lowered z)) blank blank blank blank (eqb group 2) 4 0 0 0 blank blank blank blank 0 blank)))
@@ -320,7 +317,7 @@ module _ {M : Type 1} (𝓤 : URA M) (H : Heap 𝓤) (A : Atoms 𝓤) (W : Given
             calls-four inject-ways ! fm (AnswerInject 𝓤 H A mem′ run) (known .inject) to-inject c gc (a .bc) (a .oc) An.the-row {Y = Y₄} (λ y. fsep ftrue (fsep ftrue (fsep ftrue (fsep ftrue (fsep ftrue (fsep ftrue ftrue))))))
             (λ z w. InjectedTo attr c (w .0) (w .1 .0) (w .1 .1 .0) d place z) (λ n. asks-that 𝓤 H A W _ (omega arith, valid right .ready, canonical)) (λ n v. id⊢ 𝓤 _)
             (λ n i. (and-then ! (load ! (from ! (stop !)) (look ! 76 refl)) (and-then ! (load ! (from ! (stop !)) (look ! 78 refl)) (and-then ! (load ! (from ! (stop !)) (look ! 80 refl)) (and-then ! (lit ! tt) (and-then ! (lit ! tt) (and-then ! (load ! (from ! (stop !)) (look ! 82 refl)) (and-then ! (load ! (from ! (stop !)) (look ! 42 refl)) (and-then ! (load ! (from ! (stop !)) (look ! 40 refl)) (and-then ! (load ! (from ! (stop !)) (look ! 38 refl)) (no-more !))))))))))) (λ z v w φ g′ is.
-            land ! (from ! (stop !)) (init ! 45 refl (LL.lawful An.the-type An.Laws.the-laws 𝓤 H A W .typed z _ is .0)) $ rewrite ! 45 (λ (u : Val). ‵ (fat fullShare An.Laws.mir l₁₂ 0 u)) (ap only (An.Laws.lowers .val-is z (v ∷ []) is)) refl $
+            land ! (from ! (stop !)) (init ! 45 refl (LL.lawful An.the-type An.Laws.the-laws 𝓤 H A W .typed z _ is .0)) $ rewrite ! 45 (λ (u : Val). ‵ (fat fullShare An.Laws.mir (cs .1 .1 .1 .1 .1 .0) 0 u)) (ap only (An.Laws.lowers .val-is z (v ∷ []) is)) refl $
             move ! (5 ∷ []) $ drop ! $ move ! (4 ∷ []) $ drop ! $ move ! (4 ∷ 5 ∷ 6 ∷ 7 ∷ 8 ∷ 9 ∷ 10 ∷ 11 ∷ 0 ∷ 1 ∷ 2 ∷ 3 ∷ []) $
             tests-it gp z (subst (Is An.the-row z) (An.Laws.lowers .val-is z (v ∷ []) is) is) (w .0) (w .1 .0) (w .1 .1 .0) g′ φ)
 
@@ -407,9 +404,7 @@ module _ {M : Type 1} (𝓤 : URA M) (H : Heap 𝓤) (A : Atoms 𝓤) (W : Given
       takes-all ! a $ move ! (7 ∷ []) $ fsplit ! $ drop ! $ fsplit ! $ drop ! $ fsplit ! $ move ! (8 ∷ []) $ split ! $
       -- [the payload's token; true; the payload; true; the references]
       keep ! (4 ∷ 5 ∷ 6 ∷ 7 ∷ 8 ∷ 9 ∷ 0 ∷ 2 ∷ []) $ enter ! C′ Λ f.Code.function (vptr (a .bc) (a .oc) ∷ vptr (a .bd) (a .od) ∷ table a ∷ vint w32 group ∷ vint w64 attr ∷ sp ∷ []) _ $
-      alloc1 ! (λ l₀. alloc1 ! (λ l₁. alloc1 ! (λ l₂. alloc1 ! (λ l₃. alloc1 ! (λ l₄. alloc1 ! (λ l₅. alloc1 ! (λ l₆. alloc1 ! (λ l₇. alloc1 ! (λ l₈. alloc1 ! (λ l₉. alloc1 ! (λ l₁₀. alloc1 ! (λ l₁₁. alloc1 ! (λ l₁₂. alloc1 ! (λ l₁₃. alloc1 ! (λ l₁₄. alloc1 ! (λ l₁₅. alloc1 ! (λ l₁₆. alloc1 ! (λ l₁₇. alloc1 ! (λ l₁₈. alloc1 ! (λ l₁₉. alloc1 ! (λ l₂₀. alloc1 ! (λ l₂₁. alloc1 ! (λ l₂₂. alloc1 ! (λ l₂₃. alloc1 ! (λ l₂₄. alloc1 ! (λ l₂₅. alloc1 ! (λ l₂₆. alloc1 ! (λ l₂₇. alloc1 ! (λ l₂₈. alloc1 ! (λ l₂₉. alloc1 ! (λ l₃₀. alloc1 ! (λ l₃₁. alloc1 ! (λ l₃₂. alloc1 ! (λ l₃₃. alloc1 ! (λ l₃₄. alloc1 ! (λ l₃₅. alloc1 ! (λ l₃₆. alloc1 ! (λ l₃₇. alloc0 ! $ params1 ! $
-      pass1 ! (init ! 72 refl (tt, tt)) $ pass1 ! (init ! 70 refl (tt, tt)) $ pass1 ! (init ! 68 refl (tt, (tt, (record { fits = room .0 }, tt)))) $ pass1 ! (init ! 66 refl (tt, record { fits = group-fits })) $ pass1 ! (init ! 64 refl (tt, record { fits = attr-fits })) $ pass1 ! (init ! 62 refl (tt, (tt, (record { fits = room-p .0 }, tt)))) $ pass0 ! $
-      keep ! (76 ∷ 77 ∷ 78 ∷ 79 ∷ 80 ∷ 81 ∷ 82 ∷ 83 ∷ 74 ∷ 75 ∷ 72 ∷ 73 ∷ 70 ∷ 71 ∷ 68 ∷ 69 ∷ 66 ∷ 67 ∷ 64 ∷ 65 ∷ 62 ∷ 63 ∷ 60 ∷ 61 ∷ 58 ∷ 59 ∷ 56 ∷ 57 ∷ 54 ∷ 55 ∷ 52 ∷ 53 ∷ 50 ∷ 51 ∷ 48 ∷ 49 ∷ 46 ∷ 47 ∷ 44 ∷ 45 ∷ 42 ∷ 43 ∷ 40 ∷ 41 ∷ 38 ∷ 39 ∷ 36 ∷ 37 ∷ 34 ∷ 35 ∷ 32 ∷ 33 ∷ 30 ∷ 31 ∷ 28 ∷ 29 ∷ 26 ∷ 27 ∷ 24 ∷ 25 ∷ 22 ∷ 23 ∷ 20 ∷ 21 ∷ 18 ∷ 19 ∷ 16 ∷ 17 ∷ 14 ∷ 15 ∷ 12 ∷ 13 ∷ 10 ∷ 11 ∷ 8 ∷ 9 ∷ 6 ∷ 7 ∷ 4 ∷ 5 ∷ 2 ∷ 3 ∷ 0 ∷ 1 ∷ []) $ starts-it C′ Λ fm known l₀ l₁ l₂ l₃ l₄ l₅ l₆ l₇ l₈ l₉ l₁₀ l₁₁ l₁₂ l₁₃ l₁₄ l₁₅ l₁₆ l₁₇ l₁₈ l₁₉ l₂₀ l₂₁ l₂₂ l₂₃ l₂₄ l₂₅ l₂₆ l₂₇ l₂₈ l₂₉ l₃₀ l₃₁ l₃₂ l₃₃ l₃₄ l₃₅ l₃₆ l₃₇))))))))))))))))))))))))))))))))))))))
+      sets-up ! _ An.Laws.mir (params-of f.Code.function) (others f.Code.function) _ ((tt, tt), ((tt, tt), ((tt, (tt, (record { fits = room .0 }, tt))), ((tt, record { fits = group-fits }), ((tt, record { fits = attr-fits }), ((tt, (tt, (record { fits = room-p .0 }, tt))), tt)))))) (starts-it C′ Λ fm known)
 
 pub flic-set-spec : {M : Type 1} → f.Statement.statement M
 unfolding f.Code.routine tablesOf

@@ -86,8 +86,7 @@ module _ {M : Type 1} {𝓤 : URA M} {H : Heap 𝓤} {A : Atoms 𝓤} {K : Type 
       asks-table t fm (SetPlace 𝓤 H A mem′ run) known κ q b o γ ps ys bt ot room
       (λ ν δ. (((ν ∷ [], (κ, tt)), (fullShare, (q, tt)), tt, (at-list bt ot δ ys, (group, (attr, (at-list b o γ ps, tt)))), (sliceVal (bt, ot) (length ys) ∷ [], (vint w32 group ∷ [], (vint w64 attr ∷ [], (payload κ b o γ ps ∷ [], tt))))), tt))
       (with-two 𝓤 H A mem′ run W κ q b o γ ps true group attr group-fits attr-fits) (two-grow 𝓤 H A mem′ run W κ q b o γ ps true group attr group-fits attr-fits) An.the-row {Y = Unit {0} × (Unit {0} × (Unit {0} × Unit {0}))} (λ w. fsep ftrue (fsep ftrue (fsep ftrue ftrue))) (λ z zs. PlaceSet group attr ys zs ps z)
-      (λ ν δ. asks-that 𝓤 H A W _ on)
-      (λ ν δ v. id⊢ 𝓤 _) (λ ν δ. os) k
+      (λ ν δ. asks-that 𝓤 H A W _ on) (λ ν δ v. id⊢ 𝓤 _) (λ ν δ. os) k
 
   pub sets-modes : K → (mem′ : Memory → SProp 𝓤) (run : Routine → Fun 𝓤) → FmC 𝓤 H (W .laws) C → Triple 𝓤 (C #set-modes) (SetModes 𝓤 H A mem′ run) → (κ : Lft) (q : Share) (b o : ℕ) (γ : GName) (ps : List ℕ) (h : Device) (bd od : ℕ)
       → Is D.the-row h (D.Laws.lowered h ∷ []) → (ais : Bool) (group attr : ℕ) → group < 2 ^ 32 → attr < 2 ^ 64 → (group ≡ 2 → ⊥) × (group ≡ 3 → ⊥) × (group ≡ 8 → ⊥) × (group ≡ 10 → ⊥) × (onPlace group ≡ false)
@@ -98,8 +97,7 @@ module _ {M : Type 1} {𝓤 : URA M} {H : Heap 𝓤} {A : Atoms 𝓤} {K : Type 
       asks-record t fm (SetModes 𝓤 H A mem′ run) known κ q b o γ ps h bd od gh
       (λ ν δ. (((ν ∷ [], (κ, tt)), (fullShare, (q, tt)), tt, (record { ptr = (bd, od); name = δ; now = h }, (ais, (group, (attr, (at-list b o γ ps, tt))))), (vptr bd od ∷ [], (vbool ais ∷ [], (vint w32 group ∷ [], (vint w64 attr ∷ [], (payload κ b o γ ps ∷ [], tt)))))), tt))
       (with-three 𝓤 H A mem′ run W κ q b o γ ps ais group attr group-fits attr-fits) (three-grow 𝓤 H A mem′ run W κ q b o γ ps ais group attr group-fits attr-fits) An.the-row {Y = Unit {0} × (Unit {0} × (Unit {0} × (Unit {0} × Unit {0})))} (λ w. fsep ftrue (fsep ftrue (fsep ftrue (fsep ftrue ftrue)))) (λ z y. ModesSet ais group attr h y ps z)
-      (λ ν δ. asks-that 𝓤 H A W _ other)
-      (λ ν δ v. id⊢ 𝓤 _) (λ ν δ. os) k
+      (λ ν δ. asks-that 𝓤 H A W _ other) (λ ν δ v. id⊢ 𝓤 _) (λ ν δ. os) k
 
   -- the reference to the device record is given away
   pub reads-passed : K → (mem′ : Memory → SProp 𝓤) (run : Routine → Fun 𝓤) → FmC 𝓤 H (W .laws) C → Triple 𝓤 (C #read-device) (ReadDevice 𝓤 H A mem′ run) → (κ : Lft) (q : Share) (b o : ℕ) (γ : GName) (m : Device)

@@ -77,9 +77,7 @@ module _ (m : Moved) where
   told = step L (machine L (m .ais) (m .calls₁)) (asked writeList (m .buffer) (L .places))
 
   write-step : Stepped (m .first) (asked writeList (m .buffer) (length (m .first .tab))) (m .wrote) (m .first)
-  write-step =
-      requested (m .first) good₁ writeList tt (m .buffer) (m .first .ctl) (m .first .dev) (m .first .tab) (m .first .tab) (m .wrote) (m .writes)
-      (m .first .tab) (its-own refl)
+  write-step = requested (m .first) good₁ writeList tt (m .buffer) (m .first .ctl) (m .first .dev) (m .first .tab) (m .first .tab) (m .wrote) (m .writes) (m .first .tab) (its-own refl)
 
   wrote-is : told ≡ answering (m .wrote) (hostState (m .first))
   wrote-is =
@@ -91,9 +89,7 @@ module _ (m : Moved) where
 
   -- the playing, as the machine's step
   play-step : Stepped (m .before) (asked playList (listOf m) (length (m .before .tab))) (m .played) (m .second)
-  play-step =
-      requested (m .before) good₂ playList tt (listOf m) (m .second .ctl) (m .second .dev) (m .before .tab) (m .second .tab) (m .played) (m .plays)
-      (m .second .tab) (its-own refl)
+  play-step = requested (m .before) good₂ playList tt (listOf m) (m .second .ctl) (m .second .dev) (m .before .tab) (m .second .tab) (m .played) (m .plays) (m .second .tab) (its-own refl)
 
   pub good-second : Good (m .second)
   good-second = play-step .good

@@ -27,8 +27,7 @@ use Rattle.store.specs.Memory.{pendingOf}
 next-sound : (ask : Ask) (c c′ : Controller) (d d′ : Device) (t t′ : List Place) (b : List ℕ) (x : Seen) → limitsOf c′ ≡ limitsOf c
     → Valid c d t → Steps ask c c′ d d′ t t′ b x → Sound (limitsOf c′) (stateOf c′ d′ t′)
 next-sound ask c c′ d d′ t t′ b x l h e =
-    subst (λ (L : Limits). Sound L (stateOf c′ d′ t′)) (sym l)
-    (subst (Sound (limitsOf c)) (ap (λ (a : Told State). a .next) e) (kept-step (limitsOf c) (stateOf c d t) (h .sound) _ .sound))
+    subst (λ (L : Limits). Sound L (stateOf c′ d′ t′)) (sym l) (subst (Sound (limitsOf c)) (ap (λ (a : Told State). a .next) e) (kept-step (limitsOf c) (stateOf c d t) (h .sound) _ .sound))
 
 -- a refusal that changes nothing has a code that is not 0
 pub refused-code : (ask : Ask) (c c′ : Controller) (d d′ : Device) (t t′ : List Place) (b : List ℕ) (x : Seen) → Steps ask c c′ d d′ t t′ b x

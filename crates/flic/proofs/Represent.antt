@@ -204,9 +204,7 @@ module _ (p : Pending) (h : SoundPending p) (few : queued p ≤ slotCount) where
 
   whole : All Whole (flatten qs)
   unfolding listing
-  whole =
-      subst (All Whole) (sym all-records)
-      (all-left Whole (flatten (p .io) ++ p .done) _ (subst (All Whole) (sym (append-assoc (flatten (p .io)) (p .done) _)) (listing-sendable p h .whole)))
+  whole = subst (All Whole) (sym all-records) (all-left Whole (flatten (p .io) ++ p .done) _ (subst (All Whole) (sym (append-assoc (flatten (p .io)) (p .done) _)) (listing-sendable p h .whole)))
 
   fits : length (flatten qs) ≤ slotCount
   fits = omega (arith, ap length all-records, length-append (flatten (p .io)) (p .done), few)

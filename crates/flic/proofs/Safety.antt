@@ -194,33 +194,18 @@ module _ {M : Type 1} (𝓤 : URA M) where
 module _ {M : Type 1} (𝓤 : URA M) (H : Heap 𝓤) (A : Atoms 𝓤) (mem : Memory → SProp 𝓤) (run : Routine → Fun 𝓤) where
   -- Demand 1. A parameter is named as at entry, and with a prime as at exit.
   pub record Safety : Type 1 where
-    pub make : Ensures 𝓤 flic-make.ended (flic-make.clauses 𝓤 H A mem run)
-        (λ κs (c, (d, (t, _))) r (c′, (d′, (t′, _))).
-        SafeMake (now c) (now c′) (now d) (now d′) (now t) (now t′) r)
-    pub set : Ensures 𝓤 flic-set.ended (flic-set.clauses 𝓤 H A mem run)
-        (λ κs (c, (d, (t, (_, (_, (b, _)))))) r (c′, (d′, (t′, _))).
-        SafeRequest (now c) (now c′) (now d) (now d′) (now t) (now t′) (now b) (now b) r)
-    pub get : Ensures 𝓤 flic-get.ended (flic-get.clauses 𝓤 H A mem run)
-        (λ κs (c, (d, (t, (_, (_, (b, _)))))) r (_, (_, (_, (_, (_, (b′, _)))))).
+    pub make : Ensures 𝓤 flic-make.ended (flic-make.clauses 𝓤 H A mem run) (λ κs (c, (d, (t, _))) r (c′, (d′, (t′, _))). SafeMake (now c) (now c′) (now d) (now d′) (now t) (now t′) r)
+    pub set : Ensures 𝓤 flic-set.ended (flic-set.clauses 𝓤 H A mem run) (λ κs (c, (d, (t, (_, (_, (b, _)))))) r (c′, (d′, (t′, _))). SafeRequest (now c) (now c′) (now d) (now d′) (now t) (now t′) (now b) (now b) r)
+    pub get : Ensures 𝓤 flic-get.ended (flic-get.clauses 𝓤 H A mem run) (λ κs (c, (d, (t, (_, (_, (b, _)))))) r (_, (_, (_, (_, (_, (b′, _)))))).
         SafeRequest (now c) (now c) (now d) (now d) (now t) (now t) (now b) (now b′) r)
-    pub take : Ensures 𝓤 flic-take.ended (flic-take.clauses 𝓤 H A mem run)
-        (λ κs (c, (_, (_, (_, (b, _))))) r (c′, (_, (_, (_, (b′, _))))).
-        SafeTake (now c) (now c′) (now b) (now b′) r)
-    pub write : Ensures 𝓤 flic-write.ended (flic-write.clauses 𝓤 H A mem run)
-        (λ κs (c, (d, (t, (b, _)))) r (_, (_, (_, (b′, _)))).
-        SafeRequest (now c) (now c) (now d) (now d) (now t) (now t) (now b) (now b′) r)
-    pub play : Ensures 𝓤 flic-play.ended (flic-play.clauses 𝓤 H A mem run)
-        (λ κs (c, (d, (t, (b, _)))) r (c′, (d′, (t′, _))).
-        SafePlay (now c) (now c′) (now d) (now d′) (now t) (now t′) (now b) r)
+    pub take : Ensures 𝓤 flic-take.ended (flic-take.clauses 𝓤 H A mem run) (λ κs (c, (_, (_, (_, (b, _))))) r (c′, (_, (_, (_, (b′, _))))). SafeTake (now c) (now c′) (now b) (now b′) r)
+    pub write : Ensures 𝓤 flic-write.ended (flic-write.clauses 𝓤 H A mem run) (λ κs (c, (d, (t, (b, _)))) r (_, (_, (_, (b′, _)))). SafeRequest (now c) (now c) (now d) (now d) (now t) (now t) (now b) (now b′) r)
+    pub play : Ensures 𝓤 flic-play.ended (flic-play.clauses 𝓤 H A mem run) (λ κs (c, (d, (t, (b, _)))) r (c′, (d′, (t′, _))). SafePlay (now c) (now c′) (now d) (now d′) (now t) (now t′) (now b) r)
     -- the one premise is asked of no call with a table of another length than the controller's; `flic_make` has none at all
-    pub set-wrong-table : RequiresNothing 𝓤 flic-set.ended (flic-set.clauses 𝓤 H A mem run)
-        (λ κs (c, (d, (t, _))). length (now t) ≡ limitsOf (now c) .places → ⊥)
-    pub get-wrong-table : RequiresNothing 𝓤 flic-get.ended (flic-get.clauses 𝓤 H A mem run)
-        (λ κs (c, (d, (t, _))). length (now t) ≡ limitsOf (now c) .places → ⊥)
-    pub write-wrong-table : RequiresNothing 𝓤 flic-write.ended (flic-write.clauses 𝓤 H A mem run)
-        (λ κs (c, (d, (t, _))). length (now t) ≡ limitsOf (now c) .places → ⊥)
-    pub play-wrong-table : RequiresNothing 𝓤 flic-play.ended (flic-play.clauses 𝓤 H A mem run)
-        (λ κs (c, (d, (t, _))). length (now t) ≡ limitsOf (now c) .places → ⊥)
+    pub set-wrong-table : RequiresNothing 𝓤 flic-set.ended (flic-set.clauses 𝓤 H A mem run) (λ κs (c, (d, (t, _))). length (now t) ≡ limitsOf (now c) .places → ⊥)
+    pub get-wrong-table : RequiresNothing 𝓤 flic-get.ended (flic-get.clauses 𝓤 H A mem run) (λ κs (c, (d, (t, _))). length (now t) ≡ limitsOf (now c) .places → ⊥)
+    pub write-wrong-table : RequiresNothing 𝓤 flic-write.ended (flic-write.clauses 𝓤 H A mem run) (λ κs (c, (d, (t, _))). length (now t) ≡ limitsOf (now c) .places → ⊥)
+    pub play-wrong-table : RequiresNothing 𝓤 flic-play.ended (flic-play.clauses 𝓤 H A mem run) (λ κs (c, (d, (t, _))). length (now t) ≡ limitsOf (now c) .places → ⊥)
     pub make-always : RequiresNothing 𝓤 flic-make.ended (flic-make.clauses 𝓤 H A mem run) (λ κs a. Unit {0})
 
   pub safety : Safety

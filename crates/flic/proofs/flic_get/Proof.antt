@@ -16,7 +16,7 @@ use Rattle.adapters.proofs.Device as D
 use Rattle.adapters.proofs.Place as P
 use Rattle.flic.specs.Surface.{Valid, Requested}
 use Rattle.calls.proofs.Controller as C
-use Rattle.flic.proofs.{Promises.get-promises, Promises.wrong-promises, Opened.Has, Opened.Cells, Opened.looks-ctl, Opened.shuts-ctl, Calls.asks-that, Calls.gives-up, Calls.reads-passed, Frame.params-of, Frame.laid}
+use Rattle.flic.proofs.{Promises.get-promises, Promises.wrong-promises, Opened.Has, Opened.Cells, Opened.looks-ctl, Opened.shuts-ctl, Calls.asks-that, Calls.gives-up, Calls.reads-passed, Frame.params-of, Frame.laid, Frame.refers}
 use Rattle.lent_table.proofs.Locals.{Blocks, Content, blank, holds, since, locals, holds-false, not-not, ends-with, sets-up}
 use Rattle.flic.proofs.Four.{all, shared, at-array, Loan, lent-lfts, lent-shares, lent-args, lent-vals, calls-four}
 use Rattle.lent_requests.proofs.Answered.{refused, Refuse, refuses}
@@ -120,10 +120,7 @@ module _ {M : Type 1} (𝓤 : URA M) (H : Heap 𝓤) (A : Atoms 𝓤) (W : Given
       -- the operands
       operands : (sh : Share) → Has c → Is D.the-row d (D.Laws.lowered d ∷ []) → Sq W (Open sh (‵ (flft κd qd) ∷ ‵ OwnO ∷ ‵ (flft κo qo) ∷ ‵ (flft κt qt) ∷ locals E (held blank wrong 4) [])) (runs C′ Λ E f.Code.Mir.t-5 (atRet E Post))
       operands sh g gd =
-          assigns ! (addr ! (from ! (hop ! (look ! 13 refl) (fld ! refl (stop !))))) (from ! (stop !)) (init ! 31 refl (tt, tt)) $
-          assigns ! (addr ! (from ! (hop ! (look ! 13 refl) (fld ! refl (stop !))))) (from ! (stop !)) (init ! 33 refl (tt, tt)) $
-          assigns ! (addr ! (from ! (hop ! (look ! 13 refl) (fld ! refl (stop !))))) (from ! (stop !)) (init ! 35 refl (tt, tt)) $
-          assigns ! (addr ! (from ! (hop ! (look ! 13 refl) (fld ! refl (stop !))))) (from ! (stop !)) (init ! 37 refl (tt, tt)) $
+          refers ! 13 31 refl refl refl (tt, tt) $ refers ! 13 33 refl refl refl (tt, tt) $ refers ! 13 35 refl refl refl (tt, tt) $ refers ! 13 37 refl refl refl (tt, tt) $
           assigns ! (of-opd ! (load ! (from ! (hop ! (look ! 13 refl) (fld ! refl (stop !)))) (look ! 4 refl))) (from ! (stop !)) (store ! 29 refl (tt, tt)) $
           assigns ! (addr ! (from ! (fld ! refl (hop ! (look-in ! 23 (sub ! 0 refl (whole !))) (stop !))))) (from ! (stop !)) (init ! 39 refl (tt, tt)) $
           assigns ! (agg ! (and-then ! (load ! (from ! (stop !)) (look ! 39 refl)) (and-then ! (load ! (from ! (fld ! refl (stop !))) (look-in ! 23 (sub ! 1 refl (whole !)))) (no-more !)))) (from ! (stop !)) (init ! 41 refl (tt, (tt, (record { fits = room-o .0 }, tt)))) $

@@ -18,7 +18,7 @@ use Rattle.store.specs.Memory.{pendingOf}
 use Rattle.store_queues.specs.Queues.{Held}
 use Rattle.flic.specs.Surface.{Made}
 use Rattle.calls.proofs.Controller as C
-use Rattle.flic.proofs.{Promises.freshDevice, Promises.make-promises, Promises.wrong-makes, Opened.Has, Frame.params-of, Frame.laid}
+use Rattle.flic.proofs.{Promises.freshDevice, Promises.make-promises, Promises.wrong-makes, Opened.Has, Frame.params-of, Frame.laid, Frame.refers}
 use Rattle.flic.proofs.All.{Refs, refs, at-ctl, at-dev, at-tab, table, Owned, Tokens, Passed, Open, Closed, takes-all, opens-all, closes-all, gives-all}
 use Rattle.flic.proofs.Four.{Ways, mutably, apart, Loan, lent-lfts, lent-shares, lent-args, lent-vals, calls-four}
 use Rattle.answers.proofs.refuse as refuse
@@ -154,9 +154,7 @@ module _ {M : Type 1} (𝓤 : URA M) (H : Heap 𝓤) (A : Atoms 𝓤) (W : Given
         assigns ! (bin ! (load ! (from ! (stop !)) (look ! 16 refl)) (lit ! tt) tt) (from ! (stop !)) (init ! 18 refl (tt, tt)) $
         first ! $ branches ! (load ! (from ! (stop !)) (look ! 18 refl)) (λ t. refuses-it (holds-false (eqb (length (a .t)) imageSize) t))
         (λ t. skips ! $ exec ! C′ Λ E f.Code.Mir.t-4 (atRet E Post) $ opens-all ! tt a (λ gc gd.
-        assigns ! (addr ! (from ! (hop ! (look ! 19 refl) (fld ! refl (stop !))))) (from ! (stop !)) (init ! 33 refl (tt, tt)) $
-        assigns ! (addr ! (from ! (hop ! (look ! 19 refl) (fld ! refl (stop !))))) (from ! (stop !)) (init ! 35 refl (tt, tt)) $
-        assigns ! (addr ! (from ! (hop ! (look ! 19 refl) (fld ! refl (stop !))))) (from ! (stop !)) (init ! 37 refl (tt, tt)) $
+        refers ! 19 33 refl refl refl (tt, tt) $ refers ! 19 35 refl refl refl (tt, tt) $ refers ! 19 37 refl refl refl (tt, tt) $
         calls-it (eqb-true (length (a .t)) imageSize (not-not (eqb (length (a .t)) imageSize) t) ∙ sym (paper-sized .places)) gc gd))
 
   walk : (C′ : Calls 𝓤 H) (Λ : Loops 𝓤 H) (fm : FmC 𝓤 H (W .laws) C′) → Known 𝓤 H A mem′ run C′ → ent 𝓤 (onEntry 𝓤 H A f.signature (bound .0 .0) (bound .0 .1) x at) (WpFn 𝓤 H C′ Λ f.Code.function (vptr (a .bc) (a .oc) ∷ vptr (a .bd) (a .od) ∷ table a ∷ vbool ais ∷ []) Post)

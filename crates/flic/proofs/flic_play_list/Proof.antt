@@ -23,7 +23,7 @@ use Rattle.list_play.specs.declared.Played.{Played}
 use Rattle.flic.specs.Surface.{Valid, Requested}
 use Rattle.calls.proofs.Controller as C
 use Rattle.list_play.proofs.Played as St
-use Rattle.flic.proofs.{Promises.Replayed, Promises.same-promises, Promises.play-promises, Promises.wrong-promises, Opened.Has, Calls.asks-that, Frame.params-of, Frame.laid}
+use Rattle.flic.proofs.{Promises.Replayed, Promises.same-promises, Promises.play-promises, Promises.wrong-promises, Opened.Has, Calls.asks-that, Frame.params-of, Frame.laid, Frame.refers}
 use Rattle.flic.proofs.All.{Refs, refs, at-ctl, at-dev, at-tab, table, Owned, Tokens, Passed, Open, Closed, opens-all, closes-all, takes-all, gives-all}
 use Rattle.flic.proofs.Four.{said-of, all, mutably, at-array, lends-array, array-back, Loan, left-by, lent-lfts, lent-shares, lent-args, lent-vals, calls-four}
 use Rattle.answers.proofs.refuse as refuse
@@ -200,10 +200,7 @@ module _ {M : Type 1} (𝓤 : URA M) (H : Heap 𝓤) (A : Atoms 𝓤) (W : Given
         (λ t. skips ! $ exec ! C′ Λ E f.Code.Mir.t-4 (atRet E Post) $ takes-empty ! mem′ run fm (known .empty) (λ gz.
         land ! (from ! (stop !)) (init ! 24 refl (image-typed 𝓤 H A W zeros gz)) $ assigns ! (of-opd ! (load ! (from ! (stop !)) (look ! 24 refl))) (from ! (stop !)) (init ! 16 refl (image-typed 𝓤 H A W zeros gz)) $
         opens-all ! tt a (λ gc gd.
-        assigns ! (addr ! (from ! (hop ! (look ! 19 refl) (fld ! refl (stop !))))) (from ! (stop !)) (init ! 37 refl (tt, tt)) $
-        assigns ! (addr ! (from ! (hop ! (look ! 19 refl) (fld ! refl (stop !))))) (from ! (stop !)) (init ! 39 refl (tt, tt)) $
-        assigns ! (addr ! (from ! (hop ! (look ! 19 refl) (fld ! refl (stop !))))) (from ! (stop !)) (init ! 41 refl (tt, tt)) $
-        assigns ! (addr ! (from ! (hop ! (look ! 19 refl) (fld ! refl (stop !))))) (from ! (stop !)) (init ! 43 refl (tt, tt)) $
+        refers ! 19 37 refl refl refl (tt, tt) $ refers ! 19 39 refl refl refl (tt, tt) $ refers ! 19 41 refl refl refl (tt, tt) $ refers ! 19 43 refl refl refl (tt, tt) $
         assigns ! (addr ! (from ! (stop !))) (from ! (stop !)) (init ! 45 refl (tt, tt)) $
         assigns ! (of-opd ! (load ! (from ! (hop ! (look ! 19 refl) (fld ! refl (stop !)))) (look ! 12 refl))) (from ! (stop !)) (store ! 33 refl (tt, tt)) $
         calls-it (right-length (a .c) _ (eqb-true (length (a .t)) imageSize (not-not (eqb (length (a .t)) imageSize) t))) gd gc gz)))

@@ -6,7 +6,7 @@ use Rattle.answers.specs.{declared.Answer.Answer, Answers.saw}
 use Rattle.answers.proofs.Answer as An
 use Rattle.calls.specs.declared.Controller.{Controller}
 use Rattle.flic.specs.Surface.{Ready, Taken}
-use Rattle.flic.proofs.{Promises.TakenOf, Promises.take-promises, Opened.Has, Opened.OpenAt, Opened.opens-ctl, Opened.closes-ctl, Calls.asks-that, Frame.params-of, Frame.laid}
+use Rattle.flic.proofs.{Promises.TakenOf, Promises.take-promises, Opened.Has, Opened.OpenAt, Opened.opens-ctl, Opened.closes-ctl, Calls.asks-that, Frame.params-of, Frame.laid, Frame.refers}
 use Rattle.calls.proofs.Controller as C
 use Rattle.flic.proofs.Four.{Ways, mutably, shared, Loan, Left, left-by, lent-lfts, lent-shares, lent-args, lent-vals, calls-four}
 use Rattle.record_take.proofs.take as take
@@ -107,10 +107,7 @@ module _ {M : Type 1} (𝓤 : URA M) (H : Heap 𝓤) (A : Atoms 𝓤) (W : Given
     opens-it : Sq W (‵ (MutRef (named 0) κc C.the-row .own (x .0) (vptr bc oc ∷ [])) ∷ ‵ (flft κc qc) ∷ ‵ OwnO ∷ ‵ (flft κo qo) ∷ locals E (held blank 0) []) (runs C′ Λ E f.Code.Mir.t-1 (atRet E Post))
     opens-it =
         fsplit3 ! $ drop ! $ opens-ctl ! tt c bc oc (λ g.
-        assigns ! (addr ! (from ! (hop ! (look ! 13 refl) (fld ! refl (stop !))))) (from ! (stop !)) (init ! 23 refl (tt, tt)) $
-        assigns ! (addr ! (from ! (hop ! (look ! 13 refl) (fld ! refl (stop !))))) (from ! (stop !)) (init ! 25 refl (tt, tt)) $
-        assigns ! (addr ! (from ! (hop ! (look ! 13 refl) (fld ! refl (stop !))))) (from ! (stop !)) (init ! 27 refl (tt, tt)) $
-        assigns ! (addr ! (from ! (hop ! (look ! 13 refl) (fld ! refl (stop !))))) (from ! (stop !)) (init ! 29 refl (tt, tt)) $
+        refers ! 13 23 refl refl refl (tt, tt) $ refers ! 13 25 refl refl refl (tt, tt) $ refers ! 13 27 refl refl refl (tt, tt) $ refers ! 13 29 refl refl refl (tt, tt) $
         assigns ! (addr ! (from ! (fld ! refl (hop ! (look-in ! 21 (sub ! 0 refl (whole !))) (stop !))))) (from ! (stop !)) (init ! 31 refl (tt, tt)) $
         assigns ! (agg ! (and-then ! (load ! (from ! (stop !)) (look ! 31 refl)) (and-then ! (load ! (from ! (fld ! refl (stop !))) (look-in ! 21 (sub ! 1 refl (whole !)))) (no-more !)))) (from ! (stop !)) (init ! 33 refl (tt, (tt, (record { fits = room .0 }, tt)))) $
         calls-it g)

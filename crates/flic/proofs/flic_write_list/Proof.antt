@@ -17,7 +17,7 @@ use Rattle.lent_table.specs.Table.{snapTo}
 use Rattle.flic.specs.Surface.{Valid, Requested}
 use Rattle.list_write.specs.Write.{Written}
 use Rattle.calls.proofs.Controller as C
-use Rattle.flic.proofs.{Promises.write-promises, Promises.wrong-promises, Opened.Has, Opened.Cells, Opened.looks-ctl, Opened.shuts-ctl, All.Refs, All.refs, All.at-ctl, All.at-dev, All.at-tab, All.table, All.Tokens, Calls.asks-that, Calls.gives-up, Calls.reads-passed, Frame.params-of, Frame.laid}
+use Rattle.flic.proofs.{Promises.write-promises, Promises.wrong-promises, Opened.Has, Opened.Cells, Opened.looks-ctl, Opened.shuts-ctl, All.Refs, All.refs, All.at-ctl, All.at-dev, All.at-tab, All.table, All.Tokens, Calls.asks-that, Calls.gives-up, Calls.reads-passed, Frame.params-of, Frame.laid, Frame.refers}
 use Rattle.lent_table.proofs.Locals.{Blocks, Content, blank, holds, since, locals, holds-false, not-not, ends-with, sets-up}
 use Rattle.flic.proofs.Four.{all, shared, at-array, lends-array, array-back, Loan, lent-lfts, lent-shares, lent-args, lent-vals, calls-four}
 use Rattle.lent_requests.proofs.Answered.{refused, Refuse, refuses}
@@ -138,10 +138,7 @@ module _ {M : Type 1} (𝓤 : URA M) (H : Heap 𝓤) (A : Atoms 𝓤) (W : Given
       -- the operands
       operands : (sh : Share) → Has (a .c) → Is D.the-row (a .d) (D.Laws.lowered (a .d) ∷ []) → FitsImage image → Sq W (Open sh (‵ (flft (a .κd) (a .qd)) ∷ ‵ OwnO ∷ ‵ (flft κo qo) ∷ ‵ (flft (a .κt) (a .qt)) ∷ locals E (held blank wrong 6) [])) (runs C′ Λ E f.Code.Mir.t-7 (atRet E Post))
       operands sh g gd gi =
-          assigns ! (addr ! (from ! (hop ! (look ! 13 refl) (fld ! refl (stop !))))) (from ! (stop !)) (init ! 31 refl (tt, tt)) $
-          assigns ! (addr ! (from ! (hop ! (look ! 13 refl) (fld ! refl (stop !))))) (from ! (stop !)) (init ! 33 refl (tt, tt)) $
-          assigns ! (addr ! (from ! (hop ! (look ! 13 refl) (fld ! refl (stop !))))) (from ! (stop !)) (init ! 35 refl (tt, tt)) $
-          assigns ! (addr ! (from ! (hop ! (look ! 13 refl) (fld ! refl (stop !))))) (from ! (stop !)) (init ! 37 refl (tt, tt)) $
+          refers ! 13 31 refl refl refl (tt, tt) $ refers ! 13 33 refl refl refl (tt, tt) $ refers ! 13 35 refl refl refl (tt, tt) $ refers ! 13 37 refl refl refl (tt, tt) $
           assigns ! (of-opd ! (load ! (from ! (hop ! (look ! 13 refl) (fld ! refl (stop !)))) (look ! 4 refl))) (from ! (stop !)) (store ! 27 refl (tt, tt)) $
           assigns ! (addr ! (from ! (stop !))) (from ! (stop !)) (init ! 39 refl (tt, tt)) $
           assigns ! (addr ! (from ! (fld ! refl (hop ! (look-in ! 19 (sub ! 0 refl (whole !))) (stop !))))) (from ! (stop !)) (init ! 41 refl (tt, tt)) $

@@ -14,7 +14,7 @@ use Rattle.adapters.specs.{declared.Device.Device, declared.Place.Place, Values
 use Rattle.store.specs.Memory.{pendingOf}
 use Rattle.calls.specs.{declared.Controller.Controller, Limits.limitsOf}
 use Rattle.calls.proofs.Limits.{limits-sized, limits-made, limits-kept}
-use Rattle.flic.specs.{Surface.stateOf, Surface.Valid, Surface.Requested, Surface.Taken, Claim.Fresh, Claim.machine, Claim.Moved}
+use Rattle.flic.specs.{Surface.stateOf, Surface.Valid, Surface.Steps, Surface.Requested, Surface.Taken, Claim.Fresh, Claim.machine, Claim.Moved}
 use Rattle.flic.specs.Chain.{Host, Lends, its-own, another, asked, Leaves, Ran, end, asks, take, LentPremise, Premises}
 use Rattle.flic.proofs.{Promises.by-length, Promises.Tabled, Promises.refused-table, Follows.hostState, Follows.Good, Follows.own-length, Follows.tabled, Follows.requested, Follows.taken, Claim.fresh-good, Claim.ran-good, Claim.good₁, Claim.good-second, Represent.keep, Represent.Represents, Represent.represent}
 
@@ -44,19 +44,15 @@ module _ (c : Controller) (d : Device) (t : List Place) where
   all-left playList k b = refl
 
   module _ (v : length t ≡ L .places → Valid c d t) (b : List ℕ) where
+    -- an answer that leaves the host as it was
+    leaves-all : (ask : Ask) (r : Answer) (b′ : List ℕ) → Leaves ask c c d d t t b b′ → Steps ask c c d d t t b (saw r b′) → ((code count : ℕ) → outcome L s ask (length t) b ≡ refuseWith code count → b′ ≡ b) → AnswerTo ask b
+    leaves-all ask r b′ l e kept =
+        record { c′ = c; d′ = d; t′ = t; r = r; b′ = b′; leaves = l; said = record { steps = e; kept = λ code count o. (refl, refl, refl, kept code count o); valid = v; limits = refl } }
+
     -- a refused call: everything stays
     stays : (ask : Ask) → Tabled ask → (code count : ℕ) → outcome L s ask (length t) b ≡ refuseWith code count → AnswerTo ask b
     unfolding step result
-    stays ask k code count e =
-        record {
-          c′ = c;
-          d′ = d;
-          t′ = t;
-          r = answered code count;
-          b′ = b;
-          leaves = all-left ask k b;
-          said = record { steps = ap (answerOf L s b) e; kept = λ code count o. (refl, refl, refl, refl); valid = v; limits = refl };
-        }
+    stays ask k code count e = leaves-all ask (answered code count) b (all-left ask k b) (ap (answerOf L s b) e) (λ _ _ _. refl)
 
     -- a call that leaves the state, and writes: a get, the writing of a list
     reads : (ask : Ask) → Tabled ask → (Plays ask → ⊥) → ((b′ : List ℕ) → Leaves ask c c d d t t b b′) → (o : Outcome State)
@@ -64,21 +60,8 @@ module _ (c : Controller) (d : Device) (t : List Place) where
     unfolding step result
     reads ask k other left (refuseWith code count) e g w = stays ask k code count e
     reads ask k other left (accept count next written) e g w =
-        record {
-          c′ = c;
-          d′ = d;
-          t′ = t;
-          r = answered 0 count;
-          b′ = written ++ drop (length written) b;
-          leaves = left _;
-          said =
-              record {
-                steps = ap (answerOf L s b) e ∙ (λ i. tell 0 count (g .0 i) (written ++ drop (length written) b));
-                kept = λ code n o. absurd (true≢false (let z : true ≡ false = cc in z));
-                valid = v;
-                limits = refl;
-              };
-        }
+        leaves-all ask (answered 0 count) (written ++ drop (length written) b) (left _) (ap (answerOf L s b) e ∙ (λ i. tell 0 count (g .0 i) (written ++ drop (length written) b)))
+        (λ code n o. absurd (true≢false (let z : true ≡ false = cc in z)))
     reads ask k other left (resetWith code place further) e g w = absurd (other (w .0))
 
     -- a call that changes the state, and writes nothing: a set, the playing of a list. The next state is that of a host.
@@ -141,20 +124,12 @@ take-to h g subclasses external mcheck b = short (leb recordBytes (length b)) re
     p : Pending
     p = pendingOf (h .ctl .order) (h .ctl .counts) (h .ctl .slots) (h .ctl .singles)
 
+    -- nothing is taken
+    untaken : (r : Answer) → ((d : Device) (t : List Place) → Steps ask (h .ctl) (h .ctl) d d t t b (saw r b)) → TakeTo (h .ctl) subclasses external mcheck b
+    untaken r e = record { c′ = h .ctl; r = r; b′ = b; said = record { steps = e; kept = λ n. (refl, refl); ready = g .ready; limits = refl } }
+
     hands : (o : Option (Handed Pending)) → handed p subclasses external mcheck ≡ o → leb recordBytes (length b) ≡ true → TakeTo (h .ctl) subclasses external mcheck b
-    hands none e f =
-        record {
-          c′ = h .ctl;
-          r = answered 0 0;
-          b′ = b;
-          said =
-              record {
-                steps = λ d t. ap (answerOf (limitsOf (h .ctl)) (stateOf (h .ctl) d t) b) (passes _ _ _ f ∙ ap (handsOut (stateOf (h .ctl) d t)) e);
-                kept = λ n. (refl, refl);
-                ready = g .ready;
-                limits = refl;
-              };
-        }
+    hands none e f = untaken (answered 0 0) (λ d t. ap (answerOf (limitsOf (h .ctl)) (stateOf (h .ctl) d t) b) (passes _ _ _ f ∙ ap (handsOut (stateOf (h .ctl) d t)) e))
     hands (some x) e f =
         let u = kept-step (limitsOf (h .ctl)) (hostState h) (g .sound) (asked ask b 0) .sound in
         let w : Sound (limitsOf (h .ctl)) (withPending (x .left) (hostState h)) = subst (Sound (limitsOf (h .ctl))) (ap (λ (o : Outcome State). answerOf (limitsOf (h .ctl)) (hostState h) b o .next) (passes _ _ _ f ∙ ap (handsOut (hostState h)) e)) u in
@@ -175,13 +150,7 @@ take-to h g subclasses external mcheck b = short (leb recordBytes (length b)) re
 
     short : (t : Bool) → leb recordBytes (length b) ≡ t → TakeTo (h .ctl) subclasses external mcheck b
     short true f = hands (handed p subclasses external mcheck) refl f
-    short false f =
-        record {
-          c′ = h .ctl;
-          r = answered 14 0;
-          b′ = b;
-          said = record { steps = λ d t. ap (answerOf (limitsOf (h .ctl)) (stateOf (h .ctl) d t) b) (fails _ _ _ f); kept = λ n. (refl, refl); ready = g .ready; limits = refl };
-        }
+    short false f = untaken (answered 14 0) (λ d t. ap (answerOf (limitsOf (h .ctl)) (stateOf (h .ctl) d t) b) (fails _ _ _ f))
 
 -- ---- every list of calls
 -- a table of n places to lend: the host's own where that is its length

@@ -149,12 +149,16 @@ module _ {M : Type 1} (𝓤 : URA M) (H : Heap 𝓤) (A : Atoms 𝓤) (W : Given
     abbrev At : List Place → Device → Controller → List Content → List (Item 𝓤)
     At t m c′ vs = Open H a t m c′ (‵ (flft κp qp) ∷ ‵ OwnP ∷ locals E vs [])
 
-    -- the answer is the result: all is closed, and the function returns, in the midst of q
-    ends : (q : types.Kit.Post 𝓤 H) → post 𝓤 H q returnsᴼ ≡ atReturn 𝓤 H E Post returnsᴼ → (c′ : Controller) (m : Device) (zs : List Place) (z : Answer) → length zs ≡ length ys → Has c′ → Is D.the-row m (D.Laws.lowered m ∷ []) → FitsAnswer z
-        → Requested (setAttr group attr) c c′ d m ys zs ps (saw z ps) → (rest : List Content) → Sq W (At zs m c′ (holds (An.Laws.lowered z) ∷ rest)) (runs C′ Λ E return q)
-    ends q h c′ m zs z len gc′ gm gz requested rest =
-        closes-all ! tt a zs m c′ len gm gc′ $ move ! (10 ∷ []) $ drop ! $ returns-within ! Post h (look ! 10 refl) $
-        ends-with ! (Closed a zs m c′ (‵ (flft κp qp) ∷ [])) E (holds (An.Laws.lowered z) ∷ rest) $ by ! (exits c′ m zs z len requested gz)
+    -- the answer is the result: all is closed, and the function returns, in the midst of q. The payload is not held any more, or still is.
+    module _ {q : types.Kit.Post 𝓤 H} (h : post 𝓤 H q returnsᴼ ≡ atReturn 𝓤 H E Post returnsᴼ) (c′ : Controller) (m : Device) (zs : List Place) (z : Answer) (len : length zs ≡ length ys) (gc′ : Has c′) (gm : Is D.the-row m (D.Laws.lowered m ∷ [])) (gz : FitsAnswer z)
+        (requested : Requested (setAttr group attr) c c′ d m ys zs ps (saw z ps)) (rest : List Content) where
+      leaves : Sq W (Open H a zs m c′ (‵ (flft κp qp) ∷ locals E (holds (An.Laws.lowered z) ∷ rest) [])) (runs C′ Λ E return q)
+      leaves =
+          closes-all ! tt a zs m c′ len gm gc′ $ returns-within ! Post h (look ! 10 refl) $
+          ends-with ! (Closed a zs m c′ (‵ (flft κp qp) ∷ [])) E (holds (An.Laws.lowered z) ∷ rest) $ by ! (exits c′ m zs z len requested gz)
+
+      ends : Sq W (At zs m c′ (holds (An.Laws.lowered z) ∷ rest)) (runs C′ Λ E return q)
+      ends = move ! (18 ∷ []) $ drop ! $ leaves
 
     -- what follows a test
     abbrev Then : Code → types.Kit.Post 𝓤 H
@@ -165,7 +169,7 @@ module _ {M : Type 1} (𝓤 : URA M) (H : Heap 𝓤) (A : Atoms 𝓤) (W : Given
     refuses-it e =
         refuses ! mem′ run fm (known .refuse) 14 (omega arith) (λ i. (and-then ! (lit ! tt) (no-more !))) (λ g.
         land ! (from ! (stop !)) (init ! 8 refl (LL.lawful An.the-type An.Laws.the-laws 𝓤 H A W .typed (refused 14) _ g .0)) $
-        opens-all ! tt a (λ gc gd. ends (Then f.Code.Mir.t-4) refl c d ys (refused 14) refl gc gd g (wrong-promises c d ys ps (wrong-length c _ (eqb-false (length ys) imageSize e)) (setAttr group attr) tt) (plainly wrong 0 0 0 blank 0 blank)))
+        opens-all ! tt a (λ gc gd. ends refl c d ys (refused 14) refl gc gd g (wrong-promises c d ys ps (wrong-length c _ (eqb-false (length ys) imageSize e)) (setAttr group attr) tt) (plainly wrong 0 0 0 blank 0 blank)))
 
     module _ (right : length ys ≡ limitsOf c .places) (gc : Has c) (gd : Is D.the-row d (D.Laws.lowered d ∷ [])) where
       -- ---- requests about pending records alone
@@ -175,11 +179,6 @@ module _ {M : Type 1} (𝓤 : URA M) (H : Heap 𝓤) (A : Atoms 𝓤) (W : Given
 
       promised-records : (k : ℕ) → eqb group k ≡ true → (z : Answer) (c′ : Controller) → c′ .ais ≡ c .ais → SetRecords k attr c c′ ps z → Requested (setAttr group attr) c c′ d d ys ys ps (saw z ps)
       promised-records k e z c′ same φ = record-promises group attr c c′ d ys ps z right (valid right) same (of-group c c′ attr ps z k group (eqb-true group k e) φ)
-
-      ends-records : (k : ℕ) → eqb group k ≡ true → (rest : Code) (z : Answer) (c′ : Controller) → Has c′ → FitsAnswer z → c′ .ais ≡ c .ais → SetRecords k attr c c′ ps z → (vs : List Content)
-          → Sq W (Open H a ys d c′ (‵ (flft κp qp) ∷ locals E (holds (An.Laws.lowered z) ∷ vs) [])) (runs C′ Λ E return (Then rest))
-      ends-records k e rest z c′ gc′ gz same φ vs =
-          closes-all ! tt a ys d c′ refl gd gc′ $ returns-within ! Post refl (look ! 10 refl) $ ends-with ! (Closed a ys d c′ (‵ (flft κp qp) ∷ [])) E (holds (An.Laws.lowered z) ∷ vs) $ by ! (exits c′ d ys z refl (promised-records k e z c′ same φ) gz)
 
       -- ENQUEUE: after the arrays it takes the room, the attribute and the payload
       module _ (e : eqb group 2 ≡ true) where
@@ -200,7 +199,7 @@ module _ {M : Type 1} (𝓤 : URA M) (H : Heap 𝓤) (A : Atoms 𝓤) (W : Given
             land ! (from ! (stop !)) (init ! 35 refl (LL.lawful An.the-type An.Laws.the-laws 𝓤 H A W .typed z _ is .0)) $ rewrite ! 35 (λ (u : Val). ‵ (fat fullShare An.Laws.mir (cs .1 .0) 0 u)) (ap only (An.Laws.lowers .val-is z (v ∷ []) is)) refl $
             move ! (5 ∷ []) $ drop ! $ move ! (4 ∷ []) $ split ! $ move ! (1 ∷ []) $ drop ! $ move ! (5 ∷ 6 ∷ 7 ∷ 8 ∷ 9 ∷ 10 ∷ 11 ∷ 12 ∷ 1 ∷ 2 ∷ 3 ∷ 4 ∷ 13 ∷ 14 ∷ 15 ∷ 16 ∷ 17 ∷ 0 ∷ []) $
             copies ! mem′ run fm (known .by-fields) z (subst (Is An.the-row z) (An.Laws.lowers .val-is z (v ∷ []) is) is) (λ i. (and-then ! (load ! (from ! (stop !)) (look ! 35 refl)) (no-more !))) (land ! (from ! (stop !)) (init ! 18 refl (LL.lawful An.the-type An.Laws.the-laws 𝓤 H A W .typed z _ (subst (Is An.the-row z) (An.Laws.lowers .val-is z (v ∷ []) is) is) .0)) $
-            ends-records 2 e f.Code.Mir.t-6 z (left-by (all mutably) Y₁ c w) g′ (subst (Is An.the-row z) (An.Laws.lowers .val-is z (v ∷ []) is) is) refl (enqueued c _ _ _ _ attr ps z φ) (held (holds sp) (holds (An.Laws.lowered z)) blank blank blank blank (eqb group 2) 4 0 0 0 blank blank blank blank 0 blank)))
+            leaves refl (left-by (all mutably) Y₁ c w) d ys z refl g′ gd (subst (Is An.the-row z) (An.Laws.lowers .val-is z (v ∷ []) is) is) (promised-records 2 e z (left-by (all mutably) Y₁ c w) refl (enqueued c _ _ _ _ attr ps z φ)) (held (holds sp) (holds (An.Laws.lowered z)) blank blank blank blank (eqb group 2) 4 0 0 0 blank blank blank blank 0 blank)))
 
       -- CLEAR_IRQS: after the arrays it takes the attribute
       module _ (e : eqb group 3 ≡ true) where
@@ -218,7 +217,7 @@ module _ {M : Type 1} (𝓤 : URA M) (H : Heap 𝓤) (A : Atoms 𝓤) (W : Given
             (λ n i. (and-then ! (load ! (from ! (stop !)) (look ! 58 refl)) (and-then ! (load ! (from ! (stop !)) (look ! 60 refl)) (and-then ! (load ! (from ! (stop !)) (look ! 62 refl)) (and-then ! (load ! (from ! (stop !)) (look ! 30 refl)) (no-more !)))))) (λ z v w φ g′ is.
             land ! (from ! (stop !)) (init ! 21 refl (LL.lawful An.the-type An.Laws.the-laws 𝓤 H A W .typed z _ is .0)) $ rewrite ! 21 (λ (u : Val). ‵ (fat fullShare An.Laws.mir l₀ 0 u)) (ap only (An.Laws.lowers .val-is z (v ∷ []) is)) refl $
             move ! (5 ∷ []) $ drop ! $ move ! (4 ∷ []) $ drop ! $ move ! (4 ∷ 5 ∷ 6 ∷ 7 ∷ 8 ∷ 9 ∷ 10 ∷ 11 ∷ 0 ∷ 1 ∷ 2 ∷ 3 ∷ []) $
-            ends (Then f.Code.Mir.t-8) refl (left-by clear-ways Y₂ c w) d ys z refl g′ gd (subst (Is An.the-row z) (An.Laws.lowers .val-is z (v ∷ []) is) is) (promised-records 3 e z (left-by clear-ways Y₂ c w) refl (cleared c (c .slots) _ _ _ attr ps z φ)) (plainly (eqb group 3) 0 3 0 blank 0 blank))
+            ends refl (left-by clear-ways Y₂ c w) d ys z refl g′ gd (subst (Is An.the-row z) (An.Laws.lowers .val-is z (v ∷ []) is) is) (promised-records 3 e z (left-by clear-ways Y₂ c w) refl (cleared c (c .slots) _ _ _ attr ps z φ)) (plainly (eqb group 3) 0 3 0 blank 0 blank))
 
       -- CLEAR_IO_IRQ: after the arrays it takes the attribute and the payload
       module _ (e : eqb group 8 ≡ true) where
@@ -237,7 +236,7 @@ module _ {M : Type 1} (𝓤 : URA M) (H : Heap 𝓤) (A : Atoms 𝓤) (W : Given
             (λ n i. (and-then ! (load ! (from ! (stop !)) (look ! 62 refl)) (and-then ! (load ! (from ! (stop !)) (look ! 64 refl)) (and-then ! (load ! (from ! (stop !)) (look ! 66 refl)) (and-then ! (load ! (from ! (stop !)) (look ! 28 refl)) (and-then ! (load ! (from ! (stop !)) (look ! 30 refl)) (no-more !))))))) (λ z v w φ g′ is.
             land ! (from ! (stop !)) (init ! 19 refl (LL.lawful An.the-type An.Laws.the-laws 𝓤 H A W .typed z _ is .0)) $ rewrite ! 19 (λ (u : Val). ‵ (fat fullShare An.Laws.mir l₀ 0 u)) (ap only (An.Laws.lowers .val-is z (v ∷ []) is)) refl $
             move ! (5 ∷ []) $ drop ! $ move ! (4 ∷ []) $ split ! $ move ! (1 ∷ []) $ drop ! $ move ! (5 ∷ 6 ∷ 7 ∷ 8 ∷ 9 ∷ 10 ∷ 11 ∷ 12 ∷ 1 ∷ 2 ∷ 3 ∷ 4 ∷ 13 ∷ 14 ∷ 15 ∷ 16 ∷ 17 ∷ 0 ∷ []) $
-            ends-records 8 e f.Code.Mir.t-10 z (left-by io-ways Y₃ c w) g′ (subst (Is An.the-row z) (An.Laws.lowers .val-is z (v ∷ []) is) is) refl (cleared-io c (c .slots) _ _ (c .singles) attr ps z φ) (plainly (eqb group 8) 0 0 3 blank 0 blank))
+            leaves refl (left-by io-ways Y₃ c w) d ys z refl g′ gd (subst (Is An.the-row z) (An.Laws.lowers .val-is z (v ∷ []) is) is) (promised-records 8 e z (left-by io-ways Y₃ c w) refl (cleared-io c (c .slots) _ _ (c .singles) attr ps z φ)) (plainly (eqb group 8) 0 0 3 blank 0 blank))
 
       -- ---- an injection: after the arrays `answer_inject` takes the limits and four values
       module _ (is-inject : eqb group 10 ≡ true) where
@@ -257,9 +256,6 @@ module _ {M : Type 1} (𝓤 : URA M) (H : Heap 𝓤) (A : Atoms 𝓤) (W : Given
         abbrev injected : Content → (c₈ c₉ c₁₀ : Content) → ℕ → (c₃₀ c₃₁ c₃₂ : Content) → List Content
         injected v₀ c₈ c₉ c₁₀ n c₃₀ c₃₁ c₃₂ = v₀ ∷ held blank blank (holds (I.Laws.lowered id)) c₈ c₉ c₁₀ (eqb group 10) 0 0 0 n c₃₀ c₃₁ c₃₂ blank 0 blank
 
-        abbrev Y₄ : Type 0
-        Y₄ = Unit {0} × (Unit {0} × (Unit {0} × (Unit {0} × (Unit {0} × (Unit {0} × Unit {0})))))
-
         abbrev to-inject : Loan → AnswerInject 𝓤 H A mem′ run .Ghost
         to-inject n = ((lent-lfts inject-ways n tt, lent-shares inject-ways tt, tt, lent-args inject-ways n c (a .bc) (a .oc) (imageSize, (256, (c .ais, (d, (place, (id, tt)))))), lent-vals inject-ways (a .bc) (a .oc) (vint w64 imageSize ∷ [], (vint w64 256 ∷ [], (vbool (c .ais) ∷ [], (D.Laws.lowered d ∷ [], (P.Laws.lowered place ∷ [], (I.Laws.lowered id ∷ [], tt))))))), tt)
 
@@ -274,15 +270,8 @@ module _ {M : Type 1} (𝓤 : URA M) (H : Heap 𝓤) (A : Atoms 𝓤) (W : Given
           abbrev answered : Content → Bool → (c₃₁ c₃₂ : Content) → List Content
           answered v₀ flag c₃₁ c₃₂ = injected v₀ (holds (P.Laws.lowered place)) (holds (D.Laws.lowered d)) (holds (An.Laws.lowered r)) 6 (holds (vbool flag)) c₃₁ c₃₂
 
-          -- what follows the second test
-          abbrev Then-noted : types.Kit.Post 𝓤 H
-          Then-noted = anyQ (afterSeq 𝓤 H (Wp 𝓤 H C′ Λ E (afters 13 (taken f.Code.Mir.s-11)) (post 𝓤 H (Then f.Code.Mir.t-12))) (post 𝓤 H (Then f.Code.Mir.t-12)))
-
           abbrev noted : Device
           noted = injectedDevice (c .ais) d place
-
-          noted-is : eqb (r .count) 1 ≡ true → notedIn (c .ais) d place r ≡ noted
-          noted-is e = chosen (eqb (r .count) 1) (injectedDevice (c .ais) d place) d e
 
           -- one record was appended: `note_injection` is called
           notes-it : eqb (r .count) 1 ≡ true → Sq W (At ys d c′ (answered blank (not (eqb (r .count) 1)) blank blank)) (runs C′ Λ E (afters 13 (taken f.Code.Mir.s-11)) (Then f.Code.Mir.t-12))
@@ -291,14 +280,14 @@ module _ {M : Type 1} (𝓤 : URA M) (H : Heap 𝓤) (A : Atoms 𝓤) (W : Given
               assigns ! (of-opd ! (load ! (from ! (hop ! (look ! 21 refl) (fld ! refl (stop !)))) (look ! 12 refl))) (from ! (stop !)) (store ! 81 refl (tt, tt)) $
               move ! (1 ∷ []) $ notes-injection ! mem′ run fm (known .note) d (c′ .ais) place (a .bd) (a .od) gd gp (canonical .iscSmall) (λ _ _. (and-then ! (load ! (from ! (stop !)) (look ! 86 refl)) (and-then ! (load ! (from ! (stop !)) (look ! 82 refl)) (and-then ! (load ! (from ! (stop !)) (look ! 40 refl)) (no-more !))))) (λ gn.
               land ! (from ! (stop !)) (init ! 83 refl (tt, tt)) $ move ! (1 ∷ []) $ assigns ! (of-opd ! (load ! (from ! (stop !)) (look ! 43 refl))) (from ! (stop !)) (init ! 19 refl (LL.lawful An.the-type An.Laws.the-laws 𝓤 H A W .typed r _ gr .0)) $
-              ends (Then f.Code.Mir.t-12) refl c′ noted ys r refl gc′ gn gr (promised noted (noted-is e)) (held blank blank (holds (I.Laws.lowered id)) (holds (P.Laws.lowered place)) (holds (D.Laws.lowered d)) (holds (An.Laws.lowered r)) (eqb group 10) 0 0 0 6 (holds (vbool (c′ .ais))) (holds vunit) (holds (vptr (a .bd) (a .od))) blank 0 blank))
+              ends refl c′ noted ys r refl gc′ gn gr (promised noted (chosen (eqb (r .count) 1) noted d e)) (held blank blank (holds (I.Laws.lowered id)) (holds (P.Laws.lowered place)) (holds (D.Laws.lowered d)) (holds (An.Laws.lowered r)) (eqb group 10) 0 0 0 6 (holds (vbool (c′ .ais))) (holds vunit) (holds (vptr (a .bd) (a .od))) blank 0 blank))
 
           tests-it : Sq W (At ys d c′ (answered blank (c .ais) blank blank)) (runs C′ Λ E (afters 11 (taken f.Code.Mir.s-11)) (Then f.Code.Mir.t-12))
           tests-it =
               assigns ! (bin ! (load ! (from ! (fld ! refl (stop !))) (look-in ! 43 (sub ! 1 refl (whole !)))) (lit ! tt) tt) (from ! (stop !)) (store ! 81 refl (tt, tt)) $
               first ! $ branches ! (load ! (from ! (stop !)) (look ! 81 refl))
               (λ t. assigns ! (of-opd ! (load ! (from ! (stop !)) (look ! 43 refl))) (from ! (stop !)) (init ! 19 refl (LL.lawful An.the-type An.Laws.the-laws 𝓤 H A W .typed r _ gr .0)) $
-              ends Then-noted refl c′ d ys r refl gc′ gd gr (promised d (passed (eqb (r .count) 1) (injectedDevice (c .ais) d place) d (holds-false (eqb (r .count) 1) t))) (held blank blank (holds (I.Laws.lowered id)) (holds (P.Laws.lowered place)) (holds (D.Laws.lowered d)) (holds (An.Laws.lowered r)) (eqb group 10) 0 0 0 6 (holds (vbool (not (eqb (r .count) 1)))) blank blank blank 0 blank))
+              ends refl c′ d ys r refl gc′ gd gr (promised d (passed (eqb (r .count) 1) (injectedDevice (c .ais) d place) d (holds-false (eqb (r .count) 1) t))) (held blank blank (holds (I.Laws.lowered id)) (holds (P.Laws.lowered place)) (holds (D.Laws.lowered d)) (holds (An.Laws.lowered r)) (eqb group 10) 0 0 0 6 (holds (vbool (not (eqb (r .count) 1)))) blank blank blank 0 blank))
               (λ t. skips ! $ exec ! C′ Λ E (afters 13 (taken f.Code.Mir.s-11)) (Then f.Code.Mir.t-12) $ notes-it (not-not (eqb (r .count) 1) t))
 
         -- `answer_inject` is called
@@ -307,7 +296,7 @@ module _ {M : Type 1} (𝓤 : URA M) (H : Heap 𝓤) (A : Atoms 𝓤) (W : Given
             nothing ! $ owned ! I.the-row (Is I.the-row) (makes-id 𝓤 H A W) id _ fits-id $ fjoin ! $ owned ! P.the-row (Is P.the-row) (LL.makes P.the-type P.Laws.the-plain 𝓤 H A) place _ gp $ fjoin ! $ owned ! D.the-row (Is D.the-row) (LL.makes D.the-type D.Laws.the-plain 𝓤 H A) d _ gd $ fjoin ! $
             owned ! bool (Is bool) (bool-makes 𝓤 H A W) (c .ais) _ refl $ fjoin ! $ owned ! u64 (Is u64) (uint-makes 𝓤 H A W w64) 256 _ (refl, omega arith) $ fjoin ! $ owned ! u64 (Is u64) (uint-makes 𝓤 H A W w64) imageSize _ (refl, omega arith) $ fjoin ! $
             nothing ! $ move ! (10 ∷ 11 ∷ 12 ∷ 13 ∷ 0 ∷ 1 ∷ []) $
-            calls-four inject-ways ! fm (AnswerInject 𝓤 H A mem′ run) (known .inject) to-inject c gc (a .bc) (a .oc) An.the-row {Y = Y₄} (λ y. fsep ftrue (fsep ftrue (fsep ftrue (fsep ftrue (fsep ftrue (fsep ftrue ftrue))))))
+            calls-four inject-ways ! fm (AnswerInject 𝓤 H A mem′ run) (known .inject) to-inject c gc (a .bc) (a .oc) An.the-row {Y = Unit {0} × (Unit {0} × (Unit {0} × (Unit {0} × (Unit {0} × (Unit {0} × Unit {0})))))} (λ y. fsep ftrue (fsep ftrue (fsep ftrue (fsep ftrue (fsep ftrue (fsep ftrue ftrue))))))
             (λ z w. InjectedTo attr c (w .0) (w .1 .0) (w .1 .1 .0) d place z) (λ n. asks-that 𝓤 H A W _ (omega arith, valid right .ready, canonical)) (λ n v. id⊢ 𝓤 _)
             (λ n i. (and-then ! (load ! (from ! (stop !)) (look ! 76 refl)) (and-then ! (load ! (from ! (stop !)) (look ! 78 refl)) (and-then ! (load ! (from ! (stop !)) (look ! 80 refl)) (and-then ! (lit ! tt) (and-then ! (lit ! tt) (and-then ! (load ! (from ! (stop !)) (look ! 82 refl)) (and-then ! (load ! (from ! (stop !)) (look ! 42 refl)) (and-then ! (load ! (from ! (stop !)) (look ! 40 refl)) (and-then ! (load ! (from ! (stop !)) (look ! 38 refl)) (no-more !))))))))))) (λ z v w φ g′ is.
             land ! (from ! (stop !)) (init ! 45 refl (LL.lawful An.the-type An.Laws.the-laws 𝓤 H A W .typed z _ is .0)) $ rewrite ! 45 (λ (u : Val). ‵ (fat fullShare An.Laws.mir (cs .1 .1 .1 .1 .1 .0) 0 u)) (ap only (An.Laws.lowers .val-is z (v ∷ []) is)) refl $
@@ -339,7 +328,7 @@ module _ {M : Type 1} (𝓤 : URA M) (H : Heap 𝓤) (A : Atoms 𝓤) (W : Given
           move ! (0 ∷ 17 ∷ 18 ∷ []) $ sets-place ! mem′ run fm (known .set-place) κp qp bp op γp ps ys (a .bt) (a .ot) room group attr group-fits attr-fits on (λ _ _ _. (and-then ! (load ! (from ! (stop !)) (look ! 91 refl)) (and-then ! (load ! (from ! (stop !)) (look ! 27 refl)) (and-then ! (load ! (from ! (stop !)) (look ! 29 refl)) (and-then ! (load ! (from ! (stop !)) (look ! 31 refl)) (no-more !)))))) (λ z v zs φ is.
           land ! (from ! (stop !)) (init ! 19 refl (LL.lawful An.the-type An.Laws.the-laws 𝓤 H A W .typed z _ is .0)) $ rewrite ! 19 (λ (u : Val). ‵ (fat fullShare An.Laws.mir l₀ 0 u)) (ap only (An.Laws.lowers .val-is z (v ∷ []) is)) refl $
           move ! (0 ∷ 3 ∷ 4 ∷ 5 ∷ 6 ∷ 7 ∷ 8 ∷ 9 ∷ 10 ∷ 11 ∷ 12 ∷ 13 ∷ 14 ∷ 15 ∷ 16 ∷ 17 ∷ 18 ∷ 1 ∷ 2 ∷ []) $
-          ends (Then f.Code.Mir.t-14) refl c d zs z (φ .same-length) gc gd (subst (Is An.the-row z) (An.Laws.lowers .val-is z (v ∷ []) is) is) (place-promises group attr c d ys ps z right (valid right) zs φ) (plainly (eqb group 10) 0 0 0 (holds (vbool (onPlace group))) 2 blank))
+          ends refl c d zs z (φ .same-length) gc gd (subst (Is An.the-row z) (An.Laws.lowers .val-is z (v ∷ []) is) is) (place-promises group attr c d ys ps z right (valid right) zs φ) (plainly (eqb group 10) 0 0 0 (holds (vbool (onPlace group))) 2 blank))
 
       -- ---- any other request is about the device record, or of no group
       takes-modes : (group ≡ 2 → ⊥) × (group ≡ 3 → ⊥) × (group ≡ 8 → ⊥) × (group ≡ 10 → ⊥) × (onPlace group ≡ false) → Sq W (At ys d c (blank ∷ plainly (eqb group 10) 0 0 0 (holds (vbool (onPlace group))) 0 blank)) (runs C′ Λ E f.Code.Mir.t-14 (atRet E Post))
@@ -349,7 +338,7 @@ module _ {M : Type 1} (𝓤 : URA M) (H : Heap 𝓤) (A : Atoms 𝓤) (W : Given
           move ! (1 ∷ 17 ∷ 18 ∷ []) $ sets-modes ! mem′ run fm (known .set-modes) κp qp bp op γp ps d (a .bd) (a .od) gd (c .ais) group attr group-fits attr-fits other (λ _ _ _. (and-then ! (load ! (from ! (stop !)) (look ! 93 refl)) (and-then ! (load ! (from ! (stop !)) (look ! 47 refl)) (and-then ! (load ! (from ! (stop !)) (look ! 27 refl)) (and-then ! (load ! (from ! (stop !)) (look ! 29 refl)) (and-then ! (load ! (from ! (stop !)) (look ! 31 refl)) (no-more !))))))) (λ z v y φ is gy.
           land ! (from ! (stop !)) (init ! 19 refl (LL.lawful An.the-type An.Laws.the-laws 𝓤 H A W .typed z _ is .0)) $ rewrite ! 19 (λ (u : Val). ‵ (fat fullShare An.Laws.mir l₀ 0 u)) (ap only (An.Laws.lowers .val-is z (v ∷ []) is)) refl $
           move ! (3 ∷ 0 ∷ 4 ∷ 5 ∷ 6 ∷ 7 ∷ 8 ∷ 9 ∷ 10 ∷ 11 ∷ 12 ∷ 13 ∷ 14 ∷ 15 ∷ 16 ∷ 17 ∷ 18 ∷ 1 ∷ 2 ∷ []) $
-          ends (atRet E Post) refl c y ys z refl gc gy (subst (Is An.the-row z) (An.Laws.lowers .val-is z (v ∷ []) is) is) (modes-promises group attr c d ys ps z right (valid right) y φ) (plainly (c .ais) 0 0 0 (holds (vbool (onPlace group))) 0 (holds (vptr (a .bd) (a .od)))))
+          ends refl c y ys z refl gc gy (subst (Is An.the-row z) (An.Laws.lowers .val-is z (v ∷ []) is) is) (modes-promises group attr c d ys ps z right (valid right) y φ) (plainly (c .ais) 0 0 0 (holds (vbool (onPlace group))) 0 (holds (vptr (a .bd) (a .od)))))
 
       -- ---- the groups, one after another
       abbrev not-records : Type 0

@@ -1,6 +1,7 @@
 -- The locals of a function, for the start of its walk: those of its parameters are `params-of` it, and all are `laid` out with the result at l₀, the parameters at bs and the others at cs.
---     refers   a local gets the address of a field behind a reference: the reference is entry n of the context, and the local's room entry m
-use Rattle.flic.proofs.Walk.{_≡_, ℕ, _+_, [], _∷_, List, _++_, URA, fullShare, Ty, vptr, Share, fat, froom, Heap, Env, Calls, Loops, Atoms, Given, Item, Step, runs, ‵, assigns, addr, from, hop, look, fld, stop, init}
+--     then-runs   what an arm of a test may end in: it returns, as Post says, or the rest runs and does
+--     refers      a local gets the address of a field behind a reference: the reference is entry n of the context, and the local's room entry m
+use Rattle.flic.proofs.Walk.{_≡_, ℕ, _+_, [], _∷_, List, _++_, URA, fullShare, Ty, Val, vptr, SProp, Share, fat, froom, Heap, Env, Calls, Loops, Wp, afterSeq, atReturn, anyQ, Atoms, Given, Item, Step, runs, ‵, assigns, addr, from, hop, look, fld, stop, init}
 use types.Kit.{nth, put}
 use mir.Syntax.{Fn, Local, Body as Code, place, deref, field, addrOf, assign, seq}
 use mir.Val.{hasTy, WT}
@@ -24,6 +25,9 @@ params-of f = after-first (f .params) (f .locals)
 
 abbrev pub laid : (f : Fn) → Ty → ℕ → Blocks (params-of f) → Blocks (others f) → List (Ty × ℕ)
 laid f τ l₀ bs cs = (τ, l₀) ∷ (placed (params-of f) bs ++ placed (others f) cs)
+
+abbrev pub then-runs : {M : Type 1} {𝓤 : URA M} {H : Heap 𝓤} → Calls 𝓤 H → Loops 𝓤 H → Env 𝓤 H → (Val → SProp 𝓤) → Code → types.Kit.Post 𝓤 H
+then-runs {𝓤 = 𝓤} {H} C Λ E Post rest = anyQ (afterSeq 𝓤 H (Wp 𝓤 H C Λ E rest (atReturn 𝓤 H E Post)) (atReturn 𝓤 H E Post))
 
 module _ {M : Type 1} {𝓤 : URA M} {H : Heap 𝓤} {A : Atoms 𝓤} {K : Type 0} {W : Given 𝓤 H A} {Γ : List (Item 𝓤)} {E : Env 𝓤 H} {C : Calls 𝓤 H} {Λ : Loops 𝓤 H} {p : types.Kit.Post 𝓤 H} {rest : Code} {i j k : ℕ} {τ υ : Ty} {d b o : ℕ} {q : Share} where
   pub refers : K → (n m : ℕ) → nth 𝓤 H A n Γ ≡ ‵ (fat q (spotOf 𝓤 H E i .0) (spotOf 𝓤 H E i .1) (spotOf 𝓤 H E i .2) (vptr b o)) → fieldOf τ k ≡ found (υ, d)

@@ -1,5 +1,5 @@
 -- `flic_make`: the length of the table is looked at, all is opened, the arrays are made fresh, the capability, the device record and the table are stored, and all is closed.
-use Rattle.flic.proofs.Walk.{_≡_, refl, sym, ap, ℕ, _+_, Bool, false, [], _∷_, List, length, URA, fullShare, named, w64, tyUnit, Val, vunit, vint, vbool, vptr, SProp, ent, emp, via, fst∗, id⊢, ftrue, fat, Memory, Routine, Heap, Env, Calls, Loops, Wp, WpFn, afterSeq, atReturn, Atoms, Fun, givenOf, tablesOf, Given, Sq, runs, atRet, anyQ, ‵, ⋆, _$_, _∵_, !, qed, by, move, keep, drop, join, rewrite, fjoin, suffices, frame, done, look, store, init, stop, hop, fld, from, load, lit, bin, addr, of-opd, and-then, no-more, assigns, first, skips, branches, exec, land, returns, returns-within, enter, agg, whole, sub, look-in, FmC, owns, Is, bool, bool-vals, bool-tells, RefT, Room, ptr-vals, mut-tells, slice-vals, mut-slice-tells, plain, only, owned, nothing, unit, onEntry, tripleOf, Contract, Triple, cited, says, Stays, stay-ref, stay-slice, stay-dropped, walkOf, goes-ref, goes-slice, goes-dropped, ends-at, yes}
+use Rattle.flic.proofs.Walk.{_≡_, refl, sym, ap, ℕ, _+_, Bool, false, [], _∷_, List, length, URA, fullShare, named, w64, tyUnit, Val, vunit, vint, vbool, vptr, SProp, ent, emp, via, fst∗, id⊢, ftrue, fat, Memory, Routine, Heap, Env, Calls, Loops, WpFn, Atoms, Fun, givenOf, tablesOf, Given, Sq, runs, atRet, ‵, ⋆, _$_, _∵_, !, qed, by, move, keep, drop, join, rewrite, fjoin, suffices, frame, done, look, store, init, stop, hop, fld, from, load, lit, bin, addr, of-opd, and-then, no-more, assigns, first, skips, branches, exec, land, returns, returns-within, enter, agg, whole, sub, look-in, FmC, owns, Is, bool, bool-vals, bool-tells, RefT, Room, ptr-vals, mut-tells, slice-vals, mut-slice-tells, plain, only, owned, nothing, unit, onEntry, tripleOf, Contract, Triple, cited, says, Stays, stay-ref, stay-slice, stay-dropped, walkOf, goes-ref, goes-slice, goes-dropped, ends-at, yes}
 use Rattle.lent_table.proofs.{Ends.concludes, Shell.others, Record.StoreDevice, Record.stores-device, Calls.Clear, Calls.clears, Called.asks-nothing, Called.calls-plain, Count.taken, Tables.length-restored}
 use Rattle.lent_table.proofs.Locals.{Blocks, Content, blank, holds, since, locals, holds-false, not-not, zero-fits, unit-typed, ends-with, sets-up}
 use Rattle.numbers.proofs.Basics.{not, eqb, arith, eqb-true, eqb-false, replicate, _∙_}
@@ -18,7 +18,7 @@ use Rattle.store.specs.Memory.{pendingOf}
 use Rattle.store_queues.specs.Queues.{Held}
 use Rattle.flic.specs.Surface.{Made}
 use Rattle.calls.proofs.Controller as C
-use Rattle.flic.proofs.{Promises.freshDevice, Promises.make-promises, Promises.wrong-makes, Opened.Has, Frame.params-of, Frame.laid, Frame.refers}
+use Rattle.flic.proofs.{Promises.freshDevice, Promises.make-promises, Promises.wrong-makes, Opened.Has, Frame.params-of, Frame.laid, Frame.refers, Frame.then-runs}
 use Rattle.flic.proofs.All.{Refs, refs, at-ctl, at-dev, at-tab, table, Owned, Tokens, Passed, Open, Closed, takes-all, opens-all, closes-all, gives-all}
 use Rattle.flic.proofs.Four.{Ways, mutably, apart, Loan, lent-lfts, lent-shares, lent-args, lent-vals, calls-four}
 use Rattle.answers.proofs.refuse as refuse
@@ -95,10 +95,7 @@ module _ {M : Type 1} (𝓤 : URA M) (H : Heap 𝓤) (A : Atoms 𝓤) (W : Given
     held v₀ n = v₀ ∷ holds (vptr (a .bc) (a .oc)) ∷ holds (vptr (a .bd) (a .od)) ∷ holds (table a) ∷ holds (vbool ais) ∷ since 1 n (vint w64 (length (a .t))) ∷ since 2 n (vbool wrong) ∷ since 6 n vunit
         ∷ since 3 n (vptr (a .bc) (a .oc + 18432)) ∷ since 4 n (vptr (a .bc) (a .oc + 20992)) ∷ since 5 n (vptr (a .bc) (a .oc + 21080)) ∷ since 7 n (vptr (a .bd) (a .od)) ∷ since 8 n (D.Laws.lowered freshDevice) ∷ since 9 n (vptr (a .bt) (a .ot)) ∷ since 10 n (table a) ∷ []
 
-    abbrev Then : types.Kit.Post 𝓤 H
-    Then = anyQ (afterSeq 𝓤 H (Wp 𝓤 H C′ Λ E f.Code.Mir.t-4 (atReturn 𝓤 H E Post)) (atReturn 𝓤 H E Post))
-
-    refuses-it : eqb (length (a .t)) imageSize ≡ false → Sq W (Passed a (locals E (held blank 2) [])) (runs C′ Λ E (taken f.Code.Mir.s-3) Then)
+    refuses-it : eqb (length (a .t)) imageSize ≡ false → Sq W (Passed a (locals E (held blank 2) [])) (runs C′ Λ E (taken f.Code.Mir.s-3) (then-runs C′ Λ E Post f.Code.Mir.t-4))
     refuses-it e =
         refuses ! mem′ run fm (known .refuse) 14 (omega arith) (λ i. (and-then ! (lit ! tt) (no-more !))) (λ g.
         land ! (from ! (stop !)) (init ! 6 refl (LL.lawful An.the-type An.Laws.the-laws 𝓤 H A W .typed (refused 14) _ g .0)) $

@@ -1,6 +1,6 @@
 -- `flic_play_list`: the length of the table is looked at, all is opened, and `play_list` is called with an image of unused places. Where the controller was made fresh, the device
 -- record and the table are stored. Then all is closed.
-use Rattle.flic.proofs.Walk.{_≡_, refl, ap, subst, ℕ, _+_, Bool, true, false, [], _∷_, List, length, URA, fullShare, named, w64, Val, vunit, vint, vbool, vptr, SProp, ent, id⊢, GName, Lft, Share, Fml, ftrue, fsep, flft, fat, Memory, Routine, Heap, Env, Calls, Loops, Wp, WpFn, afterSeq, atReturn, Atoms, Fun, givenOf, tablesOf, Given, Item, Sq, runs, atRet, anyQ, ‵, ⋆, _⊛_, _$_, _∵_, !, qed, by, move, keep, drop, split, join, rewrite, fsplit, fjoin, suffices, frame, done, look, store, init, stop, hop, fld, from, load, lit, bin, addr, of-opd, and-then, no-more, assigns, first, skips, branches, exec, land, returns, returns-within, enter, agg, whole, sub, look-in, FmC, owns, Is, u8, u64, bool, uint-makes, bool-makes, RefT, sliceVal, ShrSlice, Room, ptr-vals, mut-tells, slice-vals, mut-slice-tells, shr-slice-tells, plain, only, owned, nothing, onEntry, tripleOf, Contract, Triple, cited, needs, says, Stays, stay-ref, stay-slice, stay-dropped, walkOf, goes-ref, goes-slice, goes-dropped, ends-at, yes}
+use Rattle.flic.proofs.Walk.{_≡_, refl, ap, subst, ℕ, _+_, Bool, true, false, [], _∷_, List, length, URA, fullShare, named, w64, Val, vunit, vint, vbool, vptr, SProp, ent, id⊢, GName, Lft, Share, Fml, ftrue, fsep, flft, fat, Memory, Routine, Heap, Env, Calls, Loops, WpFn, Atoms, Fun, givenOf, tablesOf, Given, Item, Sq, runs, atRet, ‵, ⋆, _⊛_, _$_, _∵_, !, qed, by, move, keep, drop, split, join, rewrite, fsplit, fjoin, suffices, frame, done, look, store, init, stop, hop, fld, from, load, lit, bin, addr, of-opd, and-then, no-more, assigns, first, skips, branches, exec, land, returns, returns-within, enter, agg, whole, sub, look-in, FmC, owns, Is, u8, u64, bool, uint-makes, bool-makes, RefT, sliceVal, ShrSlice, Room, ptr-vals, mut-tells, slice-vals, mut-slice-tells, shr-slice-tells, plain, only, owned, nothing, onEntry, tripleOf, Contract, Triple, cited, needs, says, Stays, stay-ref, stay-slice, stay-dropped, walkOf, goes-ref, goes-slice, goes-dropped, ends-at, yes}
 use types.Run.{un}
 use Rattle.lent_table.proofs.{Ends.concludes, Shell.others, Record.StoreDevice, Record.stores-device, Calls.Restore, Calls.restores, Count.taken, Tables.length-restored}
 use Rattle.lent_table.proofs.Images.{low-image, FitsImage, image-typed, Empty, takes-empty}
@@ -23,7 +23,7 @@ use Rattle.list_play.specs.declared.Played.{Played}
 use Rattle.flic.specs.Surface.{Valid, Requested}
 use Rattle.calls.proofs.Controller as C
 use Rattle.list_play.proofs.Played as St
-use Rattle.flic.proofs.{Promises.Replayed, Promises.same-promises, Promises.play-promises, Promises.wrong-promises, Opened.Has, Calls.asks-that, Frame.params-of, Frame.laid, Frame.refers}
+use Rattle.flic.proofs.{Promises.Replayed, Promises.same-promises, Promises.play-promises, Promises.wrong-promises, Opened.Has, Calls.asks-that, Frame.params-of, Frame.laid, Frame.refers, Frame.then-runs}
 use Rattle.flic.proofs.All.{Refs, refs, at-ctl, at-dev, at-tab, table, Owned, Tokens, Passed, Open, Closed, opens-all, closes-all, takes-all, gives-all}
 use Rattle.flic.proofs.Four.{said-of, all, mutably, at-array, lends-array, array-back, Loan, left-by, lent-lfts, lent-shares, lent-args, lent-vals, calls-four}
 use Rattle.answers.proofs.refuse as refuse
@@ -111,13 +111,7 @@ module _ {M : Type 1} (𝓤 : URA M) (H : Heap 𝓤) (A : Atoms 𝓤) (W : Given
     abbrev X : List (Item 𝓤)
     X = ‵ (flft κp qp) ∷ []
 
-    abbrev Then : types.Kit.Post 𝓤 H
-    Then = anyQ (afterSeq 𝓤 H (Wp 𝓤 H C′ Λ E f.Code.Mir.t-4 (atReturn 𝓤 H E Post)) (atReturn 𝓤 H E Post))
-
-    abbrev Then-stored : types.Kit.Post 𝓤 H
-    Then-stored = anyQ (afterSeq 𝓤 H (Wp 𝓤 H C′ Λ E f.Code.Mir.t-15 (atReturn 𝓤 H E Post)) (atReturn 𝓤 H E Post))
-
-    refuses-it : eqb (length (a .t)) imageSize ≡ false → Sq W (Passed a (locals E (held blank blank blank (holds (vbool wrong)) 2) (‵ (flft κp qp) ∷ ‵ OwnP ∷ []))) (runs C′ Λ E (taken f.Code.Mir.s-3) Then)
+    refuses-it : eqb (length (a .t)) imageSize ≡ false → Sq W (Passed a (locals E (held blank blank blank (holds (vbool wrong)) 2) (‵ (flft κp qp) ∷ ‵ OwnP ∷ []))) (runs C′ Λ E (taken f.Code.Mir.s-3) (then-runs C′ Λ E Post f.Code.Mir.t-4))
     refuses-it e =
         let ended = held (holds (An.Laws.lowered (refused 14))) blank blank (holds (vbool wrong)) 2 in
         refuses ! mem′ run fm (known .refuse) 14 (omega arith) (λ i. (and-then ! (lit ! tt) (no-more !))) (λ g.
@@ -142,7 +136,7 @@ module _ {M : Type 1} (𝓤 : URA M) (H : Heap 𝓤) (A : Atoms 𝓤) (W : Given
         told v₀ flag n = held v₀ (holds (low-image image)) (holds (St.Laws.lowered r)) (holds (vbool flag)) n
 
         -- nothing has changed
-        keeps-it : r .fresh ≡ false → Sq W (Open H a (a .t) (a .d) c′ (locals E (told blank (not (r .fresh)) 13) X)) (runs C′ Λ E (taken f.Code.Mir.s-14) Then-stored)
+        keeps-it : r .fresh ≡ false → Sq W (Open H a (a .t) (a .d) c′ (locals E (told blank (not (r .fresh)) 13) X)) (runs C′ Λ E (taken f.Code.Mir.s-14) (then-runs C′ Λ E Post f.Code.Mir.t-15))
         keeps-it z =
             assigns ! (of-opd ! (load ! (from ! (fld ! refl (stop !))) (look-in ! 29 (sub ! 0 refl (whole !))))) (from ! (stop !)) (init ! 17 refl (LL.lawful An.the-type An.Laws.the-laws 𝓤 H A W .typed (r .answer) _ (LL.owed St.the-type St.Laws.the-laws r _ gr .0) .0)) $
             closes-all ! tt a (a .t) (a .d) c′ refl gd gc′ $ returns-within ! Post refl (look ! 9 refl) $

@@ -1,6 +1,6 @@
 -- `flic_set`: the table's length is looked at first. Then the table, the device record and the controller are opened, the group decides which function is called, and all is
 -- closed at the exit. In between the walk holds their memory.
-use Rattle.flic.proofs.Walk.{_≡_, refl, sym, ap, subst, ℕ, _<_, _^_, Bool, true, false, [], _∷_, List, length, getD, URA, fullShare, named, w64, Val, vunit, vint, vbool, vptr, SProp, ent, id⊢, GName, Lft, Share, Fml, ftrue, fsep, flft, fat, Memory, Routine, Heap, Env, Calls, Loops, WpFn, Atoms, Fun, givenOf, tablesOf, Given, Item, Sq, runs, atRet, ‵, ⋆, _⊛_, _$_, _∵_, !, qed, by, move, keep, drop, split, join, rewrite, fsplit, fjoin, suffices, frame, done, look, store, init, stop, hop, fld, from, load, lit, addr, of-opd, bin, and-then, no-more, assigns, land, enter, agg, whole, sub, look-in, FmC, owns, Is, bool-makes, uint-vals, uint-tells, uint-makes, u8, u64, RefT, ptr-vals, mut-tells, sliceVal, ShrSlice, Room, slice-vals, mut-slice-tells, shr-slice-tells, plain, only, owned, nothing, onEntry, tripleOf, Contract, Triple, cited, says, Stays, stay-ref, stay-slice, walkOf, goes-ref, goes-slice, ends-at, yes, _+_, w32, u32, bool, needs, stay-dropped, goes-dropped, Wp, afterSeq, atReturn, anyQ, first, skips, branches, exec, returns-within}
+use Rattle.flic.proofs.Walk.{_≡_, refl, sym, ap, subst, ℕ, _<_, _^_, Bool, true, false, [], _∷_, List, length, getD, URA, fullShare, named, w64, Val, vunit, vint, vbool, vptr, SProp, ent, id⊢, GName, Lft, Share, Fml, ftrue, fsep, flft, fat, Memory, Routine, Heap, Env, Calls, Loops, WpFn, Atoms, Fun, givenOf, tablesOf, Given, Item, Sq, runs, atRet, ‵, ⋆, _⊛_, _$_, _∵_, !, qed, by, move, keep, drop, split, join, rewrite, fsplit, fjoin, suffices, frame, done, look, store, init, stop, hop, fld, from, load, lit, addr, of-opd, bin, and-then, no-more, assigns, land, enter, agg, whole, sub, look-in, FmC, owns, Is, bool-makes, uint-vals, uint-tells, uint-makes, u8, u64, RefT, ptr-vals, mut-tells, sliceVal, ShrSlice, Room, slice-vals, mut-slice-tells, shr-slice-tells, plain, only, owned, nothing, onEntry, tripleOf, Contract, Triple, cited, says, Stays, stay-ref, stay-slice, walkOf, goes-ref, goes-slice, ends-at, yes, _+_, w32, u32, bool, needs, stay-dropped, goes-dropped, atReturn, first, skips, branches, exec, returns-within}
 use Rattle.lent_table.proofs.{Ends.concludes, Shell.others, Count.afters, Count.taken, Places.FitsId, Places.fit-id, Places.typed-id, Places.makes-id, Record.ReadDevice, Record.NoteInjection, Record.reads-device, Record.notes-injection, Calls.LookUp, Calls.looks-up}
 use types.Kit.{post}
 use prog.Wp.{returns as returnsᴼ}
@@ -38,7 +38,7 @@ use Rattle.calls.proofs.Controller as C
 use Rattle.calls.proofs.answer_inject as answer-inject
 use Rattle.flic.specs.Surface.{Valid, Requested}
 use Rattle.flic.proofs.Promises.{SetRecords, Enqueued, enqueued, Cleared, cleared, ClearedIo, cleared-io, of-group, wrong-promises, record-promises, InjectedTo, inject-promises, place-promises, modes-promises}
-use Rattle.flic.proofs.{Opened.Has, Calls.asks-that, Calls.OnPlace, Calls.SetPlace, Calls.SetModes, Calls.asks-place, Calls.sets-place, Calls.sets-modes, Frame.params-of, Frame.laid, Frame.refers}
+use Rattle.flic.proofs.{Opened.Has, Calls.asks-that, Calls.OnPlace, Calls.SetPlace, Calls.SetModes, Calls.asks-place, Calls.sets-place, Calls.sets-modes, Frame.params-of, Frame.laid, Frame.refers, Frame.then-runs}
 use Rattle.flic.proofs.All.{Refs, refs, at-ctl, at-dev, at-tab, table, Owned, Tokens, Passed, Open, Closed, takes-all, opens-all, closes-all, gives-all}
 use Rattle.flic.proofs.Four.{Ways, all, mutably, shared, apart, at-array, Loan, left-by, lent-lfts, lent-shares, lent-args, lent-vals, calls-four}
 use Rattle.flic.proofs.flic_set as f
@@ -162,7 +162,7 @@ module _ {M : Type 1} (𝓤 : URA M) (H : Heap 𝓤) (A : Atoms 𝓤) (W : Given
 
     -- what follows a test
     abbrev Then : Code → types.Kit.Post 𝓤 H
-    Then rest = anyQ (afterSeq 𝓤 H (Wp 𝓤 H C′ Λ E rest (atReturn 𝓤 H E Post)) (atReturn 𝓤 H E Post))
+    Then rest = then-runs C′ Λ E Post rest
 
     -- ---- a wrong table
     refuses-it : eqb (length ys) imageSize ≡ false → Sq W (Passed a (‵ (flft κp qp) ∷ ‵ OwnP ∷ locals E (tested wrong) [])) (runs C′ Λ E (taken f.Code.Mir.s-3) (Then f.Code.Mir.t-4))

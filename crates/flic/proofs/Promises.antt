@@ -23,14 +23,8 @@ use Rattle.flic.specs.Surface.{stateOf, Ready, Valid, Steps, Made, Reque
 use Rattle.store_queues.specs.Queues.{total, Held}
 use Rattle.store.specs.Memory.{pendingOf}
 
--- a state that a step leads to is sound
-next-sound : (ask : Ask) (c c′ : Controller) (d d′ : Device) (t t′ : List Place) (b : List ℕ) (x : Seen) → limitsOf c′ ≡ limitsOf c
-    → Valid c d t → Steps ask c c′ d d′ t t′ b x → Sound (limitsOf c′) (stateOf c′ d′ t′)
-next-sound ask c c′ d d′ t t′ b x l h e =
-    subst (λ (L : Limits). Sound L (stateOf c′ d′ t′)) (sym l) (subst (Sound (limitsOf c)) (ap (λ (a : Told State). a .next) e) (kept-step (limitsOf c) (stateOf c d t) (h .sound) _ .sound))
-
 -- a refusal that changes nothing has a code that is not 0
-pub refused-code : (ask : Ask) (c c′ : Controller) (d d′ : Device) (t t′ : List Place) (b : List ℕ) (x : Seen) → Steps ask c c′ d d′ t t′ b x
+refused-code : (ask : Ask) (c c′ : Controller) (d d′ : Device) (t t′ : List Place) (b : List ℕ) (x : Seen) → Steps ask c c′ d d′ t t′ b x
     → (code count : ℕ) → outcome (limitsOf c) (stateOf c d t) ask (length t) b ≡ refuseWith code count → x .code ≡ 0 → ⊥
 unfolding step result
 refused-code ask c c′ d d′ t t′ b x f code count o z =
@@ -40,7 +34,9 @@ refused-code ask c c′ d d′ t t′ b x f code count o z =
 -- the promise of a request, from its step and from what it keeps where its code is not 0
 module _ (ask : Ask) {c c′ : Controller} {d d′ : Device} {t t′ : List Place} (b : List ℕ) (x : Seen) (h : Valid c d t) (s : Steps ask c c′ d d′ t t′ b x) (ready : Ready c′) (places : All Canonical t′) where
   pub next-valid : Valid c′ d′ t′
-  next-valid = record { ready = ready; places = places; sound = next-sound ask c c′ d d′ t t′ b x (limits-kept c c′) h s }
+  next-valid =
+      let next-sound = subst (Sound (limitsOf c)) (ap (λ (a : Told State). a .next) s) (kept-step (limitsOf c) (stateOf c d t) (h .sound) _ .sound) in
+      record { ready = ready; places = places; sound = subst (λ (L : Limits). Sound L (stateOf c′ d′ t′)) (sym (limits-kept c c′)) next-sound }
 
   promises : ((x .code ≡ 0 → ⊥) → (c′ ≡ c) × (d′ ≡ d) × (t′ ≡ t) × (x .buffer ≡ b)) → Requested ask c c′ d d′ t t′ b x
   promises kept = record { steps = s; kept = λ code count o. kept (refused-code ask c c′ d d′ t t′ b x s code count o); valid = λ _. next-valid; limits = limits-kept c c′ }

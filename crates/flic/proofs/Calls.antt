@@ -1,6 +1,6 @@
 -- Calls as steps of a walk: of `adapter_requests::on_place`; of `lent_requests::set_place` and `lent_requests::set_modes`, which are lent the payload beside the table or the device record; and
 -- of `lent_table::read_device`, where the walk passes a shared reference of its own on. And a `&mut [u8]` that is not used any more, given up at its value.
-use Rattle.flic.proofs.Walk.{_≡_, refl, sym, ap, subst, ℕ, _<_, _^_, Bool, true, false, [], _∷_, List, length, URA, fullShare, named, w64, Val, vint, vptr, SProp, id⊢, GName, Lft, Share, Fml, ftrue, fsep, flft, fres, Memory, Routine, Heap, Env, Calls, Loops, Atoms, Fun, Given, Item, Goal, Step, step, Seq, runs, lands, ‵, _⊛_, _$_, move, drop, use1, split, join, fsplit, fjoin, Opds, FmC, Is, cellAt, bool-makes, uint-makes, u8, u64, RefT, ShrRef, finally, sliceVal, MutSlice, Room, heres, codedHoleys, row, only, owned, nothing, tripleOf, Contract, Triple, says, w32, u32, bool, vbool, bool-vals, bool-tells, ent, emp, _∵_, !, qed, frame, done, sem, exE, snd∗, ensured, lasts}
+use Rattle.flic.proofs.Walk.{_≡_, refl, sym, ap, subst, ℕ, _<_, _^_, Bool, true, false, [], _∷_, List, length, URA, fullShare, named, w64, Val, vint, vptr, SProp, id⊢, GName, Lft, Share, Fml, ftrue, fsep, flft, fres, Memory, Routine, Heap, Env, Calls, Loops, Atoms, Fun, Given, Item, Goal, Step, step, Seq, runs, lands, ‵, _⊛_, _$_, move, drop, use1, split, join, fsplit, fjoin, Opds, FmC, Is, cellAt, bool-makes, uint-makes, u8, u64, RefT, ShrRef, finally, sliceVal, MutSlice, Room, heres, codedHoleys, row, only, owned, nothing, tripleOf, Contract, Triple, says, w32, u32, bool, vbool, bool-vals, bool-tells, ent, sep, fact, raw, emp, _∵_, !, qed, frame, done, sem, exE, snd∗, ensured, lasts}
 use mir.Syntax.{Place as Where, Body as Code, Opd as Operand, seq, call}
 use denote.Slice.{res-finally}
 use denote.Struct.Laws as LL
@@ -13,16 +13,19 @@ use Rattle.adapter_requests.specs.States.{onPlace}
 use Rattle.adapter_requests.proofs.on_place as on-place
 use Rattle.adapter_requests.proofs.on_place.Symbol.{name as #on-place}
 use Rattle.lent_requests.specs.Requests.{ModesSet, PlaceSet}
-use Rattle.lent_table.proofs.{Record.ReadDevice, Gives.at-list, Gives.Lent, Gives.LentCell, Gives.gives, Called.asks-nothing, Called.calls-told, read_device.Symbol.name as #read-device}
+use Rattle.lent_table.proofs.{Record.ReadDevice, Gives.at-list, Gives.gives, Called.asks-nothing, Called.calls-told, read_device.Symbol.name as #read-device}
 use Rattle.lent_requests.proofs.{Payload.payload, Payload.Payload, Payload.asks-record, Payload.asks-table, set_place.Symbol.name as #set-place, set_modes.Symbol.name as #set-modes}
 use Rattle.lent_requests.proofs.set_place as set-place
 use Rattle.lent_requests.proofs.set_modes as set-modes
 
+-- a contract that requires φ alone
+pub asks-that : {M : Type 1} (𝓤 : URA M) (H : Heap 𝓤) (A : Atoms 𝓤) (W : Given 𝓤 H A) (P : SProp 𝓤) {φ : Type 0} → φ → ent 𝓤 P (sep 𝓤 P (fact 𝓤 φ))
+asks-that 𝓤 H A W P x = qed W (raw P ∷ []) ∵ says ! x $ done !
+
 -- a `&mut [u8]` is given up: what is in it then is its last value
 module _ {M : Type 1} {𝓤 : URA M} {H : Heap 𝓤} {A : Atoms 𝓤} {K : Type 0} {W : Given 𝓤 H A} {Γ : List (Item 𝓤)} {G : Goal 𝓤 H} where
   pub gives-up : K → (κ : Lft) (b o : ℕ) (γ : GName) (bs : List ℕ) → Step K W (‵ (finally u8 γ bs) ∷ Γ) G (‵ (MutSlice (named 0) κ u8 .own (at-list b o γ bs) (sliceVal (b, o) (length bs) ∷ [])) ∷ Γ) G
-  gives-up t κ b o γ bs = step (λ k. fsplit {W = W} t $ drop t $ fsplit t $
-      use1 W (‵ (fres γ (codedHoleys u8 .code (heres u8 bs)))) (W .names .obs-res γ (codedHoleys u8 .code (heres u8 bs))) $
+  gives-up t κ b o γ bs = step (λ k. fsplit {W = W} t $ drop t $ fsplit t $ use1 W (‵ (fres γ (codedHoleys u8 .code (heres u8 bs)))) (W .names .obs-res γ (codedHoleys u8 .code (heres u8 bs))) $
       use1 W (‵ (finally u8 γ bs)) (res-finally 𝓤 H A W (named 0) κ u8 γ bs) $ move t (1 ∷ []) $ drop t $ k)
 
 module _ {M : Type 1} (𝓤 : URA M) (H : Heap 𝓤) (A : Atoms 𝓤) (mem′ : Memory → SProp 𝓤) (run : Routine → Fun 𝓤) where
@@ -83,8 +86,7 @@ module _ {M : Type 1} {𝓤 : URA M} {H : Heap 𝓤} {A : Atoms 𝓤} {K : Type 
       asks-table t fm (SetPlace 𝓤 H A mem′ run) known κ q b o γ ps ys bt ot room
       (λ ν δ. (((ν ∷ [], (κ, tt)), (fullShare, (q, tt)), tt, (at-list bt ot δ ys, (group, (attr, (at-list b o γ ps, tt)))), (sliceVal (bt, ot) (length ys) ∷ [], (vint w32 group ∷ [], (vint w64 attr ∷ [], (payload κ b o γ ps ∷ [], tt))))), tt))
       (with-two 𝓤 H A mem′ run W κ q b o γ ps true group attr group-fits attr-fits) (two-grow 𝓤 H A mem′ run W κ q b o γ ps true group attr group-fits attr-fits) An.the-row {Y = Unit {0} × (Unit {0} × (Unit {0} × Unit {0}))} (λ w. fsep ftrue (fsep ftrue (fsep ftrue ftrue))) (λ z zs. PlaceSet group attr ys zs ps z)
-      (λ ν δ. qed W ((‵ (flft (ν ∷ []) fullShare) ⊛ ‵ (flft κ q) ⊛ ‵ ftrue) ∷ ‵ (fsep (Lent P.the-row ys bt ot (ν ∷ []) δ) (with-two 𝓤 H A mem′ run W κ q b o γ ps true group attr group-fits attr-fits (fsep (Payload κ b o γ ps) ftrue))) ∷ []) ∵ says ! on $ done !)
-      (λ ν δ v. id⊢ 𝓤 _) (λ ν δ. os) k
+      (λ ν δ. asks-that 𝓤 H A W _ on) (λ ν δ v. id⊢ 𝓤 _) (λ ν δ. os) k
 
   pub sets-modes : K → (mem′ : Memory → SProp 𝓤) (run : Routine → Fun 𝓤) → FmC 𝓤 H (W .laws) C → Triple 𝓤 (C #set-modes) (SetModes 𝓤 H A mem′ run) → (κ : Lft) (q : Share) (b o : ℕ) (γ : GName) (ps : List ℕ) (h : Device) (bd od : ℕ)
       → Is D.the-row h (D.Laws.lowered h ∷ []) → (ais : Bool) (group attr : ℕ) → group < 2 ^ 32 → attr < 2 ^ 64 → (group ≡ 2 → ⊥) × (group ≡ 3 → ⊥) × (group ≡ 8 → ⊥) × (group ≡ 10 → ⊥) × (onPlace group ≡ false)
@@ -95,8 +97,7 @@ module _ {M : Type 1} {𝓤 : URA M} {H : Heap 𝓤} {A : Atoms 𝓤} {K : Type 
       asks-record t fm (SetModes 𝓤 H A mem′ run) known κ q b o γ ps h bd od gh
       (λ ν δ. (((ν ∷ [], (κ, tt)), (fullShare, (q, tt)), tt, (record { ptr = (bd, od); name = δ; now = h }, (ais, (group, (attr, (at-list b o γ ps, tt))))), (vptr bd od ∷ [], (vbool ais ∷ [], (vint w32 group ∷ [], (vint w64 attr ∷ [], (payload κ b o γ ps ∷ [], tt)))))), tt))
       (with-three 𝓤 H A mem′ run W κ q b o γ ps ais group attr group-fits attr-fits) (three-grow 𝓤 H A mem′ run W κ q b o γ ps ais group attr group-fits attr-fits) An.the-row {Y = Unit {0} × (Unit {0} × (Unit {0} × (Unit {0} × Unit {0})))} (λ w. fsep ftrue (fsep ftrue (fsep ftrue (fsep ftrue ftrue)))) (λ z y. ModesSet ais group attr h y ps z)
-      (λ ν δ. qed W ((‵ (flft (ν ∷ []) fullShare) ⊛ ‵ (flft κ q) ⊛ ‵ ftrue) ∷ ‵ (fsep (LentCell D.the-row h bd od (ν ∷ []) δ) (with-three 𝓤 H A mem′ run W κ q b o γ ps ais group attr group-fits attr-fits (fsep (Payload κ b o γ ps) ftrue))) ∷ []) ∵ says ! other $ done !)
-      (λ ν δ v. id⊢ 𝓤 _) (λ ν δ. os) k
+      (λ ν δ. asks-that 𝓤 H A W _ other) (λ ν δ v. id⊢ 𝓤 _) (λ ν δ. os) k
 
   -- the reference to the device record is given away
   pub reads-passed : K → (mem′ : Memory → SProp 𝓤) (run : Routine → Fun 𝓤) → FmC 𝓤 H (W .laws) C → Triple 𝓤 (C #read-device) (ReadDevice 𝓤 H A mem′ run) → (κ : Lft) (q : Share) (b o : ℕ) (γ : GName) (m : Device)

@@ -37,6 +37,9 @@ module _ {L : Limits} {ais : Bool} {f h : Host} {cs : List Call} {xs : List Seen
   ran-limits : limitsOf (h .ctl) ≡ L
   ran-limits = follows (fresh-good made) ran .limits ∙ fresh-limits made
 
+  ran-places : length (h .tab) ≡ L .places
+  ran-places = own-length h ran-good ∙ ap (λ (l : Limits). l .places) ran-limits
+
   ran-state : hostState h ≡ after L (fresh L ais) cs
   ran-state = follows (fresh-good made) ran .state ∙ (λ i. after (fresh-limits made i) (fresh-state made i) cs)
 
@@ -57,39 +60,28 @@ module _ (m : Moved) where
   limits₂ : limitsOf (m .before .ctl) ≡ L
   limits₂ = ran-limits (m .fresh₂) (m .ran₂)
 
-  can-be-played : Movable L
-  can-be-played = subst Movable limits₁ (limits-sized (m .first .ctl) .list)
-
   pub good₁ : Good (m .first)
   good₁ = ran-good (m .fresh₁) (m .ran₁)
 
   good₂ : Good (m .before)
   good₂ = ran-good (m .fresh₂) (m .ran₂)
 
-  own₁ : length (m .first .tab) ≡ L .places
-  own₁ = own-length (m .first) good₁ ∙ ap (λ (l : Limits). l .places) limits₁
-
-  own₂ : length (m .before .tab) ≡ L .places
-  own₂ = own-length (m .before) good₂ ∙ ap (λ (l : Limits). l .places) limits₂
-
   first-is : hostState (m .first) ≡ machine L (m .ais) (m .calls₁)
   first-is = ran-state (m .fresh₁) (m .ran₁)
 
   moves : Move L (m .ais) (m .calls₁) (m .buffer) (hostState (m .before))
-  moves = move L can-be-played (m .ais) (m .calls₁) (m .buffer) (hostState (m .before)) (m .long) (ran-ais (m .fresh₂) (m .ran₂))
+  moves = move L (subst Movable limits₁ (limits-sized (m .first .ctl) .list)) (m .ais) (m .calls₁) (m .buffer) (hostState (m .before)) (m .long) (ran-ais (m .fresh₂) (m .ran₂))
 
   -- the writing, as the machine's step
   abbrev told : Told State
   told = step L (machine L (m .ais) (m .calls₁)) (asked writeList (m .buffer) (L .places))
 
   write-step : Stepped (m .first) (asked writeList (m .buffer) (length (m .first .tab))) (m .wrote) (m .first)
-  write-step =
-      requested (m .first) good₁ writeList tt (m .buffer) (m .first .ctl) (m .first .dev) (m .first .tab) (m .first .tab) (m .wrote) (m .writes)
-      (m .first .tab) (its-own refl)
+  write-step = requested (m .first) good₁ writeList tt (m .buffer) (m .first .ctl) (m .first .dev) (m .first .tab) (m .first .tab) (m .wrote) (m .writes) (m .first .tab) (its-own refl)
 
   wrote-is : told ≡ answering (m .wrote) (hostState (m .first))
   wrote-is =
-      (λ i. step ((sym limits₁) i) ((sym first-is) i) (asked writeList (m .buffer) ((sym own₁) i)))
+      (λ i. step ((sym limits₁) i) ((sym first-is) i) (asked writeList (m .buffer) ((sym (ran-places (m .fresh₁) (m .ran₁))) i)))
       ∙ write-step .steps
 
   list-is : take (told .count) (told .buffer) ≡ listOf m
@@ -97,9 +89,7 @@ module _ (m : Moved) where
 
   -- the playing, as the machine's step
   play-step : Stepped (m .before) (asked playList (listOf m) (length (m .before .tab))) (m .played) (m .second)
-  play-step =
-      requested (m .before) good₂ playList tt (listOf m) (m .second .ctl) (m .second .dev) (m .before .tab) (m .second .tab) (m .played) (m .plays)
-      (m .second .tab) (its-own refl)
+  play-step = requested (m .before) good₂ playList tt (listOf m) (m .second .ctl) (m .second .dev) (m .before .tab) (m .second .tab) (m .played) (m .plays) (m .second .tab) (its-own refl)
 
   pub good-second : Good (m .second)
   good-second = play-step .good
@@ -107,7 +97,7 @@ module _ (m : Moved) where
   played-is : step L (hostState (m .before)) (asked playList (take (told .count) (told .buffer)) (L .places))
       ≡ answering (m .played) (hostState (m .second))
   played-is =
-      (λ i. step ((sym limits₂) i) (hostState (m .before)) (asked playList (list-is i) ((sym own₂) i)))
+      (λ i. step ((sym limits₂) i) (hostState (m .before)) (asked playList (list-is i) ((sym (ran-places (m .fresh₂) (m .ran₂))) i)))
       ∙ play-step .steps
 
   then-is : machine L (m .ais) (callsOf m) ≡ machine L (m .ais) (m .calls₁)

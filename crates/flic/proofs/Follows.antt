@@ -6,7 +6,7 @@ use Rattle.adapters.specs.{declared.Device.Device, declared.Place.Place, Values
 use Rattle.calls.specs.{declared.Controller.Controller, Limits.limitsOf}
 use Rattle.flic.specs.Surface.{stateOf, Valid, Requested, Taken}
 use Rattle.flic.specs.Chain.{Host, Lends, its-own, another, asked, Leaves, Ran, end, asks, take}
-use Rattle.flic.proofs.Promises.{next-sound, Tabled, refused-table}
+use Rattle.flic.proofs.Promises.{next-valid, Tabled, refused-table}
 
 abbrev pub hostState : Host → State
 hostState h = stateOf (h .ctl) (h .dev) (h .tab)
@@ -64,16 +64,8 @@ module _ (h : Host) (g : Good h) where
       → Stepped h (asked (guestTake subclasses external mcheck) b n) x (record { ctl = c′; dev = h .dev; tab = h .tab })
   unfolding step outcome
   taken subclasses external mcheck b c′ n x f =
-      record {
-        steps = f .steps (h .dev) (h .tab);
-        good =
-            record {
-              ready = f .ready;
-              places = g .places;
-              sound = next-sound (guestTake subclasses external mcheck) (h .ctl) c′ (h .dev) (h .dev) (h .tab) (h .tab) b x (f .limits) g (f .steps (h .dev) (h .tab));
-            };
-        limits = f .limits;
-      }
+      let s = f .steps (h .dev) (h .tab) in
+      record { steps = s; good = next-valid (guestTake subclasses external mcheck) b x g s (f .ready) (g .places); limits = f .limits }
 
 -- ---- every list of calls
 pub record Follows (h : Host) (cs : List Call) (xs : List Seen) (e : Host) : Type 0 where

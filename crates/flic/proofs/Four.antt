@@ -72,7 +72,7 @@ rest-of mutably y = y .1
 rest-of (shared s) y = y .1
 rest-of (apart s) y = y
 
-abbrev said-of : (way : Way) {Y : Type 0} → Width → ℕ → GName → (Y → Fml) → Left-of way Y → Fml
+abbrev pub said-of : (way : Way) {Y : Type 0} → Width → ℕ → GName → (Y → Fml) → Left-of way Y → Fml
 said-of mutably w m δ L y = fsep (fres δ (Ints w m .coded .code (y .0))) (L (y .1))
 said-of (shared s) w m δ L y = fsep ftrue (L (y .1))
 said-of (apart s) w m δ L y = L y
@@ -127,7 +127,7 @@ pub record Loan : Type 0 where
 module _ (ways : Ways) where
   module _ {M : Type 1} {𝓤 : URA M} where
     -- the tokens of a loan, and then T
-    abbrev pub Toks : Loan → Item 𝓤 → Item 𝓤
+    abbrev Toks : Loan → Item 𝓤 → Item 𝓤
     Toks n T = tok (ways .slots) (n .ν₀) (tok (ways .order) (n .ν₁) (tok (ways .counts) (n .ν₂) (tok (ways .singles) (n .ν₃) T)))
 
     -- what the lender keeps
@@ -141,7 +141,7 @@ module _ (ways : Ways) where
         ∷ ‵ (cellAt (share-of (ways .counts)) (Ints w64 11 .mir) (ints w64 (c .counts) ∷ []) b (o + 20992)) ∷ ‵ (cellAt (share-of (ways .singles)) (Ints w8 146 .mir) (ints w8 (c .singles) ∷ []) b (o + 21080)) ∷ Γ
 
   -- the references of a loan, and then O
-  abbrev pub Lent : Loan → Controller → ℕ → ℕ → Fml → Fml
+  abbrev Lent : Loan → Controller → ℕ → ℕ → Fml → Fml
   Lent n c b o O = lent (ways .slots) w8 18432 (c .slots) b (o + 0) (n .ν₀) (n .δ₀) (lent (ways .order) w8 2560 (c .order) b (o + 18432) (n .ν₁) (n .δ₁)
       (lent (ways .counts) w64 11 (c .counts) b (o + 20992) (n .ν₂) (n .δ₂) (lent (ways .singles) w8 146 (c .singles) b (o + 21080) (n .ν₃) (n .δ₃) O)))
 
@@ -212,10 +212,10 @@ module _ (ways : Ways) where
 
   module _ {M : Type 1} {𝓤 : URA M} {H : Heap 𝓤} {A : Atoms 𝓤} {K : Type 0} {W : Given 𝓤 H A} {Γ : List (Item 𝓤)} {E : Env 𝓤 H} {C : Calls 𝓤 H} {Λ : Loops 𝓤 H} {p : types.Kit.Post 𝓤 H} {d : Where} {rest : Code} {f : Name} {xs : List Operand} where
     pub calls-four : K → FmC 𝓤 H (W .laws) C → (F : Contract 𝓤) → Triple 𝓤 (C f) F → (x : Loan → F .Ghost) (c : Controller) → Has c → (b o : ℕ)
-        → (R : RattleType) (T : Item 𝓤) (O : Fml) {Y : Type 0} (L : Y → Fml) (Φ : R .Denot → Left Y → Type 0)
+        → (R : RattleType) {T : Item 𝓤} {O : Fml} {Y : Type 0} (L : Y → Fml) (Φ : R .Denot → Left Y → Type 0)
         → ((n : Loan) → ent 𝓤 (⋆ 𝓤 H A (Toks n T ∷ ‵ (Lent n c b o O) ∷ [])) (F .pre (x n))) → ((n : Loan) (v : Val) → ent 𝓤 (F .post (x n) v) (mean 𝓤 H A (Told R (Toks n T) (Last Y n L) Φ v)))
         → ((n : Loan) (i : Item 𝓤) → Opds K W (i ∷ Lenders c b o n Γ) E xs (F .args (x n)))
         → ((z : R .Denot) (v : Val) (y : Left Y) → Φ z y → Has (left-by Y c y) → Is R z (v ∷ []) → Seq K W (Cells-of (left-by Y c y) b o (T ∷ ‵ (L (others Y y)) ∷ Γ)) (lands C Λ E d v rest p))
         → Seq K W (Cells-of c b o (T ∷ ‵ O ∷ Γ)) (runs C Λ E (seq (call f xs d) rest) p)
-    calls-four t fm F met x c g b o R T O {Y} L Φ goes told os k =
+    calls-four t fm F met x c g b o R {T} {O} {Y} L Φ goes told os k =
         lends-four b o t tt c g (λ n. calls-told t fm F met (x n) R (Toks n T) (Lent n c b o O) (Last Y n L) Φ (goes n) (told n) (os n) (λ z v y φ is. four-back b o t tt c g n L y (λ g′. k z v y φ g′ is)))

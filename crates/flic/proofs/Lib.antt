@@ -12,3 +12,4 @@ pub mod Opened
 pub mod Four
 pub mod All
 pub mod Calls
+pub mod Frame

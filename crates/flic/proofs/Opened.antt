@@ -37,8 +37,7 @@ module _ {M : Type 1} {𝓤 : URA M} where
   abbrev pub Arrays : Share → Controller → ℕ → ℕ → List (Item 𝓤) → List (Item 𝓤)
   Arrays q c b o Γ =
       ‵ (cellAt q (Ints w8 18432 .mir) (ints w8 (c .slots) ∷ []) b (o + 0))
-      ∷ ‵ (cellAt q (Ints w8 2560 .mir) (ints w8 (c .order) ∷ []) b (o + 18432))
-      ∷ ‵ (cellAt q (Ints w64 11 .mir) (ints w64 (c .counts) ∷ []) b (o + 20992))
+      ∷ ‵ (cellAt q (Ints w8 2560 .mir) (ints w8 (c .order) ∷ []) b (o + 18432)) ∷ ‵ (cellAt q (Ints w64 11 .mir) (ints w64 (c .counts) ∷ []) b (o + 20992))
       ∷ ‵ (cellAt q (Ints w8 146 .mir) (ints w8 (c .singles) ∷ []) b (o + 21080)) ∷ Γ
 
   -- and of the capability, and the way back to the struct
@@ -64,8 +63,7 @@ module _ {M : Type 1} {𝓤 : URA M} {H : Heap 𝓤} {A : Atoms 𝓤} {K : Type 
       use1 W (raw (fieldsAt 𝓤 H q τs 0 b o (fields c))) (id⊢ 𝓤 _) $ fields-in t q τs b o (fields c) $ k)
 
 module _ {M : Type 1} {𝓤 : URA M} {H : Heap 𝓤} {A : Atoms 𝓤} {K : Type 0} {W : Given 𝓤 H A} {Γ : List (Item 𝓤)} {G : Goal 𝓤 H} where
-  pub opens-ctl : K → Soaks G → (h : Controller) {κ : Lft} {q : Share} {γ : GName} (b o : ℕ)
-      → (Has h → Seq K W (OpenAt H κ q γ h h b o Γ) G)
+  pub opens-ctl : K → Soaks G → (h : Controller) {κ : Lft} {q : Share} {γ : GName} (b o : ℕ) → (Has h → Seq K W (OpenAt H κ q γ h h b o Γ) G)
       → Seq K W (‵ (fobs γ (C.the-row .coded .code h)) ∷ ‵ (fbor κ (Body (mem C.the-row) b o γ)) ∷ ‵ (flft κ q) ∷ Γ) G
   opens-ctl t z h b o k =
       opens t z C.the-row {h = h} b o (λ vs. spelt t C.the-row (Is C.the-row) (shows 𝓤 H A C.the-row) (λ c. C.Laws.lowered c ∷ []) (C.Laws.lowers .val-is) fullShare h vs b o $
@@ -76,8 +74,7 @@ module _ {M : Type 1} {𝓤 : URA M} {H : Heap 𝓤} {A : Atoms 𝓤} {K : Type 
   closes-ctl t z h c g b o = step (λ k. cells-in {W = W} t fullShare c b o $
       owned t C.the-row (Is C.the-row) (LL.makes C.the-type C.Laws.the-plain 𝓤 H A) c _ (has-back c g) $ move t (1 ∷ 0 ∷ []) $ closes t z C.the-row c (C.Laws.lowered c ∷ []) b o $ k)
 
-  pub looks-ctl : K → Soaks G → (h : Controller) {κ : Lft} {q : Share} (b o : ℕ)
-      → ((s : Share) → Has h → Seq K W (Cells H s h b o (‵ (fobor κ q (partAt C.the-row s h b o)) ∷ Γ)) G)
+  pub looks-ctl : K → Soaks G → (h : Controller) {κ : Lft} {q : Share} (b o : ℕ) → ((s : Share) → Has h → Seq K W (Cells H s h b o (‵ (fobor κ q (partAt C.the-row s h b o)) ∷ Γ)) G)
       → Seq K W (‵ (fshr-bor κ (λ s. partAt C.the-row s h b o)) ∷ ‵ (flft κ q) ∷ Γ) G
   looks-ctl t z h b o k =
       looks t z C.the-row (Is C.the-row) (shows 𝓤 H A C.the-row) (λ c. C.Laws.lowered c ∷ []) (C.Laws.lowers .val-is) (LL.copy C.the-type C.Laws.the-copy 𝓤 H A W) h b o (λ s vs.

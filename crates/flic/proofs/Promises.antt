@@ -19,24 +19,27 @@ use Rattle.calls.specs.{declared.Controller.Controller, Limits.limitsOf, Inner.
 use Rattle.list_play.specs.{declared.Played.Played, Play.PlayedTo}
 use Rattle.calls.proofs.Sized.{paper-sized}
 use Rattle.calls.proofs.Limits.{limits-sized, limits-made, limits-kept}
-use Rattle.flic.specs.Surface.{stateOf, Valid, Steps, Made, Requested, Taken}
+use Rattle.flic.specs.Surface.{stateOf, Ready, Valid, Steps, Made, Requested, Taken}
 use Rattle.store_queues.specs.Queues.{total, Held}
 use Rattle.store.specs.Memory.{pendingOf}
 
--- a state that a step leads to is sound
-pub next-sound : (ask : Ask) (c c′ : Controller) (d d′ : Device) (t t′ : List Place) (b : List ℕ) (x : Seen) → limitsOf c′ ≡ limitsOf c
-    → Valid c d t → Steps ask c c′ d d′ t t′ b x → Sound (limitsOf c′) (stateOf c′ d′ t′)
-next-sound ask c c′ d d′ t t′ b x l h e =
-    subst (λ (L : Limits). Sound L (stateOf c′ d′ t′)) (sym l)
-    (subst (Sound (limitsOf c)) (ap (λ (a : Told State). a .next) e) (kept-step (limitsOf c) (stateOf c d t) (h .sound) _ .sound))
-
 -- a refusal that changes nothing has a code that is not 0
-pub refused-code : (ask : Ask) (c c′ : Controller) (d d′ : Device) (t t′ : List Place) (b : List ℕ) (x : Seen) → Steps ask c c′ d d′ t t′ b x
+refused-code : (ask : Ask) (c c′ : Controller) (d d′ : Device) (t t′ : List Place) (b : List ℕ) (x : Seen) → Steps ask c c′ d d′ t t′ b x
     → (code count : ℕ) → outcome (limitsOf c) (stateOf c d t) ask (length t) b ≡ refuseWith code count → x .code ≡ 0 → ⊥
 unfolding step result
 refused-code ask c c′ d d′ t t′ b x f code count o z =
     let k = subst (Known (stateOf c d t .ais) (Plays ask)) o (known-outcome (limitsOf c) (stateOf c d t) ask (length t) b) in
     never-zero code (k .0) (sym (ap (λ (u : Outcome State). answerOf (limitsOf c) (stateOf c d t) b u .code) o) ∙ ap (λ (a : Told State). a .code) f ∙ z)
+
+-- the promise of a request, from its step and from what it keeps where its code is not 0
+module _ (ask : Ask) {c c′ : Controller} {d d′ : Device} {t t′ : List Place} (b : List ℕ) (x : Seen) (h : Valid c d t) (s : Steps ask c c′ d d′ t t′ b x) (ready : Ready c′) (places : All Canonical t′) where
+  pub next-valid : Valid c′ d′ t′
+  next-valid =
+      let next-sound = subst (Sound (limitsOf c)) (ap (λ (a : Told State). a .next) s) (kept-step (limitsOf c) (stateOf c d t) (h .sound) _ .sound) in
+      record { ready = ready; places = places; sound = subst (λ (L : Limits). Sound L (stateOf c′ d′ t′)) (sym (limits-kept c c′)) next-sound }
+
+  promises : ((x .code ≡ 0 → ⊥) → (c′ ≡ c) × (d′ ≡ d) × (t′ ≡ t) × (x .buffer ≡ b)) → Requested ask c c′ d d′ t t′ b x
+  promises kept = record { steps = s; kept = λ code count o. kept (refused-code ask c c′ d d′ t t′ b x s code count o); valid = λ _. next-valid; limits = limits-kept c c′ }
 
 -- a table that is checked first: its length is right, or not
 module _ (L : Limits) (n : ℕ) (code : ℕ) (o : Outcome State) where
@@ -72,13 +75,10 @@ refused-table L s playList n b t w = wrong-table L n 14 _ w
 
 -- ---- a wrong table: 14, and everything stays
 module _ (c : Controller) (d : Device) (t : List Place) (b : List ℕ) (w : length t ≡ limitsOf c .places → ⊥) where
-  wrong-steps : (ask : Ask) → Tabled ask → Steps ask c c d d t t b (saw (answered 14 0) b)
-  unfolding step result
-  wrong-steps ask tabled = ap (answerOf (limitsOf c) (stateOf c d t) b) (refused-table (limitsOf c) (stateOf c d t) ask (length t) b tabled w)
-
   pub wrong-promises : (ask : Ask) → Tabled ask → Requested ask c c d d t t b (saw (answered 14 0) b)
+  unfolding step result
   wrong-promises ask tabled =
-      record { steps = wrong-steps ask tabled; kept = λ code count o. (refl, refl, refl, refl); valid = λ e. absurd (w e); limits = refl }
+      record { steps = ap (answerOf (limitsOf c) (stateOf c d t) b) (refused-table (limitsOf c) (stateOf c d t) ask (length t) b tabled w); kept = λ code count o. (refl, refl, refl, refl); valid = λ e. absurd (w e); limits = refl }
 
 pub wrong-makes : (L : Limits) (ais : Bool) (c : Controller) (d : Device) (t : List Place) → (length t ≡ L .places → ⊥) → Made L ais c c d d t t (answered 14 0)
 wrong-makes L ais c d t w = record { right = λ e. absurd (w e); wrong = λ _. (refl, refl, refl, refl) }
@@ -88,14 +88,11 @@ wrong-makes L ais c d t w = record { right = λ e. absurd (w e); wrong = λ _. (
 same-arrays : (c : Controller) {slots order counts singles : List ℕ} → slots ≡ c .slots → order ≡ c .order → counts ≡ c .counts → singles ≡ c .singles → controller slots order counts singles (c .ais) ≡ c
 same-arrays c e₀ e₁ e₂ e₃ = λ i. controller (e₀ i) (e₁ i) (e₂ i) (e₃ i) (c .ais)
 
--- The outcome q of a call that changes pending records alone.
-pub record Recorded (q : State → Outcome State) (c c′ : Controller) (b b′ : List ℕ) (r : Answer) : Type 0 where
-  pub answer : (s : State) → s .pending ≡ pendingIn c → Answers (limitsOf c) s b (q s) r (withPending (pendingIn c′) s) b′
-  pub kept : (r .code ≡ 0 → ⊥) → (c′ ≡ c) × (b′ ≡ b)
+-- a set request that changes pending records alone
+pub record SetRecords (group attr : ℕ) (c c′ : Controller) (b : List ℕ) (r : Answer) : Type 0 where
+  pub answer : (s : State) → s .pending ≡ pendingIn c → Answers (limitsOf c) s b (request (limitsOf c) s (setRequest group) attr b) r (withPending (pendingIn c′) s) b
+  pub kept : (r .code ≡ 0 → ⊥) → c′ ≡ c
   pub held : Held (c′ .order) (c′ .counts)
-
-abbrev pub SetRecords : (group attr : ℕ) (c c′ : Controller) (b : List ℕ) (r : Answer) → Type 0
-SetRecords group attr c c′ b r = Recorded (λ s. request (limitsOf c) s (setRequest group) attr b) c c′ b b r
 
 module _ (c : Controller) (slots order counts singles : List ℕ) (attr : ℕ) (b : List ℕ) (r : Answer) where
   abbrev pub Enqueued : Type 0
@@ -103,29 +100,26 @@ module _ (c : Controller) (slots order counts singles : List ℕ) (attr : ℕ) (
       × (Held order counts × ((r .code ≡ 0 → ⊥) → (slots ≡ c .slots) × (order ≡ c .order) × (counts ≡ c .counts) × (singles ≡ c .singles)))
 
   pub enqueued : Enqueued → SetRecords 2 attr c (controller slots order counts singles (c .ais)) b r
-  enqueued f = record { answer = λ s p. f .0 _ s (limits-sized c .room) p; kept = λ n. let k = f .1 .1 n in (same-arrays c (k .0) (k .1) (k .2) (k .3), refl); held = f .1 .0 }
+  enqueued f = record { answer = λ s p. f .0 _ s (limits-sized c .room) p; kept = λ n. let k = f .1 .1 n in same-arrays c (k .0) (k .1) (k .2) (k .3); held = f .1 .0 }
 
   abbrev pub Cleared : Type 0
   Cleared = ((L : Limits) (s : State) (slots b : List ℕ) → s .pending ≡ pendingOf (c .order) (c .counts) slots (c .singles) → Answers L s b (request L s clearIrqs attr b) r (withPending (pendingOf order counts slots singles) s) b)
       × (Held order counts × ((r .code ≡ 0 → ⊥) → (order ≡ c .order) × (counts ≡ c .counts) × (singles ≡ c .singles)))
 
   pub cleared : Cleared → SetRecords 3 attr c (controller (c .slots) order counts singles (c .ais)) b r
-  cleared f = record { answer = λ s p. f .0 _ s _ _ p; kept = λ n. let k = f .1 .1 n in (same-arrays c refl (k .0) (k .1) (k .2), refl); held = f .1 .0 }
+  cleared f = record { answer = λ s p. f .0 _ s _ _ p; kept = λ n. let k = f .1 .1 n in same-arrays c refl (k .0) (k .1) (k .2); held = f .1 .0 }
 
   abbrev pub ClearedIo : Type 0
   ClearedIo = ((L : Limits) (s : State) (singles : List ℕ) → s .pending ≡ pendingOf (c .order) (c .counts) (c .slots) singles → Answers L s b (request L s clearIoIrq attr b) r (withPending (pendingOf order counts (c .slots) singles) s) b)
       × (Held order counts × ((r .code ≡ 0 → ⊥) → (order ≡ c .order) × (counts ≡ c .counts)))
 
   pub cleared-io : ClearedIo → SetRecords 8 attr c (controller (c .slots) order counts (c .singles) (c .ais)) b r
-  cleared-io f = record { answer = λ s p. f .0 _ s _ p; kept = λ n. let k = f .1 .1 n in (same-arrays c refl (k .0) (k .1) refl, refl); held = f .1 .0 }
+  cleared-io f = record { answer = λ s p. f .0 _ s _ p; kept = λ n. let k = f .1 .1 n in same-arrays c refl (k .0) (k .1) refl; held = f .1 .0 }
 
 module _ (subclasses : ℕ) (external mcheck : Bool) (c : Controller) (order counts singles : List ℕ) (b b′ : List ℕ) (r : Answer) where
   abbrev pub TakenOf : Type 0
   TakenOf = ((L : Limits) (s : State) → s .pending ≡ pendingIn c → Answers L s b (takes s subclasses external mcheck b) r (withPending (pendingOf order counts (c .slots) singles) s) b′)
       × (Held order counts × ((r .code ≡ 0 → ⊥) → (order ≡ c .order) × (counts ≡ c .counts) × (singles ≡ c .singles) × (b′ ≡ b)))
-
-  abbrev taken-of : TakenOf → Recorded (λ s. takes s subclasses external mcheck b) c (controller (c .slots) order counts singles (c .ais)) b b′ r
-  taken-of f = record { answer = λ s p. f .0 _ s p; kept = λ n. let k = f .1 .1 n in (same-arrays c refl (k .0) (k .1) (k .2), k .3); held = f .1 .0 }
 
 -- a set request of one group number is one of an equal number
 pub of-group : (c c′ : Controller) (attr : ℕ) (b : List ℕ) (r : Answer) (k g : ℕ) → g ≡ k → SetRecords k attr c c′ b r → SetRecords g attr c c′ b r
@@ -147,13 +141,7 @@ module _ (group attr : ℕ) (c c′ : Controller) (d : Device) (t : List Place) 
       ∙ (λ i. tell (r .code) (r .count) (record { ais = (sym a) i; adapters = map placeOf t; pending = pendingIn c′; device = deviceOf d }) b))
 
   pub record-promises : c′ .ais ≡ c .ais → SetRecords group attr c c′ b r → Requested (setAttr group attr) c c′ d d t t b (saw r b)
-  record-promises a f =
-      record {
-        steps = record-steps a f;
-        kept = λ code count o. (f .kept (refused-code (setAttr group attr) c c′ d d t t b (saw r b) (record-steps a f) code count o) .0, refl, refl, refl);
-        valid = λ _. record { ready = f .held; places = h .places; sound = next-sound (setAttr group attr) c c′ d d t t b (saw r b) (limits-kept c c′) h (record-steps a f) };
-        limits = limits-kept c c′;
-      }
+  record-promises a f = promises (setAttr group attr) b (saw r b) h (record-steps a f) (f .held) (h .places) (λ n. (f .kept n, refl, refl, refl))
 
 -- what `answer_inject` promises of the arrays that it is lent
 abbrev pub InjectedTo : (attr : ℕ) (c : Controller) (slots order counts : List ℕ) → Device → Place → Answer → Type 0
@@ -173,13 +161,7 @@ module _ (attr : ℕ) (c : Controller) (slots order counts : List ℕ) (d : Devi
   inject-steps = as-step 10 attr c injected d t b r e h noted t (f .0 .answer (limitsOf c) (stateOf c d t) (c .singles) b (limits-sized c .places) (limits-sized c .room) refl refl refl (List·getD-map placeOf t attr unused))
 
   pub inject-promises : Requested (setAttr 10 attr) c injected d noted t t b (saw r b)
-  inject-promises =
-      record {
-        steps = inject-steps;
-        kept = λ code count o. let n = refused-code (setAttr 10 attr) c injected d noted t t b (saw r b) inject-steps code count o in let k = f .1 .1 n in (same-arrays c (k .0) (k .1) (k .2) refl, f .0 .unnoted n, refl, refl);
-        valid = λ _. record { ready = f .1 .0; places = h .places; sound = next-sound (setAttr 10 attr) c injected d noted t t b (saw r b) (limits-kept c injected) h inject-steps };
-        limits = limits-kept c injected;
-      }
+  inject-promises = promises (setAttr 10 attr) b (saw r b) h inject-steps (f .1 .0) (h .places) (λ n. let k = f .1 .1 n in (same-arrays c (k .0) (k .1) (k .2) refl, f .0 .unnoted n, refl, refl))
 
 -- about an adapter's place, and about the device record: nothing else changes
 module _ (group attr : ℕ) (c : Controller) (d : Device) (t : List Place) (b : List ℕ) (r : Answer) (e : length t ≡ limitsOf c .places) (h : Valid c d t) where
@@ -188,26 +170,14 @@ module _ (group attr : ℕ) (c : Controller) (d : Device) (t : List Place) (b : 
   place-steps t′ f = as-step group attr c c d t b r e h d t′ (f .answer (limitsOf c) (stateOf c d t) (limits-sized c .places) refl)
 
   pub place-promises : (t′ : List Place) → PlaceSet group attr t t′ b r → Requested (setAttr group attr) c c d d t t′ b (saw r b)
-  place-promises t′ f =
-      record {
-        steps = place-steps t′ f;
-        kept = λ code count o. (refl, refl, f .kept (refused-code (setAttr group attr) c c d d t t′ b (saw r b) (place-steps t′ f) code count o), refl);
-        valid = λ _. record { ready = h .ready; places = f .canonical (h .places); sound = next-sound (setAttr group attr) c c d d t t′ b (saw r b) (limits-kept c c) h (place-steps t′ f) };
-        limits = refl;
-      }
+  place-promises t′ f = promises (setAttr group attr) b (saw r b) h (place-steps t′ f) (h .ready) (f .canonical (h .places)) (λ n. (refl, refl, f .kept n, refl))
 
   modes-steps : (d′ : Device) → ModesSet (c .ais) group attr d d′ b r → Steps (setAttr group attr) c c d d′ t t b (saw r b)
   unfolding stateOf
   modes-steps d′ f = as-step group attr c c d t b r e h d′ t (f .answer (limitsOf c) (stateOf c d t) refl refl)
 
   pub modes-promises : (d′ : Device) → ModesSet (c .ais) group attr d d′ b r → Requested (setAttr group attr) c c d d′ t t b (saw r b)
-  modes-promises d′ f =
-      record {
-        steps = modes-steps d′ f;
-        kept = λ code count o. (refl, f .kept (refused-code (setAttr group attr) c c d d′ t t b (saw r b) (modes-steps d′ f) code count o), refl, refl);
-        valid = λ _. record { ready = h .ready; places = h .places; sound = next-sound (setAttr group attr) c c d d′ t t b (saw r b) (limits-kept c c) h (modes-steps d′ f) };
-        limits = refl;
-      }
+  modes-promises d′ f = promises (setAttr group attr) b (saw r b) h (modes-steps d′ f) (h .ready) (h .places) (λ n. (refl, f .kept n, refl, refl))
 
 -- ---- get requests, with the right table
 module _ (group attr : ℕ) (c : Controller) (d : Device) (t : List Place) (b b′ : List ℕ) (r : Answer) (e : length t ≡ limitsOf c .places) (h : Valid c d t) (f : Got group attr c d b b′ r) where
@@ -216,21 +186,14 @@ module _ (group attr : ℕ) (c : Controller) (d : Device) (t : List Place) (b b�
   get-steps = ap (answerOf (limitsOf c) (stateOf c d t) b) (right-table (limitsOf c) (length t) 14 _ e) ∙ f .answer (stateOf c d t) refl refl refl
 
   pub get-promises : Requested (getAttr group attr) c c d d t t b (saw r b′)
-  get-promises =
-      record {
-        steps = get-steps;
-        kept = λ code count o. (refl, refl, refl, f .kept (refused-code (getAttr group attr) c c d d t t b (saw r b′) get-steps code count o));
-        valid = λ _. h;
-        limits = refl;
-      }
+  get-promises = promises (getAttr group attr) b (saw r b′) h get-steps (h .ready) (h .places) (λ n. (refl, refl, refl, f .kept n))
 
 -- ---- a take: for every device record and every table
 pub take-promises : (subclasses : ℕ) (external mcheck : Bool) (c : Controller) (order counts singles : List ℕ) (b b′ : List ℕ) (r : Answer) → TakenOf subclasses external mcheck c order counts singles b b′ r
     → Taken subclasses external mcheck c (controller (c .slots) order counts singles (c .ais)) b (saw r b′)
 unfolding step outcome stateOf
 take-promises subclasses external mcheck c order counts singles b b′ r f =
-    let g = taken-of subclasses external mcheck c order counts singles b b′ r f in
-    record { steps = λ d t. g .answer (stateOf c d t) refl; kept = g .kept; ready = g .held; limits = limits-kept c _ }
+    record { steps = λ d t. f .0 _ (stateOf c d t) refl; kept = λ n. let k = f .1 .1 n in (same-arrays c refl (k .0) (k .1) (k .2), k .3); ready = f .1 .0; limits = limits-kept c _ }
 
 -- ---- a fresh controller, with the right table
 abbrev pub freshDevice : Device
@@ -289,13 +252,7 @@ module _ (c : Controller) (d : Device) (t : List Place) (b b′ : List ℕ) (r :
   write-steps = ap (answerOf (limitsOf c) (stateOf c d t) b) (right-table (limitsOf c) (length t) 14 _ e) ∙ f .answer _ (stateOf c d t) refl (imaged ∙ sym (places-all (snapTo t imageSize))) refl refl
 
   pub write-promises : Requested writeList c c d d t t b (saw r b′)
-  write-promises =
-      record {
-        steps = write-steps;
-        kept = λ code count o. (refl, refl, refl, f .kept (refused-code writeList c c d d t t b (saw r b′) write-steps code count o));
-        valid = λ _. h;
-        limits = refl;
-      }
+  write-promises = promises writeList b (saw r b′) h write-steps (h .ready) (h .places) (λ n. (refl, refl, refl, f .kept n))
 
 -- the state that a controller's arrays and the first places of an image stand for
 abbrev playedState : (places : ℕ) → Controller → List ℕ → Device → State
@@ -339,13 +296,7 @@ module _ (c : Controller) (slots order counts singles image : List ℕ) (d : Dev
     same-steps = told ∙ (λ i. tell (r .answer .code) (r .answer .count) ((passed _ (playedState (limitsOf c .places) c′ image (r .device)) (stateOf c d t) z ∙ (λ j. stateOf ((sym (same z)) j) d t)) i) b)
 
     pub same-promises : Requested playList c c′ d d t t b (saw (r .answer) b)
-    same-promises =
-        record {
-          steps = same-steps;
-          kept = λ code count o. (same z, refl, refl, refl);
-          valid = λ _. record { ready = f .1 .0; places = h .places; sound = next-sound playList c c′ d d t t b (saw (r .answer) b) (limits-kept c c′) h same-steps };
-          limits = limits-kept c c′;
-        }
+    same-promises = promises playList b (saw (r .answer) b) h same-steps (f .1 .0) (h .places) (λ _. (same z, refl, refl, refl))
 
   -- made fresh: the image has all places, since the next state is sound
   module _ (n : r .fresh ≡ true) where
@@ -371,19 +322,13 @@ module _ (c : Controller) (slots order counts singles image : List ℕ) (d : Dev
 
     play-steps : Steps playList c c′ d (r .device) t after b (saw (r .answer) b)
     unfolding stateOf
-    play-steps =
-        told
-        ∙ (λ i. tell (r .answer .code) (r .answer .count) ((next-played ∙ ap (λ (l : List Place). stateOf c′ (r .device) l) (sym after-is)) i) b)
+    play-steps = told ∙ (λ i. tell (r .answer .code) (r .answer .count) ((next-played ∙ ap (λ (l : List Place). stateOf c′ (r .device) l) (sym after-is)) i) b)
 
     pub play-promises : Requested playList c c′ d (r .device) t after b (saw (r .answer) b)
     play-promises =
         record {
           steps = play-steps;
           kept = λ code count o. absurd (true≢false (sym n ∙ form code count o));
-          valid = λ _. record {
-            ready = f .1 .0;
-            places = subst (All Canonical) (sym after-is) canonical;
-            sound = next-sound playList c c′ d (r .device) t after b (saw (r .answer) b) (limits-kept c c′) h play-steps;
-          };
+          valid = λ _. next-valid playList b (saw (r .answer) b) h play-steps (f .1 .0) (subst (All Canonical) (sym after-is) canonical);
           limits = limits-kept c c′;
         }

@@ -21,8 +21,7 @@ use Rattle.flic.specs.{Surface.stateOf, Surface.Ready, Surface.Valid, Ch
 -- ---- places
 placeFor : rules.Place → Place
 placeFor free = unused
-placeFor (holds x) =
-    record { used = true; isc = record { 0 = x .isc }; maskable = x .maskable; swap = x .swap; suppressible = x .suppressible; masked = x .masked }
+placeFor (holds x) = record { used = true; isc = record { 0 = x .isc }; maskable = x .maskable; swap = x .swap; suppressible = x .suppressible; masked = x .masked }
 
 place-back : (p : rules.Place) → placeOf (placeFor p) ≡ p
 unfolding placeOf choose placeFor
@@ -60,8 +59,7 @@ module _ {ℓ} {A : Type ℓ} where
       go (z ∷ zs) = ap (λ (k : ℕ). getD (z ∷ (zs ++ ys)) k d) (suc-add (length zs) i) ∙ go zs
 
 -- ---- records in slots that are numbered as the records are listed: a run of numbers for each queue
-slots-from : (pre : List ℕ) (k : ℕ) (rs : List Record) (rest : List ℕ) → length pre ≡ k * 72 → All Whole rs
-    → listed (pre ++ (flatten rs ++ rest)) (upFrom k (length rs)) ≡ rs
+slots-from : (pre : List ℕ) (k : ℕ) (rs : List Record) (rest : List ℕ) → length pre ≡ k * 72 → All Whole rs → listed (pre ++ (flatten rs ++ rest)) (upFrom k (length rs)) ≡ rs
 unfolding upFrom slot flatten
 slots-from pre k [] rest e h = refl
 slots-from pre k (r ∷ rs) rest e h =
@@ -80,8 +78,7 @@ unfolding flatten
 length-whole [] h = refl
 length-whole (r ∷ rs) h = omega (arith, length-append r (flatten rs), h .0, length-whole rs (h .1))
 
-runs-back : (pre : List ℕ) (k : ℕ) (qs : List (List Record)) (rest : List ℕ) → length pre ≡ k * 72 → All Whole (flatten qs)
-    → map (listed (pre ++ (flatten (flatten qs) ++ rest))) (runs k qs) ≡ qs
+runs-back : (pre : List ℕ) (k : ℕ) (qs : List (List Record)) (rest : List ℕ) → length pre ≡ k * 72 → All Whole (flatten qs) → map (listed (pre ++ (flatten (flatten qs) ++ rest))) (runs k qs) ≡ qs
 unfolding runs flatten
 runs-back pre k [] rest e h = refl
 runs-back pre k (q ∷ qs) rest e h =
@@ -124,8 +121,7 @@ row-padded pre l rest q e =
     ap (take (length l)) (drop-at pre ((l ++ replicate (slotCount - length l) 0) ++ rest) (q * slotCount) e ∙ append-assoc l (replicate (slotCount - length l) 0) rest)
     ∙ take-at l (replicate (slotCount - length l) 0 ++ rest) (length l) refl
 
-rows-back : (pre : List ℕ) (q : ℕ) (ls : List (List ℕ)) (rest : List ℕ) → length pre ≡ q * slotCount → All (λ l. length l ≤ slotCount) ls
-    → rows (pre ++ (orderOf ls ++ rest)) q (map length ls) ≡ ls
+rows-back : (pre : List ℕ) (q : ℕ) (ls : List (List ℕ)) (rest : List ℕ) → length pre ≡ q * slotCount → All (λ l. length l ≤ slotCount) ls → rows (pre ++ (orderOf ls ++ rest)) q (map length ls) ≡ ls
 unfolding rows orderOf
 rows-back pre q [] rest e h = refl
 rows-back pre q (l ∷ ls) rest e h =
@@ -150,8 +146,7 @@ runs-lengths k (q ∷ qs) = ap₂ (λ (x : ℕ) (l : List ℕ). x ∷ l) (length
 runs-short : (k : ℕ) (qs : List (List Record)) → length (flatten qs) ≤ slotCount → All (λ l. length l ≤ slotCount) (runs k qs)
 unfolding runs flatten
 runs-short k [] h = tt
-runs-short k (q ∷ qs) h =
-    (omega (arith, length-up k (length q), length-append q (flatten qs)), runs-short (k + length q) qs (omega (arith, length-append q (flatten qs))))
+runs-short k (q ∷ qs) h = (omega (arith, length-up k (length q), length-append q (flatten qs)), runs-short (k + length q) qs (omega (arith, length-append q (flatten qs))))
 
 sum-lengths : (qs : List (List Record)) → sum (map length qs) ≡ length (flatten qs)
 unfolding sum flatten
@@ -209,9 +204,7 @@ module _ (p : Pending) (h : SoundPending p) (few : queued p ≤ slotCount) where
 
   whole : All Whole (flatten qs)
   unfolding listing
-  whole =
-      subst (All Whole) (sym all-records)
-      (all-left Whole (flatten (p .io) ++ p .done) _ (subst (All Whole) (sym (append-assoc (flatten (p .io)) (p .done) _)) (listing-sendable p h .whole)))
+  whole = subst (All Whole) (sym all-records) (all-left Whole (flatten (p .io) ++ p .done) _ (subst (All Whole) (sym (append-assoc (flatten (p .io)) (p .done) _)) (listing-sendable p h .whole)))
 
   fits : length (flatten qs) ≤ slotCount
   fits = omega (arith, ap length all-records, length-append (flatten (p .io)) (p .done), few)
@@ -262,8 +255,7 @@ module _ (p : Pending) (h : SoundPending p) (few : queued p ≤ slotCount) where
   spare-back =
       let l : length (orderOf ls) ≡ 9 * slotCount = length-order ls (runs-short 0 qs fits) ∙ ap (λ (m : ℕ). m * slotCount) nine-runs in
       ap (λ (m : ℕ). row (orderOf ls ++ free-run) 9 (slotCount - m)) total-back
-      ∙ ap₂ (λ (o : List ℕ) (m : ℕ). row (orderOf ls ++ o) 9 m) (sym (append-nil free-run)) (sym (length-up n (slotCount - n)))
-      ∙ row-padded (orderOf ls) (upFrom n (slotCount - n)) [] 9 l
+      ∙ ap₂ (λ (o : List ℕ) (m : ℕ). row (orderOf ls ++ o) 9 m) (sym (append-nil free-run)) (sym (length-up n (slotCount - n))) ∙ row-padded (orderOf ls) (upFrom n (slotCount - n)) [] 9 l
 
   held : (ais : Bool) → Held (controllerFor ais .order) (controllerFor ais .counts)
   unfolding controllerFor
@@ -336,12 +328,7 @@ represent c s h =
     k = keep (s .pending) (h .pending) (subst (λ (n : ℕ). queued (s .pending) ≤ n) (limits-sized c .room) (h .within)) (s .ais)
 
     host : Host
-    host =
-        record {
-          ctl = k .ctl;
-          dev = record { simm = s .device .simm; nimm = s .device .nimm; apf = s .device .apf };
-          tab = map placeFor (s .adapters);
-        }
+    host = record { ctl = k .ctl; dev = record { simm = s .device .simm; nimm = s .device .nimm; apf = s .device .apf }; tab = map placeFor (s .adapters) }
 
     is : stateOf (host .ctl) (host .dev) (host .tab) ≡ s
     is = λ i. record { ais = k .same-ais i; adapters = places-back (s .adapters) i; pending = k .pending i; device = s .device }

@@ -14,7 +14,7 @@ use Rattle.adapters.specs.{declared.Device.Device, declared.Place.Place, Values
 use Rattle.store.specs.Memory.{pendingOf}
 use Rattle.calls.specs.{declared.Controller.Controller, Limits.limitsOf}
 use Rattle.calls.proofs.Limits.{limits-sized, limits-made, limits-kept}
-use Rattle.flic.specs.{Surface.stateOf, Surface.Valid, Surface.Requested, Surface.Taken, Claim.Fresh, Claim.machine, Claim.Moved}
+use Rattle.flic.specs.{Surface.stateOf, Surface.Valid, Surface.Steps, Surface.Requested, Surface.Taken, Claim.Fresh, Claim.machine, Claim.Moved}
 use Rattle.flic.specs.Chain.{Host, Lends, its-own, another, asked, Leaves, Ran, end, asks, take, LentPremise, Premises}
 use Rattle.flic.proofs.{Promises.by-length, Promises.Tabled, Promises.refused-table, Follows.hostState, Follows.Good, Follows.own-length, Follows.tabled, Follows.requested, Follows.taken, Claim.fresh-good, Claim.ran-good, Claim.good₁, Claim.good-second, Represent.keep, Represent.Represents, Represent.represent}
 
@@ -44,19 +44,15 @@ module _ (c : Controller) (d : Device) (t : List Place) where
   all-left playList k b = refl
 
   module _ (v : length t ≡ L .places → Valid c d t) (b : List ℕ) where
+    -- an answer that leaves the host as it was
+    leaves-all : (ask : Ask) (r : Answer) (b′ : List ℕ) → Leaves ask c c d d t t b b′ → Steps ask c c d d t t b (saw r b′) → ((code count : ℕ) → outcome L s ask (length t) b ≡ refuseWith code count → b′ ≡ b) → AnswerTo ask b
+    leaves-all ask r b′ l e kept =
+        record { c′ = c; d′ = d; t′ = t; r = r; b′ = b′; leaves = l; said = record { steps = e; kept = λ code count o. (refl, refl, refl, kept code count o); valid = v; limits = refl } }
+
     -- a refused call: everything stays
     stays : (ask : Ask) → Tabled ask → (code count : ℕ) → outcome L s ask (length t) b ≡ refuseWith code count → AnswerTo ask b
     unfolding step result
-    stays ask k code count e =
-        record {
-          c′ = c;
-          d′ = d;
-          t′ = t;
-          r = answered code count;
-          b′ = b;
-          leaves = all-left ask k b;
-          said = record { steps = ap (answerOf L s b) e; kept = λ code count o. (refl, refl, refl, refl); valid = v; limits = refl };
-        }
+    stays ask k code count e = leaves-all ask (answered code count) b (all-left ask k b) (ap (answerOf L s b) e) (λ _ _ _. refl)
 
     -- a call that leaves the state, and writes: a get, the writing of a list
     reads : (ask : Ask) → Tabled ask → (Plays ask → ⊥) → ((b′ : List ℕ) → Leaves ask c c d d t t b b′) → (o : Outcome State)
@@ -64,27 +60,13 @@ module _ (c : Controller) (d : Device) (t : List Place) where
     unfolding step result
     reads ask k other left (refuseWith code count) e g w = stays ask k code count e
     reads ask k other left (accept count next written) e g w =
-        record {
-          c′ = c;
-          d′ = d;
-          t′ = t;
-          r = answered 0 count;
-          b′ = written ++ drop (length written) b;
-          leaves = left _;
-          said =
-              record {
-                steps = ap (answerOf L s b) e ∙ (λ i. tell 0 count (g .0 i) (written ++ drop (length written) b));
-                kept = λ code n o. absurd (true≢false (let z : true ≡ false = cc in z));
-                valid = v;
-                limits = refl;
-              };
-        }
+        leaves-all ask (answered 0 count) (written ++ drop (length written) b) (left _) (ap (answerOf L s b) e ∙ (λ i. tell 0 count (g .0 i) (written ++ drop (length written) b)))
+        (λ code n o. absurd (true≢false (let z : true ≡ false = cc in z)))
     reads ask k other left (resetWith code place further) e g w = absurd (other (w .0))
 
     -- a call that changes the state, and writes nothing: a set, the playing of a list. The next state is that of a host.
     becomes : (ask : Ask) → ((c′ : Controller) (d′ : Device) (t′ : List Place) → Leaves ask c c′ d d′ t t′ b b) → (r : Answer) (next : State)
-        → Sound L next → step L s (asked ask b (length t)) ≡ answering (saw r b) next
-        → ((code count : ℕ) → outcome L s ask (length t) b ≡ refuseWith code count → ⊥) → AnswerTo ask b
+        → Sound L next → step L s (asked ask b (length t)) ≡ answering (saw r b) next → ((code count : ℕ) → outcome L s ask (length t) b ≡ refuseWith code count → ⊥) → AnswerTo ask b
     becomes ask left r next h e not-refused =
         let k = represent c next h in
         record {
@@ -94,13 +76,7 @@ module _ (c : Controller) (d : Device) (t : List Place) where
           r = r;
           b′ = b;
           leaves = left (k .host .ctl) (k .host .dev) (k .host .tab);
-          said =
-              record {
-                steps = e ∙ ap (answering (saw r b)) (sym (k .state));
-                kept = λ code count o. absurd (not-refused code count o);
-                valid = λ n. k .good;
-                limits = k .limits;
-              };
+          said = record { steps = e ∙ ap (answering (saw r b)) (sym (k .state)); kept = λ code count o. absurd (not-refused code count o); valid = λ n. k .good; limits = k .limits };
         }
 
     changes : (ask : Ask) → Tabled ask → ((c′ : Controller) (d′ : Device) (t′ : List Place) → Leaves ask c c′ d d′ t t′ b b) → length t ≡ L .places
@@ -125,8 +101,7 @@ module _ (c : Controller) (d : Device) (t : List Place) where
     answer-to (getAttr group attr) k =
         reads (getAttr group attr) k (λ p. p) (λ _. (refl, refl, refl)) _ refl (shaped L s (getAttr group attr) (length t) b) (known-outcome L s (getAttr group attr) (length t) b)
     answer-to (guestTake subclasses external mcheck) k = absurd k
-    answer-to writeList k =
-        reads writeList k (λ p. p) (λ _. (refl, refl, refl)) _ refl (shaped L s writeList (length t) b) (known-outcome L s writeList (length t) b)
+    answer-to writeList k = reads writeList k (λ p. p) (λ _. (refl, refl, refl)) _ refl (shaped L s writeList (length t) b) (known-outcome L s writeList (length t) b)
     answer-to playList k =
         by-length L (length t)
         (λ n. changes playList k (λ _ _ _. refl) n _ refl (shaped L s playList (length t) b) (known-outcome L s playList (length t) b))
@@ -149,20 +124,12 @@ take-to h g subclasses external mcheck b = short (leb recordBytes (length b)) re
     p : Pending
     p = pendingOf (h .ctl .order) (h .ctl .counts) (h .ctl .slots) (h .ctl .singles)
 
+    -- nothing is taken
+    untaken : (r : Answer) → ((d : Device) (t : List Place) → Steps ask (h .ctl) (h .ctl) d d t t b (saw r b)) → TakeTo (h .ctl) subclasses external mcheck b
+    untaken r e = record { c′ = h .ctl; r = r; b′ = b; said = record { steps = e; kept = λ n. (refl, refl); ready = g .ready; limits = refl } }
+
     hands : (o : Option (Handed Pending)) → handed p subclasses external mcheck ≡ o → leb recordBytes (length b) ≡ true → TakeTo (h .ctl) subclasses external mcheck b
-    hands none e f =
-        record {
-          c′ = h .ctl;
-          r = answered 0 0;
-          b′ = b;
-          said =
-              record {
-                steps = λ d t. ap (answerOf (limitsOf (h .ctl)) (stateOf (h .ctl) d t) b) (passes _ _ _ f ∙ ap (handsOut (stateOf (h .ctl) d t)) e);
-                kept = λ n. (refl, refl);
-                ready = g .ready;
-                limits = refl;
-              };
-        }
+    hands none e f = untaken (answered 0 0) (λ d t. ap (answerOf (limitsOf (h .ctl)) (stateOf (h .ctl) d t) b) (passes _ _ _ f ∙ ap (handsOut (stateOf (h .ctl) d t)) e))
     hands (some x) e f =
         let u = kept-step (limitsOf (h .ctl)) (hostState h) (g .sound) (asked ask b 0) .sound in
         let w : Sound (limitsOf (h .ctl)) (withPending (x .left) (hostState h)) = subst (Sound (limitsOf (h .ctl))) (ap (λ (o : Outcome State). answerOf (limitsOf (h .ctl)) (hostState h) b o .next) (passes _ _ _ f ∙ ap (handsOut (hostState h)) e)) u in
@@ -183,13 +150,7 @@ take-to h g subclasses external mcheck b = short (leb recordBytes (length b)) re
 
     short : (t : Bool) → leb recordBytes (length b) ≡ t → TakeTo (h .ctl) subclasses external mcheck b
     short true f = hands (handed p subclasses external mcheck) refl f
-    short false f =
-        record {
-          c′ = h .ctl;
-          r = answered 14 0;
-          b′ = b;
-          said = record { steps = λ d t. ap (answerOf (limitsOf (h .ctl)) (stateOf (h .ctl) d t) b) (fails _ _ _ f); kept = λ n. (refl, refl); ready = g .ready; limits = refl };
-        }
+    short false f = untaken (answered 14 0) (λ d t. ap (answerOf (limitsOf (h .ctl)) (stateOf (h .ctl) d t) b) (fails _ _ _ f))
 
 -- ---- every list of calls
 -- a table of n places to lend: the host's own where that is its length
@@ -217,9 +178,6 @@ pub record Chain (h : Host) (cs : List Call) : Type 0 where
   pub last : Host
   pub ran : Ran h cs seen last
 
-as-asked : (h : Host) (ask : Ask) (b : List ℕ) (cs : List Call) {m n : ℕ} → m ≡ n → Chain h (asked ask b m ∷ cs) → Chain h (asked ask b n ∷ cs)
-as-asked h ask b cs e k = subst (λ (i : ℕ). Chain h (asked ask b i ∷ cs)) e k
-
 -- one call more, that is lent a table
 lent-more : (cs : List Call) → ((h : Host) → Good h → Chain h cs) → (h : Host) → Good h → (ask : Ask) → Tabled ask → (b : List ℕ) (n : ℕ) → Chain h (asked ask b n ∷ cs)
 lent-more cs then h g ask lent b n =
@@ -227,7 +185,7 @@ lent-more cs then h g ask lent b n =
     let y = answer-to (h .ctl) (h .dev) (x .lent) (x .valid) b ask lent in
     let f = requested h g ask lent b (y .c′) (y .d′) (x .lent) (y .t′) (saw (y .r) (y .b′)) (y .said) (x .own (y .t′)) (x .lends (y .t′)) in
     let k = then _ (f .good) in
-    as-asked h ask b cs (x .places)
+    subst (λ (i : ℕ). Chain h (asked ask b i ∷ cs)) (x .places)
     (record { seen = _; last = k .last; ran = asks ask b (y .c′) (y .d′) (x .lent) (y .t′) (x .own (y .t′)) (saw (y .r) (y .b′)) (y .leaves) (x .lends (y .t′)) (y .said) (k .ran) })
 
 one-more : (cs : List Call) → ((h : Host) → Good h → Chain h cs) → (h : Host) → Good h → (ask : Ask) (b : List ℕ) (n : ℕ) → Chain h (asked ask b n ∷ cs)
@@ -252,10 +210,8 @@ lent-premise g (another w) n = absurd (w n)
 
 pub premises : {h e : Host} {cs : List Call} {xs : List Seen} → Good h → (r : Ran h cs xs e) → Premises r
 premises g end = tt
-premises {h} g (asks ask b c′ d′ t t′ u x k l f rest) =
-    (lent-premise g l, premises (requested h g ask (tabled ask _ _ _ _ _ _ _ _ k) b c′ d′ t t′ x f u l .good) rest)
-premises {h} g (take subclasses external mcheck b c′ n x f rest) =
-    (g .ready, premises (taken h g subclasses external mcheck b c′ n x f .good) rest)
+premises {h} g (asks ask b c′ d′ t t′ u x k l f rest) = (lent-premise g l, premises (requested h g ask (tabled ask _ _ _ _ _ _ _ _ k) b c′ d′ t t′ x f u l .good) rest)
+premises {h} g (take subclasses external mcheck b c′ n x f rest) = (g .ready, premises (taken h g subclasses external mcheck b c′ n x f .good) rest)
 
 -- ---- from the host that the code makes
 -- making one has an answer, for each capability
@@ -295,8 +251,7 @@ premises-fresh h r = premises (fresh-good h) r
 -- a writing leaves its host as it was
 same-host : {c c′ : Controller} {d d′ : Device} {t t′ : List Place} {b : List ℕ} {x : Seen} → (c′ ≡ c) × (d′ ≡ d) × (t′ ≡ t)
     → Requested writeList c c′ d d′ t t′ b x → Requested writeList c c d d t t b x
-same-host {c} {c′} {d} {d′} {t} {t′} {b} {x} k f =
-    subst (λ (h : Host). Requested writeList c (h .ctl) d (h .dev) t (h .tab) b x) (λ i. record { ctl = k .0 i; dev = k .1 i; tab = k .2 i }) f
+same-host {c} {c′} {d} {d′} {t} {t′} {b} {x} k f = subst (λ (h : Host). Requested writeList c (h .ctl) d (h .dev) t (h .tab) b x) (λ i. record { ctl = k .0 i; dev = k .1 i; tab = k .2 i }) f
 
 -- and a playing its list
 left-list : {c c′ : Controller} {d d′ : Device} {t t′ : List Place} {b b′ : List ℕ} {r : Answer} → b′ ≡ b
@@ -304,8 +259,7 @@ left-list : {c c′ : Controller} {d d′ : Device} {t t′ : List Place} {b b�
 left-list {c} {c′} {d} {d′} {t} {t′} {b} {b′} {r} e f = subst (λ (l : List ℕ). Requested playList c c′ d d′ t t′ b (saw r l)) e f
 
 -- for any two fresh hosts of the same limits and capability, any two lists of calls and any buffer that is long enough there is a move
-pub moved : (L : Limits) (ais : Bool) (f₁ f₂ : Host) → Fresh L ais f₁ → Fresh L ais f₂ → (cs₁ cs₂ : List Call) (b : List ℕ)
-    → total (listRequests (machine L ais cs₁)) ≤ length b → Moved
+pub moved : (L : Limits) (ais : Bool) (f₁ f₂ : Host) → Fresh L ais f₁ → Fresh L ais f₂ → (cs₁ cs₂ : List Call) (b : List ℕ) → total (listRequests (machine L ais cs₁)) ≤ length b → Moved
 moved L ais f₁ f₂ h₁ h₂ cs₁ cs₂ b long =
     let x = runs-fresh h₁ cs₁ in
     let y = runs-fresh h₂ cs₂ in

@@ -47,27 +47,20 @@ module _ (ask : Ask) (c c′ : Controller) (d d′ : Device) (t t′ : List Plac
   same-ais = says .same-ais
 
   -- the answer, from what the rules make of the call
-  by-outcome : (o : Outcome State) → outcome (limitsOf c) (stateOf c d t) ask (length t) b ≡ o
-      → left ≡ answerOf (limitsOf c) (stateOf c d t) b o
+  by-outcome : (o : Outcome State) → outcome (limitsOf c) (stateOf c d t) ask (length t) b ≡ o → left ≡ answerOf (limitsOf c) (stateOf c d t) b o
   unfolding step
   by-outcome o e = sym f ∙ ap (answerOf (limitsOf c) (stateOf c d t) b) e
 
   answer-is : (code count : ℕ) (o : Outcome State) → outcome (limitsOf c) (stateOf c d t) ask (length t) b ≡ o
-      → answerOf (limitsOf c) (stateOf c d t) b o .code ≡ code → answerOf (limitsOf c) (stateOf c d t) b o .count ≡ count
-      → r ≡ answered code count
-  answer-is code count o e p q =
-      λ i. record {
-        code = (ap (λ (a : Told State). a .code) (by-outcome o e) ∙ p) i;
-        count = (ap (λ (a : Told State). a .count) (by-outcome o e) ∙ q) i;
-      }
+      → answerOf (limitsOf c) (stateOf c d t) b o .code ≡ code → answerOf (limitsOf c) (stateOf c d t) b o .count ≡ count → r ≡ answered code count
+  answer-is code count o e p q = λ i. record { code = (ap (λ (a : Told State). a .code) (by-outcome o e) ∙ p) i; count = (ap (λ (a : Told State). a .count) (by-outcome o e) ∙ q) i }
 
   wrong-answer : Tabled ask → (length t ≡ limitsOf c .places → ⊥) → r ≡ answered 14 0
   unfolding result
   wrong-answer tabled w = answer-is 14 0 (refuse 14) (refused-table (limitsOf c) (stateOf c d t) ask (length t) b tabled w) refl refl
 
   -- a code that is not 0 is that of a refusal which changes nothing, unless a list is played
-  refusal-of : {X : Type 0} → (Plays ask → ⊥) → (r .code ≡ 0 → ⊥)
-      → ((code count : ℕ) → outcome (limitsOf c) (stateOf c d t) ask (length t) b ≡ refuseWith code count → X) → X
+  refusal-of : {X : Type 0} → (Plays ask → ⊥) → (r .code ≡ 0 → ⊥) → ((code count : ℕ) → outcome (limitsOf c) (stateOf c d t) ask (length t) b ≡ refuseWith code count → X) → X
   unfolding result
   refusal-of {X} other n then = go _ refl (known-outcome (limitsOf c) (stateOf c d t) ask (length t) b)
     where
@@ -77,8 +70,7 @@ module _ (ask : Ask) (c c′ : Controller) (d d′ : Device) (t t′ : List Plac
       go (resetWith code place further) e k = absurd (other (k .0))
 
 -- ---- each call
-safe-request : (ask : Ask) → Tabled ask → (Plays ask → ⊥)
-    → (c c′ : Controller) (d d′ : Device) (t t′ : List Place) (b b′ : List ℕ) (r : Answer)
+safe-request : (ask : Ask) → Tabled ask → (Plays ask → ⊥) → (c c′ : Controller) (d d′ : Device) (t t′ : List Place) (b b′ : List ℕ) (r : Answer)
     → Requested ask c c′ d d′ t t′ b (saw r b′) → SafeRequest c c′ d d′ t t′ b b′ r
 safe-request ask tabled other c c′ d d′ t t′ b b′ r f =
     let s = says ask c c′ d d′ t t′ b b′ r (f .steps) in
@@ -95,8 +87,7 @@ safe-request ask tabled other c c′ d d′ t t′ b b′ r f =
     }
 
 -- a take promises its step for every device record and every table
-safe-take : (subclasses : ℕ) (external mcheck : Bool) (c c′ : Controller) (b b′ : List ℕ) (r : Answer)
-    → Taken subclasses external mcheck c c′ b (saw r b′) → SafeTake c c′ b b′ r
+safe-take : (subclasses : ℕ) (external mcheck : Bool) (c c′ : Controller) (b b′ : List ℕ) (r : Answer) → Taken subclasses external mcheck c c′ b (saw r b′) → SafeTake c c′ b b′ r
 safe-take subclasses external mcheck c c′ b b′ r f =
     let d : Device = record { simm = 0; nimm = 0; apf = false } in
     let s = says (guestTake subclasses external mcheck) c c′ d d [] [] b b′ r (f .steps d []) in
@@ -107,8 +98,7 @@ safe-take subclasses external mcheck c c′ b b′ r f =
       limits = f .limits;
     }
 
-safe-make : (ais : Bool) (c c′ : Controller) (d d′ : Device) (t t′ : List Place) (r : Answer)
-    → Made paperLimits ais c c′ d d′ t t′ r → SafeMake c c′ d d′ t t′ r
+safe-make : (ais : Bool) (c c′ : Controller) (d d′ : Device) (t t′ : List Place) (r : Answer) → Made paperLimits ais c c′ d d′ t t′ r → SafeMake c c′ d d′ t t′ r
 safe-make ais c c′ d d′ t t′ r f =
     record {
       accepted = λ e. f .right e .0;
@@ -138,8 +128,7 @@ all-unused (suc n) (p ∷ t) k e = λ i. is-unused p (k .0) (cc) i ∷ all-unuse
 module _ (c c′ : Controller) (d d′ : Device) (t t′ : List Place) (b : List ℕ) (r : Answer)
     (f : Requested playList c c′ d d′ t t′ b (saw r b)) where
   -- with a table of the controller's length the outcome is the rules' playing of the list
-  outcome-is : length t ≡ limitsOf c .places
-      → outcome (limitsOf c) (stateOf c d t) playList (length t) b ≡ playing c b
+  outcome-is : length t ≡ limitsOf c .places → outcome (limitsOf c) (stateOf c d t) playList (length t) b ≡ playing c b
   unfolding outcome stateOf
   outcome-is n = right-table (limitsOf c) (length t) 14 _ n ∙ plays-fresh (limitsOf c) (stateOf c d t) b
 
@@ -155,12 +144,10 @@ module _ (c c′ : Controller) (d d′ : Device) (t t′ : List Place) (b : List
 
   -- the answer and the next state, from that outcome
   answers : (code count : ℕ) (o : Outcome State) → outcome (limitsOf c) (stateOf c d t) playList (length t) b ≡ o
-      → answerOf (limitsOf c) (stateOf c d t) b o .code ≡ code → answerOf (limitsOf c) (stateOf c d t) b o .count ≡ count
-      → r ≡ answered code count
+      → answerOf (limitsOf c) (stateOf c d t) b o .code ≡ code → answerOf (limitsOf c) (stateOf c d t) b o .count ≡ count → r ≡ answered code count
   answers = answer-is playList c c′ d d′ t t′ b b r (f .steps)
 
-  becomes : (o : Outcome State) → outcome (limitsOf c) (stateOf c d t) playList (length t) b ≡ o
-      → stateOf c′ d′ t′ ≡ answerOf (limitsOf c) (stateOf c d t) b o .next
+  becomes : (o : Outcome State) → outcome (limitsOf c) (stateOf c d t) playList (length t) b ≡ o → stateOf c′ d′ t′ ≡ answerOf (limitsOf c) (stateOf c d t) b o .next
   becomes o e = ap (λ (a : Told State). a .next) (by-outcome playList c c′ d d′ t t′ b b r (f .steps) o e)
 
   -- what is known of it
@@ -192,17 +179,14 @@ module _ (c c′ : Controller) (d d′ : Device) (t t′ : List Place) (b : List
 module _ {M : Type 1} (𝓤 : URA M) where
   -- what the contract ensures of the parameters at entry, the result and the parameters at exit has this consequence, for
   -- every ghost value
-  abbrev pub Ensures : (T : Ended) → Clauses 𝓤 T
-      → ((κs : Lfts (T .signature .lifetimes)) → Args (T .signature) κs → Res (T .signature) κs → AtExit T κs → Type 0)
-      → Type 1
+  abbrev pub Ensures : (T : Ended) → Clauses 𝓤 T → ((κs : Lfts (T .signature .lifetimes)) → Args (T .signature) κs → Res (T .signature) κs → AtExit T κs → Type 0) → Type 1
   Ensures T f P =
       (κs : Lfts (T .signature .lifetimes)) (a : Args (T .signature) κs) (g : f κs a .ghost)
       (r : Res (T .signature) κs) (e : AtExit T κs)
       → ent 𝓤 (f κs a .ensures g r e) (fact 𝓤 (P κs a r e))
 
   -- the contract requires nothing of such parameters, for some ghost value
-  abbrev pub RequiresNothing : (T : Ended) → Clauses 𝓤 T
-      → ((κs : Lfts (T .signature .lifetimes)) → Args (T .signature) κs → Type 0) → Type 1
+  abbrev pub RequiresNothing : (T : Ended) → Clauses 𝓤 T → ((κs : Lfts (T .signature .lifetimes)) → Args (T .signature) κs → Type 0) → Type 1
   RequiresNothing T f W =
       (κs : Lfts (T .signature .lifetimes)) (a : Args (T .signature) κs)
       → W κs a → (g : f κs a .ghost) × ent 𝓤 (emp 𝓤) (f κs a .requires g)
@@ -210,33 +194,18 @@ module _ {M : Type 1} (𝓤 : URA M) where
 module _ {M : Type 1} (𝓤 : URA M) (H : Heap 𝓤) (A : Atoms 𝓤) (mem : Memory → SProp 𝓤) (run : Routine → Fun 𝓤) where
   -- Demand 1. A parameter is named as at entry, and with a prime as at exit.
   pub record Safety : Type 1 where
-    pub make : Ensures 𝓤 flic-make.ended (flic-make.clauses 𝓤 H A mem run)
-        (λ κs (c, (d, (t, _))) r (c′, (d′, (t′, _))).
-        SafeMake (now c) (now c′) (now d) (now d′) (now t) (now t′) r)
-    pub set : Ensures 𝓤 flic-set.ended (flic-set.clauses 𝓤 H A mem run)
-        (λ κs (c, (d, (t, (_, (_, (b, _)))))) r (c′, (d′, (t′, _))).
-        SafeRequest (now c) (now c′) (now d) (now d′) (now t) (now t′) (now b) (now b) r)
-    pub get : Ensures 𝓤 flic-get.ended (flic-get.clauses 𝓤 H A mem run)
-        (λ κs (c, (d, (t, (_, (_, (b, _)))))) r (_, (_, (_, (_, (_, (b′, _)))))).
+    pub make : Ensures 𝓤 flic-make.ended (flic-make.clauses 𝓤 H A mem run) (λ κs (c, (d, (t, _))) r (c′, (d′, (t′, _))). SafeMake (now c) (now c′) (now d) (now d′) (now t) (now t′) r)
+    pub set : Ensures 𝓤 flic-set.ended (flic-set.clauses 𝓤 H A mem run) (λ κs (c, (d, (t, (_, (_, (b, _)))))) r (c′, (d′, (t′, _))). SafeRequest (now c) (now c′) (now d) (now d′) (now t) (now t′) (now b) (now b) r)
+    pub get : Ensures 𝓤 flic-get.ended (flic-get.clauses 𝓤 H A mem run) (λ κs (c, (d, (t, (_, (_, (b, _)))))) r (_, (_, (_, (_, (_, (b′, _)))))).
         SafeRequest (now c) (now c) (now d) (now d) (now t) (now t) (now b) (now b′) r)
-    pub take : Ensures 𝓤 flic-take.ended (flic-take.clauses 𝓤 H A mem run)
-        (λ κs (c, (_, (_, (_, (b, _))))) r (c′, (_, (_, (_, (b′, _))))).
-        SafeTake (now c) (now c′) (now b) (now b′) r)
-    pub write : Ensures 𝓤 flic-write.ended (flic-write.clauses 𝓤 H A mem run)
-        (λ κs (c, (d, (t, (b, _)))) r (_, (_, (_, (b′, _)))).
-        SafeRequest (now c) (now c) (now d) (now d) (now t) (now t) (now b) (now b′) r)
-    pub play : Ensures 𝓤 flic-play.ended (flic-play.clauses 𝓤 H A mem run)
-        (λ κs (c, (d, (t, (b, _)))) r (c′, (d′, (t′, _))).
-        SafePlay (now c) (now c′) (now d) (now d′) (now t) (now t′) (now b) r)
+    pub take : Ensures 𝓤 flic-take.ended (flic-take.clauses 𝓤 H A mem run) (λ κs (c, (_, (_, (_, (b, _))))) r (c′, (_, (_, (_, (b′, _))))). SafeTake (now c) (now c′) (now b) (now b′) r)
+    pub write : Ensures 𝓤 flic-write.ended (flic-write.clauses 𝓤 H A mem run) (λ κs (c, (d, (t, (b, _)))) r (_, (_, (_, (b′, _)))). SafeRequest (now c) (now c) (now d) (now d) (now t) (now t) (now b) (now b′) r)
+    pub play : Ensures 𝓤 flic-play.ended (flic-play.clauses 𝓤 H A mem run) (λ κs (c, (d, (t, (b, _)))) r (c′, (d′, (t′, _))). SafePlay (now c) (now c′) (now d) (now d′) (now t) (now t′) (now b) r)
     -- the one premise is asked of no call with a table of another length than the controller's; `flic_make` has none at all
-    pub set-wrong-table : RequiresNothing 𝓤 flic-set.ended (flic-set.clauses 𝓤 H A mem run)
-        (λ κs (c, (d, (t, _))). length (now t) ≡ limitsOf (now c) .places → ⊥)
-    pub get-wrong-table : RequiresNothing 𝓤 flic-get.ended (flic-get.clauses 𝓤 H A mem run)
-        (λ κs (c, (d, (t, _))). length (now t) ≡ limitsOf (now c) .places → ⊥)
-    pub write-wrong-table : RequiresNothing 𝓤 flic-write.ended (flic-write.clauses 𝓤 H A mem run)
-        (λ κs (c, (d, (t, _))). length (now t) ≡ limitsOf (now c) .places → ⊥)
-    pub play-wrong-table : RequiresNothing 𝓤 flic-play.ended (flic-play.clauses 𝓤 H A mem run)
-        (λ κs (c, (d, (t, _))). length (now t) ≡ limitsOf (now c) .places → ⊥)
+    pub set-wrong-table : RequiresNothing 𝓤 flic-set.ended (flic-set.clauses 𝓤 H A mem run) (λ κs (c, (d, (t, _))). length (now t) ≡ limitsOf (now c) .places → ⊥)
+    pub get-wrong-table : RequiresNothing 𝓤 flic-get.ended (flic-get.clauses 𝓤 H A mem run) (λ κs (c, (d, (t, _))). length (now t) ≡ limitsOf (now c) .places → ⊥)
+    pub write-wrong-table : RequiresNothing 𝓤 flic-write.ended (flic-write.clauses 𝓤 H A mem run) (λ κs (c, (d, (t, _))). length (now t) ≡ limitsOf (now c) .places → ⊥)
+    pub play-wrong-table : RequiresNothing 𝓤 flic-play.ended (flic-play.clauses 𝓤 H A mem run) (λ κs (c, (d, (t, _))). length (now t) ≡ limitsOf (now c) .places → ⊥)
     pub make-always : RequiresNothing 𝓤 flic-make.ended (flic-make.clauses 𝓤 H A mem run) (λ κs a. Unit {0})
 
   pub safety : Safety

@@ -1,7 +1,7 @@
 -- `flic_get`: of the table only the length is read; a wrong one is refused. Else the controller is looked into, and shut at the exit; its four arrays are lent by `&` to
 -- `answer_get`, the bytes are passed on, and so is the reference to the device record, to `read_device`.
-use Rattle.flic.proofs.Walk.{_≡_, refl, Bool, false, lit, bin, store, first, skips, branches, exec, returns-within, anyQ, afterSeq, Wp, atReturn, ℕ, _<_, _^_, [], _∷_, List, length, URA, named, erased, w8, w64, tyInt, tyBool, tyRef, imm, mut, Val, vint, vbool, vptr, SProp, ent, id⊢, feq, GName, Lft, Share, Fml, ftrue, fsep, flft, fobor, Memory, Routine, Heap, Env, Calls, Loops, WpFn, Atoms, Fun, givenOf, tablesOf, Given, Item, Sq, runs, atRet, ‵, ⋆, _⊛_, _$_, _∵_, !, qed, by, move, keep, drop, split, join, fsplit, fsplit3, fjoin, feqL, suffices, frame, done, look, init, stop, hop, fld, from, load, addr, of-opd, and-then, no-more, assigns, land, returns, enter, alloc1, alloc0, params1, pass1, pass0, agg, whole, sub, look-in, FmC, owns, Is, partAt, pointee, bool-makes, uint-vals, uint-tells, uint-makes, u8, u64, RefT, ShrRef, ptr-vals, shr-tells, finally, sliceVal, sliceTy, MutSlice, ShrSlice, Room, slice-vals, mut-slice-tells, shr-slice-tells, plain, owned, nothing, onEntry, tripleOf, Contract, Triple, cited, says, Stays, walkOf, ends-at, yes, _+_, w32, tyArray, u32, bool, needs, stay-dropped, goes-dropped, gave-slice, goes-gave-slice}
-use Rattle.lent_table.proofs.{Ends.concludes, Record.ReadDevice, Count.taken}
+use Rattle.flic.proofs.Walk.{_≡_, refl, Bool, false, lit, bin, store, first, skips, branches, exec, returns-within, ℕ, _<_, _^_, [], _∷_, List, length, URA, named, w64, Val, vint, vbool, vptr, SProp, ent, id⊢, feq, GName, Lft, Share, Fml, ftrue, fsep, flft, fobor, Memory, Routine, Heap, Env, Calls, Loops, WpFn, Atoms, Fun, givenOf, tablesOf, Given, Item, Sq, runs, atRet, ‵, ⋆, _⊛_, _$_, _∵_, !, qed, by, move, keep, drop, split, join, fsplit, fsplit3, fjoin, feqL, suffices, frame, done, look, init, stop, hop, fld, from, load, addr, of-opd, and-then, no-more, assigns, land, returns, enter, agg, whole, sub, look-in, FmC, owns, Is, partAt, bool-makes, uint-vals, uint-tells, uint-makes, u8, u64, RefT, ShrRef, ptr-vals, shr-tells, finally, sliceVal, MutSlice, ShrSlice, Room, slice-vals, mut-slice-tells, shr-slice-tells, plain, owned, nothing, onEntry, tripleOf, Contract, Triple, cited, says, Stays, walkOf, ends-at, yes, _+_, w32, u32, bool, needs, stay-dropped, goes-dropped, gave-slice, goes-gave-slice}
+use Rattle.lent_table.proofs.{Ends.concludes, Shell.others, Record.ReadDevice, Count.taken}
 use Rattle.numbers.proofs.Basics.{arith, eqb, not, eqb-true, eqb-false}
 use denote.Struct.Laws as LL
 use denote.Signature.{shrRefTo, shrSliceOf}
@@ -16,9 +16,9 @@ use Rattle.adapters.proofs.Device as D
 use Rattle.adapters.proofs.Place as P
 use Rattle.flic.specs.Surface.{Valid, Requested}
 use Rattle.calls.proofs.Controller as C
-use Rattle.flic.proofs.{Promises.get-promises, Promises.wrong-promises, Opened.Has, Opened.Cells, Opened.looks-ctl, Opened.shuts-ctl, Calls.gives-up, Calls.reads-passed}
-use Rattle.lent_table.proofs.Locals.{Content, blank, holds, since, locals, frees-all, swaps, holds-false, not-not}
-use Rattle.flic.proofs.Four.{all, shared, at-array, Loan, Toks, Lent, lent-lfts, lent-shares, lent-args, lent-vals, calls-four}
+use Rattle.flic.proofs.{Promises.get-promises, Promises.wrong-promises, Opened.Has, Opened.Cells, Opened.looks-ctl, Opened.shuts-ctl, Calls.asks-that, Calls.gives-up, Calls.reads-passed, Frame.params-of, Frame.laid, Frame.refers, Frame.then-runs}
+use Rattle.lent_table.proofs.Locals.{Blocks, Content, blank, holds, since, locals, holds-false, not-not, ends-with, sets-up}
+use Rattle.flic.proofs.Four.{all, shared, at-array, Loan, lent-lfts, lent-shares, lent-args, lent-vals, calls-four}
 use Rattle.lent_requests.proofs.Answered.{refused, Refuse, refuses}
 use Rattle.answers.proofs.refuse as refuse
 use Rattle.lent_table.proofs.read_device as read-device
@@ -71,9 +71,6 @@ module _ {M : Type 1} (𝓤 : URA M) (H : Heap 𝓤) (A : Atoms 𝓤) (W : Given
   abbrev T : Item 𝓤
   T = ‵ (flft κo qo) ⊛ ‵ ftrue
 
-  abbrev O : Fml
-  O = fsep (bool .own (c .ais) (vbool (c .ais) ∷ [])) (fsep (D.the-row .own d (D.Laws.lowered d ∷ [])) (fsep (u32 .own group (vint w32 group ∷ [])) (fsep (u64 .own attr (vint w64 attr ∷ [])) (fsep OwnO ftrue))))
-
   abbrev Y : Type 0
   Y = Unit {0} × (Unit {0} × (Unit {0} × (Unit {0} × (List ℕ × Unit {0}))))
 
@@ -86,12 +83,9 @@ module _ {M : Type 1} (𝓤 : URA M) (H : Heap 𝓤) (A : Atoms 𝓤) (W : Given
   abbrev to-answer-get : Share → Loan → AnswerGet 𝓤 H A mem′ run .Ghost
   to-answer-get sh n = ((lent-lfts (all (shared sh)) n (κo, tt), lent-shares (all (shared sh)) (qo, tt), tt, lent-args (all (shared sh)) n c bc oc (c .ais, (d, (group, (attr, (at-array bo oo γo bytes, tt))))), lent-vals (all (shared sh)) bc oc (vbool (c .ais) ∷ [], (D.Laws.lowered d ∷ [], (vint w32 group ∷ [], (vint w64 attr ∷ [], (out ∷ [], tt)))))), tt)
 
-  goes : length ys ≡ limitsOf c .places → (sh : Share) (n : Loan) → ent 𝓤 (⋆ 𝓤 H A (Toks (all (shared sh)) n T ∷ ‵ (Lent (all (shared sh)) n c bc oc O) ∷ [])) (AnswerGet 𝓤 H A mem′ run .pre (to-answer-get sh n))
-  goes right sh n = qed W (Toks (all (shared sh)) n T ∷ ‵ (Lent (all (shared sh)) n c bc oc O) ∷ []) ∵ says ! (valid right .ready) $ done !
-
-  module _ (C′ : Calls 𝓤 H) (Λ : Loops 𝓤 H) (fm : FmC 𝓤 H (W .laws) C′) (known-refuse : Triple 𝓤 (C′ refuse.Symbol.name) (Refuse 𝓤 H A mem′ run)) (known-read : Triple 𝓤 (C′ read-device.Symbol.name) (ReadDevice 𝓤 H A mem′ run)) (known : Triple 𝓤 (C′ answer-get.Symbol.name) (AnswerGet 𝓤 H A mem′ run)) (l₀ l₁ l₂ l₃ l₄ l₅ l₆ l₇ l₈ l₉ l₁₀ l₁₁ l₁₂ l₁₃ l₁₄ l₁₅ : ℕ) where
+  module _ (C′ : Calls 𝓤 H) (Λ : Loops 𝓤 H) (fm : FmC 𝓤 H (W .laws) C′) (known-refuse : Triple 𝓤 (C′ refuse.Symbol.name) (Refuse 𝓤 H A mem′ run)) (known-read : Triple 𝓤 (C′ read-device.Symbol.name) (ReadDevice 𝓤 H A mem′ run)) (known : Triple 𝓤 (C′ answer-get.Symbol.name) (AnswerGet 𝓤 H A mem′ run)) (l₀ : ℕ) (bs : Blocks (params-of f.Code.function)) (cs : Blocks (others f.Code.function)) where
     abbrev E : Env 𝓤 H
-    E = (An.Laws.mir, l₀) ∷ (tyRef (named 0) imm (pointee (C.the-row .written)), l₁) ∷ (tyRef (named 1) imm (pointee (D.the-row .written)), l₂) ∷ (sliceTy (tyRef (named 2) imm (pointee (P.the-row .written))), l₃) ∷ (tyInt w32, l₄) ∷ (tyInt w64, l₅) ∷ (sliceTy (tyRef (named 3) mut (tyInt w8)), l₆) ∷ (D.Laws.mir, l₇) ∷ (tyInt w64, l₈) ∷ (tyBool, l₉) ∷ (tyRef erased imm (tyArray (tyInt w8) 18432), l₁₀) ∷ (tyRef erased imm (tyArray (tyInt w8) 2560), l₁₁) ∷ (tyRef erased imm (tyArray (tyInt w64) 11), l₁₂) ∷ (tyRef erased imm (tyArray (tyInt w8) 146), l₁₃) ∷ (tyRef erased mut (tyInt w8), l₁₄) ∷ (sliceTy (tyRef erased mut (tyInt w8)), l₁₅) ∷ []
+    E = laid f.Code.function An.Laws.mir l₀ bs cs
 
     -- what the locals hold after n statements, and the result's v₀; the flag is whether the length is wrong, then the capability
     abbrev wrong : Bool
@@ -113,23 +107,20 @@ module _ {M : Type 1} (𝓤 : URA M) (H : Heap 𝓤) (A : Atoms 𝓤) (W : Given
           shuts-ctl ! tt sh c g bc oc $ move ! (2 ∷ []) $ fsplit ! $ drop ! $ fsplit ! $ drop ! $ fsplit ! $ drop ! $ fsplit ! $ drop ! $ fsplit ! $ fsplit ! $ move ! (1 ∷ []) $ feqL ! (λ e.
           -- [the last bytes; true; the token; T; two tokens; the locals]
           move ! (3 ∷ []) $ split ! $ move ! (4 ∷ 5 ∷ 6 ∷ 0 ∷ 2 ∷ 1 ∷ 3 ∷ []) $ move ! (5 ∷ []) $ drop ! $ move ! (5 ∷ []) $ drop ! $
-          returns ! (look ! 5 refl) $ swaps ! (Rest (last y)) (locals E (held (holds v) (c .ais) 11) []) $ frees-all ! E (held (holds v) (c .ais) 11) $ by ! (exits (last y) z v (get-promises group attr c d ys bytes (last y) z right (valid right) got) e is))
+          returns ! (look ! 5 refl) $ ends-with ! (Rest (last y)) E (held (holds v) (c .ais) 11) $ by ! (exits (last y) z v (get-promises group attr c d ys bytes (last y) z right (valid right) got) e is))
 
       calls-it : (sh : Share) → Has c → Is D.the-row d (D.Laws.lowered d ∷ []) → Sq W (Open sh (‵ (flft κd qd) ∷ ‵ OwnO ∷ ‵ (flft κo qo) ∷ ‵ (flft κt qt) ∷ locals E (held blank (c .ais) 11) [])) (runs C′ Λ E f.Code.Mir.t-12 (atRet E Post))
       calls-it sh g gd =
           nothing ! $ move ! (9 ∷ 0 ∷ []) $ fjoin ! $ owned ! u64 (Is u64) (uint-makes 𝓤 H A W w64) attr _ (refl, attr-fits) $ fjoin ! $ owned ! u32 (Is u32) (uint-makes 𝓤 H A W w32) group _ (refl, group-fits) $ fjoin ! $ owned ! D.the-row (Is D.the-row) (LL.makes D.the-type D.Laws.the-plain 𝓤 H A) d _ gd $ fjoin ! $
           owned ! bool (Is bool) (bool-makes 𝓤 H A W) (c .ais) _ refl $ fjoin ! $ nothing ! $ move ! (10 ∷ 0 ∷ []) $ join ! $ move ! (2 ∷ 3 ∷ 4 ∷ 5 ∷ 0 ∷ 1 ∷ []) $
-          calls-four (all (shared sh)) ! fm (AnswerGet 𝓤 H A mem′ run) known (to-answer-get sh) c g bc oc An.the-row T O Leaves (λ z w. Got group attr c d bytes (last (w .1 .1 .1 .1)) z) (goes right sh) (λ n v. id⊢ 𝓤 _) (λ n i.
+          calls-four (all (shared sh)) ! fm (AnswerGet 𝓤 H A mem′ run) known (to-answer-get sh) c g bc oc An.the-row Leaves (λ z w. Got group attr c d bytes (last (w .1 .1 .1 .1)) z) (λ n. asks-that 𝓤 H A W _ (valid right .ready)) (λ n v. id⊢ 𝓤 _) (λ n i.
           (and-then ! (load ! (from ! (stop !)) (look ! 30 refl)) (and-then ! (load ! (from ! (stop !)) (look ! 32 refl)) (and-then ! (load ! (from ! (stop !)) (look ! 34 refl)) (and-then ! (load ! (from ! (stop !)) (look ! 36 refl)) (and-then ! (load ! (from ! (stop !)) (look ! 28 refl)) (and-then ! (load ! (from ! (stop !)) (look ! 24 refl)) (and-then ! (load ! (from ! (stop !)) (look ! 18 refl)) (and-then ! (load ! (from ! (stop !)) (look ! 20 refl)) (and-then ! (load ! (from ! (stop !)) (look ! 40 refl)) (no-more !))))))))))) (λ z v w got g′ is.
           land ! (from ! (stop !)) (init ! 11 refl (LL.lawful An.the-type An.Laws.the-laws 𝓤 H A W .typed z _ is .0)) $ move ! (0 ∷ 1 ∷ 2 ∷ 3 ∷ 6 ∷ 7 ∷ 8 ∷ []) $ ends sh g z v (w .1 .1 .1 .1) got is)
 
       -- the operands
       operands : (sh : Share) → Has c → Is D.the-row d (D.Laws.lowered d ∷ []) → Sq W (Open sh (‵ (flft κd qd) ∷ ‵ OwnO ∷ ‵ (flft κo qo) ∷ ‵ (flft κt qt) ∷ locals E (held blank wrong 4) [])) (runs C′ Λ E f.Code.Mir.t-5 (atRet E Post))
       operands sh g gd =
-          assigns ! (addr ! (from ! (hop ! (look ! 13 refl) (fld ! refl (stop !))))) (from ! (stop !)) (init ! 31 refl (tt, tt)) $
-          assigns ! (addr ! (from ! (hop ! (look ! 13 refl) (fld ! refl (stop !))))) (from ! (stop !)) (init ! 33 refl (tt, tt)) $
-          assigns ! (addr ! (from ! (hop ! (look ! 13 refl) (fld ! refl (stop !))))) (from ! (stop !)) (init ! 35 refl (tt, tt)) $
-          assigns ! (addr ! (from ! (hop ! (look ! 13 refl) (fld ! refl (stop !))))) (from ! (stop !)) (init ! 37 refl (tt, tt)) $
+          refers ! 13 31 refl refl refl (tt, tt) $ refers ! 13 33 refl refl refl (tt, tt) $ refers ! 13 35 refl refl refl (tt, tt) $ refers ! 13 37 refl refl refl (tt, tt) $
           assigns ! (of-opd ! (load ! (from ! (hop ! (look ! 13 refl) (fld ! refl (stop !)))) (look ! 4 refl))) (from ! (stop !)) (store ! 29 refl (tt, tt)) $
           assigns ! (addr ! (from ! (fld ! refl (hop ! (look-in ! 23 (sub ! 0 refl (whole !))) (stop !))))) (from ! (stop !)) (init ! 39 refl (tt, tt)) $
           assigns ! (agg ! (and-then ! (load ! (from ! (stop !)) (look ! 39 refl)) (and-then ! (load ! (from ! (fld ! refl (stop !))) (look-in ! 23 (sub ! 1 refl (whole !)))) (no-more !)))) (from ! (stop !)) (init ! 41 refl (tt, (tt, (record { fits = room-o .0 }, tt)))) $
@@ -145,16 +136,13 @@ module _ {M : Type 1} (𝓤 : URA M) (H : Heap 𝓤) (A : Atoms 𝓤) (W : Given
         reads-passed ! mem′ run fm known-read κd qd bd od γd d (λ _. (and-then ! (load ! (from ! (stop !)) (look ! 10 refl)) (no-more !))) (λ gd. land ! (from ! (stop !)) (init ! 20 refl (LL.lawful D.the-type D.Laws.the-laws 𝓤 H A W .typed d _ gd .0)) $
         move ! (1 ∷ []) $ fsplit3 ! $ drop ! $ drop ! $ move ! (0 ∷ 2 ∷ []) $ looks-ctl ! tt c bc oc (λ sh g. operands right sh g gd))
 
-    abbrev Then : types.Kit.Post 𝓤 H
-    Then = anyQ (afterSeq 𝓤 H (Wp 𝓤 H C′ Λ E f.Code.Mir.t-4 (atReturn 𝓤 H E Post)) (atReturn 𝓤 H E Post))
-
     -- a wrong table: the bytes are given up as they are
-    refuses-it : eqb (length ys) imageSize ≡ false → Sq W (Passed (locals E (held blank wrong 2) [])) (runs C′ Λ E (taken f.Code.Mir.s-3) Then)
+    refuses-it : eqb (length ys) imageSize ≡ false → Sq W (Passed (locals E (held blank wrong 2) [])) (runs C′ Λ E (taken f.Code.Mir.s-3) (then-runs C′ Λ E Post f.Code.Mir.t-4))
     refuses-it e =
         refuses ! mem′ run fm known-refuse 14 (omega arith) (λ i. (and-then ! (lit ! tt) (no-more !))) (λ g.
         land ! (from ! (stop !)) (init ! 7 refl (LL.lawful An.the-type An.Laws.the-laws 𝓤 H A W .typed (refused 14) _ g .0)) $ move ! (4 ∷ []) $ gives-up ! κo bo oo γo bytes $
         move ! (4 ∷ 1 ∷ 6 ∷ 5 ∷ 0 ∷ []) $ move ! (5 ∷ []) $ drop ! $ move ! (5 ∷ []) $ drop ! $ returns-within ! Post refl (look ! 5 refl) $
-        swaps ! (Rest bytes) (locals E (held (holds (An.Laws.lowered (refused 14))) wrong 2) []) $ frees-all ! E (held (holds (An.Laws.lowered (refused 14))) wrong 2) $
+        ends-with ! (Rest bytes) E (held (holds (An.Laws.lowered (refused 14))) wrong 2) $
         by ! (exits bytes (refused 14) (An.Laws.lowered (refused 14)) (wrong-promises c d ys bytes (wrong-length c _ (eqb-false (length ys) imageSize e)) (getAttr group attr) tt) refl g))
 
     -- the length is looked at
@@ -173,11 +161,8 @@ module _ {M : Type 1} (𝓤 : URA M) (H : Heap 𝓤) (A : Atoms 𝓤) (W : Given
       -- [out's token; true; t's; d's; c's; the parameters']
       move ! (5 ∷ []) $ fsplit ! $ move ! (1 ∷ []) $ fsplit ! $ move ! (1 ∷ []) $ fsplit ! $ drop ! $ fsplit ! $ drop ! $ fsplit ! $ drop ! $ fsplit ! $
       -- [out's; true; d's; c's; the tokens o; true; t; d; c]
-      keep ! (7 ∷ 2 ∷ 3 ∷ 8 ∷ 0 ∷ 4 ∷ 6 ∷ []) $
-      enter ! C′ Λ f.Code.function (vptr bc oc ∷ vptr bd od ∷ s ∷ vint w32 group ∷ vint w64 attr ∷ out ∷ []) _ $
-      alloc1 ! (λ l₀. alloc1 ! (λ l₁. alloc1 ! (λ l₂. alloc1 ! (λ l₃. alloc1 ! (λ l₄. alloc1 ! (λ l₅. alloc1 ! (λ l₆. alloc1 ! (λ l₇. alloc1 ! (λ l₈. alloc1 ! (λ l₉. alloc1 ! (λ l₁₀. alloc1 ! (λ l₁₁. alloc1 ! (λ l₁₂. alloc1 ! (λ l₁₃. alloc1 ! (λ l₁₄. alloc1 ! (λ l₁₅. alloc0 ! $ params1 ! $
-      pass1 ! (init ! 28 refl (tt, tt)) $ pass1 ! (init ! 26 refl (tt, tt)) $ pass1 ! (init ! 24 refl (tt, (tt, (record { fits = room .0 }, tt)))) $ pass1 ! (init ! 22 refl (tt, record { fits = group-fits })) $ pass1 ! (init ! 20 refl (tt, record { fits = attr-fits })) $ pass1 ! (init ! 18 refl (tt, (tt, (record { fits = room-o .0 }, tt)))) $ pass0 ! $
-      keep ! (32 ∷ 33 ∷ 34 ∷ 35 ∷ 36 ∷ 37 ∷ 38 ∷ 30 ∷ 31 ∷ 28 ∷ 29 ∷ 26 ∷ 27 ∷ 24 ∷ 25 ∷ 22 ∷ 23 ∷ 20 ∷ 21 ∷ 18 ∷ 19 ∷ 16 ∷ 17 ∷ 14 ∷ 15 ∷ 12 ∷ 13 ∷ 10 ∷ 11 ∷ 8 ∷ 9 ∷ 6 ∷ 7 ∷ 4 ∷ 5 ∷ 2 ∷ 3 ∷ 0 ∷ 1 ∷ []) $ starts C′ Λ fm known-refuse known-read known l₀ l₁ l₂ l₃ l₄ l₅ l₆ l₇ l₈ l₉ l₁₀ l₁₁ l₁₂ l₁₃ l₁₄ l₁₅))))))))))))))))
+      keep ! (7 ∷ 2 ∷ 3 ∷ 8 ∷ 0 ∷ 4 ∷ 6 ∷ []) $ enter ! C′ Λ f.Code.function (vptr bc oc ∷ vptr bd od ∷ s ∷ vint w32 group ∷ vint w64 attr ∷ out ∷ []) _ $
+      sets-up ! _ An.Laws.mir (params-of f.Code.function) (others f.Code.function) _ ((tt, tt), ((tt, tt), ((tt, (tt, (record { fits = room .0 }, tt))), ((tt, record { fits = group-fits }), ((tt, record { fits = attr-fits }), ((tt, (tt, (record { fits = room-o .0 }, tt))), tt)))))) (starts C′ Λ fm known-refuse known-read known)
 
 pub flic-get-spec : {M : Type 1} → f.Statement.statement M
 unfolding f.Code.routine tablesOf

@@ -1,7 +1,7 @@
 -- `flic_make`: the length of the table is looked at, all is opened, the arrays are made fresh, the capability, the device record and the table are stored, and all is closed.
-use Rattle.flic.proofs.Walk.{_≡_, refl, sym, ap, ℕ, _+_, Bool, false, [], _∷_, List, length, URA, fullShare, named, erased, w8, w64, tyInt, tyBool, tyUnit, tyRef, mut, Val, vunit, vint, vbool, vptr, SProp, ent, emp, via, fst∗, id⊢, ftrue, fat, Memory, Routine, Heap, Env, Calls, Loops, Wp, WpFn, afterSeq, atReturn, Atoms, Fun, givenOf, tablesOf, Given, Sq, runs, atRet, anyQ, ‵, ⋆, _$_, _∵_, !, qed, by, move, keep, drop, join, rewrite, fjoin, suffices, frame, done, look, store, init, stop, hop, fld, from, load, lit, bin, addr, of-opd, and-then, no-more, assigns, first, skips, branches, exec, land, returns, returns-within, enter, alloc1, alloc0, params1, pass1, pass0, agg, whole, sub, look-in, FmC, owns, Is, pointee, bool, bool-vals, bool-tells, RefT, sliceTy, Room, ptr-vals, mut-tells, slice-vals, mut-slice-tells, plain, only, owned, nothing, unit, onEntry, tripleOf, Contract, Triple, cited, says, Stays, stay-ref, stay-slice, stay-dropped, walkOf, goes-ref, goes-slice, goes-dropped, ends-at, yes, tyArray}
-use Rattle.lent_table.proofs.{Ends.concludes, Record.StoreDevice, Record.stores-device, Calls.Clear, Calls.clears, Called.asks-nothing, Called.calls-plain, Count.taken, Tables.length-restored}
-use Rattle.lent_table.proofs.Locals.{Content, blank, holds, since, locals, frees-all, swaps, holds-false, not-not, zero-fits, unit-typed}
+use Rattle.flic.proofs.Walk.{_≡_, refl, sym, ap, ℕ, _+_, Bool, false, [], _∷_, List, length, URA, fullShare, named, w64, tyUnit, Val, vunit, vint, vbool, vptr, SProp, ent, emp, via, fst∗, id⊢, ftrue, fat, Memory, Routine, Heap, Env, Calls, Loops, WpFn, Atoms, Fun, givenOf, tablesOf, Given, Sq, runs, atRet, ‵, ⋆, _$_, _∵_, !, qed, by, move, keep, drop, join, rewrite, fjoin, suffices, frame, done, look, store, init, stop, hop, fld, from, load, lit, bin, addr, of-opd, and-then, no-more, assigns, first, skips, branches, exec, land, returns, returns-within, enter, agg, whole, sub, look-in, FmC, owns, Is, bool, bool-vals, bool-tells, RefT, Room, ptr-vals, mut-tells, slice-vals, mut-slice-tells, plain, only, owned, nothing, unit, onEntry, tripleOf, Contract, Triple, cited, says, Stays, stay-ref, stay-slice, stay-dropped, walkOf, goes-ref, goes-slice, goes-dropped, ends-at, yes}
+use Rattle.lent_table.proofs.{Ends.concludes, Shell.others, Record.StoreDevice, Record.stores-device, Calls.Clear, Calls.clears, Called.asks-nothing, Called.calls-plain, Count.taken, Tables.length-restored}
+use Rattle.lent_table.proofs.Locals.{Blocks, Content, blank, holds, since, locals, holds-false, not-not, zero-fits, unit-typed, ends-with, sets-up}
 use Rattle.numbers.proofs.Basics.{not, eqb, arith, eqb-true, eqb-false, replicate, _∙_}
 use denote.Struct.Laws as LL
 use Rattle.rules.specs.State.{paperLimits, nothing as none-pending}
@@ -18,7 +18,7 @@ use Rattle.store.specs.Memory.{pendingOf}
 use Rattle.store_queues.specs.Queues.{Held}
 use Rattle.flic.specs.Surface.{Made}
 use Rattle.calls.proofs.Controller as C
-use Rattle.flic.proofs.{Promises.freshDevice, Promises.make-promises, Promises.wrong-makes, Opened.Has}
+use Rattle.flic.proofs.{Promises.freshDevice, Promises.make-promises, Promises.wrong-makes, Opened.Has, Frame.params-of, Frame.laid, Frame.refers, Frame.then-runs}
 use Rattle.flic.proofs.All.{Refs, refs, at-ctl, at-dev, at-tab, table, Owned, Tokens, Passed, Open, Closed, takes-all, opens-all, closes-all, gives-all}
 use Rattle.flic.proofs.Four.{Ways, mutably, apart, Loan, lent-lfts, lent-shares, lent-args, lent-vals, calls-four}
 use Rattle.answers.proofs.refuse as refuse
@@ -86,26 +86,21 @@ module _ {M : Type 1} (𝓤 : URA M) (H : Heap 𝓤) (A : Atoms 𝓤) (W : Given
   abbrev wrong : Bool
   wrong = not (eqb (length (a .t)) imageSize)
 
-  module _ (C′ : Calls 𝓤 H) (Λ : Loops 𝓤 H) (fm : FmC 𝓤 H (W .laws) C′) (known : Known 𝓤 H A mem′ run C′) (l₀ l₁ l₂ l₃ l₄ l₅ l₆ l₇ l₈ l₉ l₁₀ l₁₁ l₁₂ l₁₃ l₁₄ : ℕ) where
+  module _ (C′ : Calls 𝓤 H) (Λ : Loops 𝓤 H) (fm : FmC 𝓤 H (W .laws) C′) (known : Known 𝓤 H A mem′ run C′) (l₀ : ℕ) (bs : Blocks (params-of f.Code.function)) (cs : Blocks (others f.Code.function)) where
     abbrev E : Env 𝓤 H
-    E = (An.Laws.mir, l₀) ∷ (tyRef (named 0) mut (pointee (C.the-row .written)), l₁) ∷ (tyRef (named 1) mut (pointee (D.the-row .written)), l₂) ∷ (sliceTy (tyRef (named 2) mut (pointee (P.the-row .written))), l₃) ∷ (tyBool, l₄) ∷ (tyInt w64, l₅) ∷ (tyBool, l₆) ∷ (tyUnit, l₇)
-        ∷ (tyRef erased mut (tyArray (tyInt w8) 2560), l₈) ∷ (tyRef erased mut (tyArray (tyInt w64) 11), l₉) ∷ (tyRef erased mut (tyArray (tyInt w8) 146), l₁₀) ∷ (tyRef erased mut (pointee (D.the-row .written)), l₁₁) ∷ (D.Laws.mir, l₁₂)
-        ∷ (tyRef erased mut (pointee (P.the-row .written)), l₁₃) ∷ (sliceTy (tyRef erased mut (pointee (P.the-row .written))), l₁₄) ∷ []
+    E = laid f.Code.function An.Laws.mir l₀ bs cs
 
     -- what the locals hold after n of their assignments, with the result's content
     abbrev held : Content → ℕ → List Content
     held v₀ n = v₀ ∷ holds (vptr (a .bc) (a .oc)) ∷ holds (vptr (a .bd) (a .od)) ∷ holds (table a) ∷ holds (vbool ais) ∷ since 1 n (vint w64 (length (a .t))) ∷ since 2 n (vbool wrong) ∷ since 6 n vunit
         ∷ since 3 n (vptr (a .bc) (a .oc + 18432)) ∷ since 4 n (vptr (a .bc) (a .oc + 20992)) ∷ since 5 n (vptr (a .bc) (a .oc + 21080)) ∷ since 7 n (vptr (a .bd) (a .od)) ∷ since 8 n (D.Laws.lowered freshDevice) ∷ since 9 n (vptr (a .bt) (a .ot)) ∷ since 10 n (table a) ∷ []
 
-    abbrev Then : types.Kit.Post 𝓤 H
-    Then = anyQ (afterSeq 𝓤 H (Wp 𝓤 H C′ Λ E f.Code.Mir.t-4 (atReturn 𝓤 H E Post)) (atReturn 𝓤 H E Post))
-
-    refuses-it : eqb (length (a .t)) imageSize ≡ false → Sq W (Passed a (locals E (held blank 2) [])) (runs C′ Λ E (taken f.Code.Mir.s-3) Then)
+    refuses-it : eqb (length (a .t)) imageSize ≡ false → Sq W (Passed a (locals E (held blank 2) [])) (runs C′ Λ E (taken f.Code.Mir.s-3) (then-runs C′ Λ E Post f.Code.Mir.t-4))
     refuses-it e =
         refuses ! mem′ run fm (known .refuse) 14 (omega arith) (λ i. (and-then ! (lit ! tt) (no-more !))) (λ g.
         land ! (from ! (stop !)) (init ! 6 refl (LL.lawful An.the-type An.Laws.the-laws 𝓤 H A W .typed (refused 14) _ g .0)) $
         opens-all ! tt a (λ gc gd. closes-all ! tt a (a .t) (a .d) (a .c) refl gd gc $ returns-within ! Post refl (look ! 9 refl) $
-        swaps ! (Closed a (a .t) (a .d) (a .c) []) (locals E (held (holds (An.Laws.lowered (refused 14))) 2) []) $ frees-all ! E (held (holds (An.Laws.lowered (refused 14))) 2) $
+        ends-with ! (Closed a (a .t) (a .d) (a .c) []) E (held (holds (An.Laws.lowered (refused 14))) 2) $
         by ! (exits (a .c) (a .d) (a .t) (refused 14) (wrong-makes paperLimits ais (a .c) (a .d) (a .t) (λ r. eqb-false (length (a .t)) imageSize e (r ∙ paper-sized .places))) refl g)))
 
     module _ (right : length (a .t) ≡ paperLimits .places) (order counts singles : List ℕ) (made : Freshly order counts singles) where
@@ -124,8 +119,7 @@ module _ {M : Type 1} (𝓤 : URA M) (H : Heap 𝓤) (A : Atoms 𝓤) (W : Given
           clears ! mem′ run fm (known .clear) (a .t) (a .bt) (a .ot) room (λ _ _. (and-then ! (load ! (from ! (stop !)) (look ! 46 refl)) (no-more !))) (land ! (from ! (stop !)) (store ! 31 refl (tt, tt)) $
           accepts ! mem′ run fm (known .accept) 0 zero-fits (λ i. (and-then ! (lit ! tt) (no-more !))) (λ g.
           land ! (from ! (stop !)) (init ! 17 refl (LL.lawful An.the-type An.Laws.the-laws 𝓤 H A W .typed (accepted 0) _ g .0)) $
-          closes-all ! tt a zs freshDevice (c₁ ais) len gm gc $ returns ! (look ! 9 refl) $
-          swaps ! (Closed a zs freshDevice (c₁ ais) []) (locals E (held (holds (An.Laws.lowered (accepted 0))) 10) []) $ frees-all ! E (held (holds (An.Laws.lowered (accepted 0))) 10) $
+          closes-all ! tt a zs freshDevice (c₁ ais) len gm gc $ returns ! (look ! 9 refl) $ ends-with ! (Closed a zs freshDevice (c₁ ais) []) E (held (holds (An.Laws.lowered (accepted 0))) 10) $
           by ! (exits (c₁ ais) freshDevice zs (accepted 0) (make-promises (a .c) (c₁ ais) (a .d) (a .t) right (made .0) (made .1)) len g)))
 
       -- the capability and the device record are stored
@@ -135,7 +129,7 @@ module _ {M : Type 1} (𝓤 : URA M) (H : Heap 𝓤) (A : Atoms 𝓤) (W : Given
           assigns ! (addr ! (from ! (hop ! (look ! 21 refl) (stop !)))) (from ! (stop !)) (init ! 39 refl (tt, tt)) $
           calls-plain ! fm (FreshDevice 𝓤 H A mem′ run) (known .fresh-device) ((tt, tt, tt, tt, tt), tt) (qed W [] ∵ nothing ! $ nothing ! $ join ! $ frame ! $ done !) D.the-row (λ w. ftrue) (λ z w. z ≡ freshDevice) (λ v. id⊢ 𝓤 _) (λ i. no-more !) (λ z v w e is.
           land ! (from ! (stop !)) (init ! 41 refl (LL.lawful D.the-type D.Laws.the-laws 𝓤 H A W .typed z _ is .0)) $
-          rewrite ! 41 (λ (u : Val). ‵ (fat fullShare D.Laws.mir l₁₂ 0 u)) (ap only (LL.tells D.the-type D.Laws.the-laws z (v ∷ []) is) ∙ ap D.Laws.lowered e) refl $
+          rewrite ! 41 (λ (u : Val). ‵ (fat fullShare D.Laws.mir (cs .1 .1 .1 .1 .1 .1 .1 .0) 0 u)) (ap only (LL.tells D.the-type D.Laws.the-laws z (v ∷ []) is) ∙ ap D.Laws.lowered e) refl $
           move ! (1 ∷ []) $ stores-device ! mem′ run fm (known .store-device) (a .d) freshDevice (a .bd) (a .od) gd fresh-fits (λ _ _. (and-then ! (load ! (from ! (stop !)) (look ! 40 refl)) (and-then ! (load ! (from ! (stop !)) (look ! 42 refl)) (no-more !))))
           (λ gm. land ! (from ! (stop !)) (store ! 31 refl (tt, tt)) $ move ! (1 ∷ []) $ clears-it gc gm))
 
@@ -144,9 +138,9 @@ module _ {M : Type 1} (𝓤 : URA M) (H : Heap 𝓤) (A : Atoms 𝓤) (W : Given
         nothing ! $ nothing ! $
         -- [true; true; the table; the device record; what closes each; the arrays from 10; …]
         move ! (10 ∷ 11 ∷ 12 ∷ 13 ∷ 0 ∷ 1 ∷ []) $
-        calls-four ways ! fm (Fresh 𝓤 H A mem′ run) (known .fresh) to-fresh (a .c) gc (a .bc) (a .oc) unit (‵ ftrue) ftrue {Y = Unit {0}} (λ y. ftrue) (λ z w. Freshly (w .0) (w .1 .0) (w .1 .1 .0)) (λ n. asks-nothing 𝓤 _) (λ n v. id⊢ 𝓤 _) (λ n i.
+        calls-four ways ! fm (Fresh 𝓤 H A mem′ run) (known .fresh) to-fresh (a .c) gc (a .bc) (a .oc) unit {Y = Unit {0}} (λ y. ftrue) (λ z w. Freshly (w .0) (w .1 .0) (w .1 .1 .0)) (λ n. asks-nothing 𝓤 _) (λ n v. id⊢ 𝓤 _) (λ n i.
         (and-then ! (load ! (from ! (stop !)) (look ! 34 refl)) (and-then ! (load ! (from ! (stop !)) (look ! 36 refl)) (and-then ! (load ! (from ! (stop !)) (look ! 38 refl)) (no-more !))))) (λ z v w φ g′ is.
-        land ! (from ! (stop !)) (init ! 33 refl (unit-typed is)) $ rewrite ! 33 (λ (u : Val). ‵ (fat fullShare tyUnit l₇ 0 u)) (ap only is) refl $
+        land ! (from ! (stop !)) (init ! 33 refl (unit-typed is)) $ rewrite ! 33 (λ (u : Val). ‵ (fat fullShare tyUnit (cs .1 .1 .0) 0 u)) (ap only is) refl $
         -- [the arrays; true; the rest's last values; the table; …]
         move ! (5 ∷ []) $ drop ! $ move ! (4 ∷ []) $ drop ! $ move ! (4 ∷ 5 ∷ 6 ∷ 7 ∷ 8 ∷ 9 ∷ 10 ∷ 11 ∷ 0 ∷ 1 ∷ 2 ∷ 3 ∷ []) $ stores-it right (w .0) (w .1 .0) (w .1 .1 .0) φ g′ gd)
 
@@ -157,19 +151,14 @@ module _ {M : Type 1} (𝓤 : URA M) (H : Heap 𝓤) (A : Atoms 𝓤) (W : Given
         assigns ! (bin ! (load ! (from ! (stop !)) (look ! 16 refl)) (lit ! tt) tt) (from ! (stop !)) (init ! 18 refl (tt, tt)) $
         first ! $ branches ! (load ! (from ! (stop !)) (look ! 18 refl)) (λ t. refuses-it (holds-false (eqb (length (a .t)) imageSize) t))
         (λ t. skips ! $ exec ! C′ Λ E f.Code.Mir.t-4 (atRet E Post) $ opens-all ! tt a (λ gc gd.
-        assigns ! (addr ! (from ! (hop ! (look ! 19 refl) (fld ! refl (stop !))))) (from ! (stop !)) (init ! 33 refl (tt, tt)) $
-        assigns ! (addr ! (from ! (hop ! (look ! 19 refl) (fld ! refl (stop !))))) (from ! (stop !)) (init ! 35 refl (tt, tt)) $
-        assigns ! (addr ! (from ! (hop ! (look ! 19 refl) (fld ! refl (stop !))))) (from ! (stop !)) (init ! 37 refl (tt, tt)) $
+        refers ! 19 33 refl refl refl (tt, tt) $ refers ! 19 35 refl refl refl (tt, tt) $ refers ! 19 37 refl refl refl (tt, tt) $
         calls-it (eqb-true (length (a .t)) imageSize (not-not (eqb (length (a .t)) imageSize) t) ∙ sym (paper-sized .places)) gc gd))
 
   walk : (C′ : Calls 𝓤 H) (Λ : Loops 𝓤 H) (fm : FmC 𝓤 H (W .laws) C′) → Known 𝓤 H A mem′ run C′ → ent 𝓤 (onEntry 𝓤 H A f.signature (bound .0 .0) (bound .0 .1) x at) (WpFn 𝓤 H C′ Λ f.Code.function (vptr (a .bc) (a .oc) ∷ vptr (a .bd) (a .od) ∷ table a ∷ vbool ais ∷ []) Post)
   walk C′ Λ fm known =
       qed W (Tokens a (‵ ftrue) ∷ ‵ (Owned a (a .c) (a .d) (a .t) (owns (bool ∷ []) (x .1 .1 .1) (at .1 .1 .1))) ∷ []) ∵
       takes-all ! a $ keep ! (0 ∷ 1 ∷ 2 ∷ 3 ∷ 4 ∷ 5 ∷ []) $ enter ! C′ Λ f.Code.function (vptr (a .bc) (a .oc) ∷ vptr (a .bd) (a .od) ∷ table a ∷ vbool ais ∷ []) _ $
-      alloc1 ! (λ l₀. alloc1 ! (λ l₁. alloc1 ! (λ l₂. alloc1 ! (λ l₃. alloc1 ! (λ l₄. alloc1 ! (λ l₅. alloc1 ! (λ l₆. alloc1 ! (λ l₇. alloc1 ! (λ l₈. alloc1 ! (λ l₉. alloc1 ! (λ l₁₀. alloc1 ! (λ l₁₁. alloc1 ! (λ l₁₂. alloc1 ! (λ l₁₃. alloc1 ! (λ l₁₄. alloc0 ! $ params1 ! $
-      pass1 ! (init ! 26 refl (tt, tt)) $ pass1 ! (init ! 24 refl (tt, tt)) $ pass1 ! (init ! 22 refl (tt, (tt, (record { fits = room .0 }, tt)))) $ pass1 ! (init ! 20 refl (tt, tt)) $ pass0 ! $
-      keep ! (30 ∷ 31 ∷ 32 ∷ 33 ∷ 34 ∷ 35 ∷ 28 ∷ 29 ∷ 26 ∷ 27 ∷ 24 ∷ 25 ∷ 22 ∷ 23 ∷ 20 ∷ 21 ∷ 18 ∷ 19 ∷ 16 ∷ 17 ∷ 14 ∷ 15 ∷ 12 ∷ 13 ∷ 10 ∷ 11 ∷ 8 ∷ 9 ∷ 6 ∷ 7 ∷ 4 ∷ 5 ∷ 2 ∷ 3 ∷ 0 ∷ 1 ∷ []) $
-      starts C′ Λ fm known l₀ l₁ l₂ l₃ l₄ l₅ l₆ l₇ l₈ l₉ l₁₀ l₁₁ l₁₂ l₁₃ l₁₄)))))))))))))))
+      sets-up ! _ An.Laws.mir (params-of f.Code.function) (others f.Code.function) _ ((tt, tt), ((tt, tt), ((tt, (tt, (record { fits = room .0 }, tt))), ((tt, tt), tt)))) (starts C′ Λ fm known)
 
 pub flic-make-spec : {M : Type 1} → f.Statement.statement M
 unfolding f.Code.routine tablesOf

@@ -1,10 +1,10 @@
 -- `flic_play_list`: the length of the table is looked at, all is opened, and `play_list` is called with an image of unused places. Where the controller was made fresh, the device
 -- record and the table are stored. Then all is closed.
-use Rattle.flic.proofs.Walk.{_≡_, refl, ap, subst, ℕ, _+_, Bool, true, false, [], _∷_, List, length, URA, fullShare, named, erased, w8, w64, tyInt, tyBool, tyUnit, tyRef, imm, mut, Val, vunit, vint, vbool, vptr, SProp, ent, id⊢, GName, Lft, Share, Fml, ftrue, fsep, flft, fres, fat, Memory, Routine, Heap, Env, Calls, Loops, Wp, WpFn, afterSeq, atReturn, Atoms, Fun, givenOf, tablesOf, Given, Item, Sq, runs, atRet, anyQ, ‵, ⋆, _⊛_, _$_, _∵_, !, qed, by, move, keep, drop, split, join, rewrite, fsplit, fjoin, suffices, frame, done, look, store, init, stop, hop, fld, from, load, lit, bin, addr, of-opd, and-then, no-more, assigns, first, skips, branches, exec, land, returns, returns-within, enter, alloc1, alloc0, params1, pass1, pass0, agg, whole, sub, look-in, FmC, owns, Is, pointee, u8, u64, bool, uint-makes, bool-makes, RefT, MutRef, sliceVal, sliceTy, ShrSlice, Room, ptr-vals, mut-tells, slice-vals, mut-slice-tells, shr-slice-tells, plain, only, owned, nothing, onEntry, tripleOf, Contract, Triple, cited, needs, says, Stays, stay-ref, stay-slice, stay-dropped, walkOf, goes-ref, goes-slice, goes-dropped, ends-at, yes, tyArray}
+use Rattle.flic.proofs.Walk.{_≡_, refl, ap, subst, ℕ, _+_, Bool, true, false, [], _∷_, List, length, URA, fullShare, named, w64, Val, vunit, vint, vbool, vptr, SProp, ent, id⊢, GName, Lft, Share, Fml, ftrue, fsep, flft, fat, Memory, Routine, Heap, Env, Calls, Loops, WpFn, Atoms, Fun, givenOf, tablesOf, Given, Item, Sq, runs, atRet, ‵, ⋆, _⊛_, _$_, _∵_, !, qed, by, move, keep, drop, split, join, rewrite, fsplit, fjoin, suffices, frame, done, look, store, init, stop, hop, fld, from, load, lit, bin, addr, of-opd, and-then, no-more, assigns, first, skips, branches, exec, land, returns, returns-within, enter, agg, whole, sub, look-in, FmC, owns, Is, u8, u64, bool, uint-makes, bool-makes, RefT, sliceVal, ShrSlice, Room, ptr-vals, mut-tells, slice-vals, mut-slice-tells, shr-slice-tells, plain, only, owned, nothing, onEntry, tripleOf, Contract, Triple, cited, needs, says, Stays, stay-ref, stay-slice, stay-dropped, walkOf, goes-ref, goes-slice, goes-dropped, ends-at, yes}
 use types.Run.{un}
-use Rattle.lent_table.proofs.{Ends.concludes, Record.StoreDevice, Record.stores-device, Calls.Restore, Calls.restores, Count.taken, Tables.length-restored}
-use Rattle.lent_table.proofs.Images.{imageTy, low-image, FitsImage, image-typed, Empty, takes-empty}
-use Rattle.lent_table.proofs.Locals.{Content, blank, holds, since, locals, frees-all, swaps, holds-false, not-not}
+use Rattle.lent_table.proofs.{Ends.concludes, Shell.others, Record.StoreDevice, Record.stores-device, Calls.Restore, Calls.restores, Count.taken, Tables.length-restored}
+use Rattle.lent_table.proofs.Images.{low-image, FitsImage, image-typed, Empty, takes-empty}
+use Rattle.lent_table.proofs.Locals.{Blocks, Content, blank, holds, since, locals, frees-all, swaps, holds-false, not-not, sets-up}
 use Rattle.numbers.proofs.Basics.{arith, not, eqb, eqb-true, eqb-false, replicate}
 use denote.Struct.Laws as LL
 use denote.Signature.{shrSliceOf}
@@ -23,9 +23,9 @@ use Rattle.list_play.specs.declared.Played.{Played}
 use Rattle.flic.specs.Surface.{Valid, Requested}
 use Rattle.calls.proofs.Controller as C
 use Rattle.list_play.proofs.Played as St
-use Rattle.flic.proofs.{Promises.Replayed, Promises.same-promises, Promises.play-promises, Promises.wrong-promises, Opened.Has, Ints.Ints}
+use Rattle.flic.proofs.{Promises.Replayed, Promises.same-promises, Promises.play-promises, Promises.wrong-promises, Opened.Has, Calls.asks-that, Frame.params-of, Frame.laid, Frame.refers, Frame.then-runs}
 use Rattle.flic.proofs.All.{Refs, refs, at-ctl, at-dev, at-tab, table, Owned, Tokens, Passed, Open, Closed, opens-all, closes-all, takes-all, gives-all}
-use Rattle.flic.proofs.Four.{all, mutably, at-array, lends-array, array-back, Loan, Toks, Lent, left-by, lent-lfts, lent-shares, lent-args, lent-vals, calls-four}
+use Rattle.flic.proofs.Four.{said-of, all, mutably, at-array, lends-array, array-back, Loan, left-by, lent-lfts, lent-shares, lent-args, lent-vals, calls-four}
 use Rattle.answers.proofs.refuse as refuse
 use Rattle.lent_requests.proofs.Answered.{refused, Refuse, refuses}
 use Rattle.lent_table.proofs.store_device as store-device
@@ -84,20 +84,11 @@ module _ {M : Type 1} (𝓤 : URA M) (H : Heap 𝓤) (A : Atoms 𝓤) (W : Given
   abbrev T : Item 𝓤
   T = ‵ (flft κp qp) ⊛ ‵ ftrue
 
-  abbrev O : Fml
-  O = fsep (u64 .own imageSize (vint w64 imageSize ∷ [])) (fsep (u64 .own 256 (vint w64 256 ∷ [])) (fsep (bool .own (a .c .ais) (vbool (a .c .ais) ∷ [])) (fsep OwnP ftrue)))
-
-  abbrev O-image : (l ν : ℕ) → GName → Fml
-  O-image l ν δ = fsep (MutRef (named 0) (ν ∷ []) (Ints w64 imageSize) .own (at-array l 0 δ zeros) (vptr l 0 ∷ [])) O
-
   abbrev Y : Type 0
   Y = Unit {0} × (Unit {0} × (Unit {0} × (Unit {0} × Unit {0})))
 
   abbrev Leaves : Y → Fml
   Leaves y = fsep ftrue (fsep ftrue (fsep ftrue (fsep ftrue ftrue)))
-
-  abbrev Leaves-image : GName → List ℕ × Y → Fml
-  Leaves-image δ y = fsep (fres δ (Ints w64 imageSize .coded .code (y .0))) (Leaves (y .1))
 
   abbrev to-play : (l ν : ℕ) → GName → Loan → PlayList 𝓤 H A mem′ run .Ghost
   to-play l ν δ n = ((lent-lfts (all mutably) n (ν ∷ [], (κp, tt)), lent-shares (all mutably) (fullShare, (qp, tt)), tt, lent-args (all mutably) n (a .c) (a .bc) (a .oc) (at-array l 0 δ zeros, (imageSize, (256, (a .c .ais, (at-array bp op γp ps, tt))))), lent-vals (all mutably) (a .bc) (a .oc) (vptr l 0 ∷ [], (vint w64 imageSize ∷ [], (vint w64 256 ∷ [], (vbool (a .c .ais) ∷ [], (sp ∷ [], tt)))))), tt)
@@ -106,29 +97,21 @@ module _ {M : Type 1} (𝓤 : URA M) (H : Heap 𝓤) (A : Atoms 𝓤) (W : Given
   abbrev wrong : Bool
   wrong = not (eqb (length (a .t)) imageSize)
 
-  module _ (C′ : Calls 𝓤 H) (Λ : Loops 𝓤 H) (fm : FmC 𝓤 H (W .laws) C′) (known : Known 𝓤 H A mem′ run C′) (l₀ l₁ l₂ l₃ l₄ l₅ l₆ l₇ l₈ l₉ l₁₀ l₁₁ l₁₂ l₁₃ l₁₄ l₁₅ l₁₆ l₁₇ l₁₈ l₁₉ : ℕ) where
+  module _ (C′ : Calls 𝓤 H) (Λ : Loops 𝓤 H) (fm : FmC 𝓤 H (W .laws) C′) (known : Known 𝓤 H A mem′ run C′) (l₀ : ℕ) (bs : Blocks (params-of f.Code.function)) (cs : Blocks (others f.Code.function)) where
     abbrev E : Env 𝓤 H
-    E = (An.Laws.mir, l₀) ∷ (tyRef (named 0) mut (pointee (C.the-row .written)), l₁) ∷ (tyRef (named 1) mut (pointee (D.the-row .written)), l₂) ∷ (sliceTy (tyRef (named 2) mut (pointee (P.the-row .written))), l₃) ∷ (sliceTy (tyRef (named 3) imm (tyInt w8)), l₄) ∷ (imageTy, l₅) ∷ (St.Laws.mir, l₆) ∷ (tyInt w64, l₇) ∷ (tyBool, l₈) ∷ (imageTy, l₉)
-        ∷ (tyRef erased mut (tyArray (tyInt w8) 18432), l₁₀) ∷ (tyRef erased mut (tyArray (tyInt w8) 2560), l₁₁) ∷ (tyRef erased mut (tyArray (tyInt w64) 11), l₁₂) ∷ (tyRef erased mut (tyArray (tyInt w8) 146), l₁₃) ∷ (tyRef erased mut imageTy, l₁₄)
-        ∷ (tyUnit, l₁₅) ∷ (tyRef erased mut (pointee (D.the-row .written)), l₁₆) ∷ (tyRef erased mut (pointee (P.the-row .written)), l₁₇) ∷ (sliceTy (tyRef erased mut (pointee (P.the-row .written))), l₁₈) ∷ (tyRef erased imm imageTy, l₁₉) ∷ []
+    E = laid f.Code.function An.Laws.mir l₀ bs cs
 
     -- what the locals hold after n statements, with the contents of the result, of the image, of what was played, and of the flag
     abbrev held : Content → Content → Content → Content → ℕ → List Content
     held v₀ v₅ v₆ v₈ n = v₀ ∷ holds (vptr (a .bc) (a .oc)) ∷ holds (vptr (a .bd) (a .od)) ∷ holds (table a) ∷ holds sp ∷ v₅ ∷ v₆ ∷ since 1 n (vint w64 (length (a .t))) ∷ v₈ ∷ since 4 n (low-image zeros)
-        ∷ since 6 n (vptr (a .bc) (a .oc + 0)) ∷ since 7 n (vptr (a .bc) (a .oc + 18432)) ∷ since 8 n (vptr (a .bc) (a .oc + 20992)) ∷ since 9 n (vptr (a .bc) (a .oc + 21080)) ∷ since 10 n (vptr l₅ 0)
-        ∷ since 16 n vunit ∷ since 15 n (vptr (a .bd) (a .od)) ∷ since 17 n (vptr (a .bt) (a .ot)) ∷ since 18 n (table a) ∷ since 19 n (vptr l₅ 0) ∷ []
+        ∷ since 6 n (vptr (a .bc) (a .oc + 0)) ∷ since 7 n (vptr (a .bc) (a .oc + 18432)) ∷ since 8 n (vptr (a .bc) (a .oc + 20992)) ∷ since 9 n (vptr (a .bc) (a .oc + 21080)) ∷ since 10 n (vptr (cs .0) 0)
+        ∷ since 16 n vunit ∷ since 15 n (vptr (a .bd) (a .od)) ∷ since 17 n (vptr (a .bt) (a .ot)) ∷ since 18 n (table a) ∷ since 19 n (vptr (cs .0) 0) ∷ []
 
     -- what is held besides: the list's token
     abbrev X : List (Item 𝓤)
     X = ‵ (flft κp qp) ∷ []
 
-    abbrev Then : types.Kit.Post 𝓤 H
-    Then = anyQ (afterSeq 𝓤 H (Wp 𝓤 H C′ Λ E f.Code.Mir.t-4 (atReturn 𝓤 H E Post)) (atReturn 𝓤 H E Post))
-
-    abbrev Then-stored : types.Kit.Post 𝓤 H
-    Then-stored = anyQ (afterSeq 𝓤 H (Wp 𝓤 H C′ Λ E f.Code.Mir.t-15 (atReturn 𝓤 H E Post)) (atReturn 𝓤 H E Post))
-
-    refuses-it : eqb (length (a .t)) imageSize ≡ false → Sq W (Passed a (locals E (held blank blank blank (holds (vbool wrong)) 2) (‵ (flft κp qp) ∷ ‵ OwnP ∷ []))) (runs C′ Λ E (taken f.Code.Mir.s-3) Then)
+    refuses-it : eqb (length (a .t)) imageSize ≡ false → Sq W (Passed a (locals E (held blank blank blank (holds (vbool wrong)) 2) (‵ (flft κp qp) ∷ ‵ OwnP ∷ []))) (runs C′ Λ E (taken f.Code.Mir.s-3) (then-runs C′ Λ E Post f.Code.Mir.t-4))
     refuses-it e =
         let ended = held (holds (An.Laws.lowered (refused 14))) blank blank (holds (vbool wrong)) 2 in
         refuses ! mem′ run fm (known .refuse) 14 (omega arith) (λ i. (and-then ! (lit ! tt) (no-more !))) (λ g.
@@ -153,7 +136,7 @@ module _ {M : Type 1} (𝓤 : URA M) (H : Heap 𝓤) (A : Atoms 𝓤) (W : Given
         told v₀ flag n = held v₀ (holds (low-image image)) (holds (St.Laws.lowered r)) (holds (vbool flag)) n
 
         -- nothing has changed
-        keeps-it : r .fresh ≡ false → Sq W (Open H a (a .t) (a .d) c′ (locals E (told blank (not (r .fresh)) 13) X)) (runs C′ Λ E (taken f.Code.Mir.s-14) Then-stored)
+        keeps-it : r .fresh ≡ false → Sq W (Open H a (a .t) (a .d) c′ (locals E (told blank (not (r .fresh)) 13) X)) (runs C′ Λ E (taken f.Code.Mir.s-14) (then-runs C′ Λ E Post f.Code.Mir.t-15))
         keeps-it z =
             assigns ! (of-opd ! (load ! (from ! (fld ! refl (stop !))) (look-in ! 29 (sub ! 0 refl (whole !))))) (from ! (stop !)) (init ! 17 refl (LL.lawful An.the-type An.Laws.the-laws 𝓤 H A W .typed (r .answer) _ (LL.owed St.the-type St.Laws.the-laws r _ gr .0) .0)) $
             closes-all ! tt a (a .t) (a .d) c′ refl gd gc′ $ returns-within ! Post refl (look ! 9 refl) $
@@ -178,7 +161,7 @@ module _ {M : Type 1} (𝓤 : URA M) (H : Heap 𝓤) (A : Atoms 𝓤) (W : Given
             assigns ! (agg ! (and-then ! (load ! (from ! (stop !)) (look ! 51 refl)) (and-then ! (load ! (from ! (fld ! refl (stop !))) (look-in ! 23 (sub ! 1 refl (whole !)))) (no-more !)))) (from ! (stop !)) (init ! 53 refl (tt, (tt, (record { fits = room .0 }, tt)))) $
             assigns ! (addr ! (from ! (stop !))) (from ! (stop !)) (init ! 55 refl (tt, tt)) $
             -- the image's cell goes behind the table, and back
-            move ! (0 ∷ 27 ∷ []) $ restores ! mem′ run fm (known .restore) (a .t) imageSize image (a .bt) (a .ot) l₅ room (omega arith) (omega arith) gi (λ _ _ _. (and-then ! (load ! (from ! (stop !)) (look ! 54 refl)) (and-then ! (lit ! tt) (and-then ! (load ! (from ! (stop !)) (look ! 56 refl)) (no-more !)))))
+            move ! (0 ∷ 27 ∷ []) $ restores ! mem′ run fm (known .restore) (a .t) imageSize image (a .bt) (a .ot) (cs .0) room (omega arith) (omega arith) gi (λ _ _ _. (and-then ! (load ! (from ! (stop !)) (look ! 54 refl)) (and-then ! (lit ! tt) (and-then ! (load ! (from ! (stop !)) (look ! 56 refl)) (no-more !)))))
             (land ! (from ! (stop !)) (store ! 47 refl (tt, tt)) $ move ! (0 ∷ 2 ∷ 3 ∷ 4 ∷ 5 ∷ 6 ∷ 7 ∷ 8 ∷ 9 ∷ 10 ∷ 11 ∷ 12 ∷ 13 ∷ 14 ∷ 15 ∷ 16 ∷ 17 ∷ 18 ∷ 19 ∷ 20 ∷ 21 ∷ 22 ∷ 23 ∷ 24 ∷ 25 ∷ 26 ∷ 27 ∷ 1 ∷ []) $ ends n))
 
         tests-it : Sq W (Open H a (a .t) (a .d) c′ (locals E (told blank (a .c .ais) 12) X)) (runs C′ Λ E f.Code.Mir.t-13 (atRet E Post))
@@ -186,20 +169,17 @@ module _ {M : Type 1} (𝓤 : URA M) (H : Heap 𝓤) (A : Atoms 𝓤) (W : Given
             assigns ! (un ! (load ! (from ! (fld ! refl (stop !))) (look-in ! 29 (sub ! 2 refl (whole !)))) tt) (from ! (stop !)) (store ! 33 refl (tt, tt)) $
             first ! $ branches ! (load ! (from ! (stop !)) (look ! 33 refl)) (λ t. keeps-it (holds-false (r .fresh) t)) (λ t. skips ! $ exec ! C′ Λ E f.Code.Mir.t-15 (atRet E Post) $ stores-it (not-not (r .fresh) t))
 
-      goes : (ν : ℕ) (δ : GName) (n : Loan) → ent 𝓤 (⋆ 𝓤 H A (Toks (all mutably) n (‵ (flft (ν ∷ []) fullShare) ⊛ T) ∷ ‵ (Lent (all mutably) n (a .c) (a .bc) (a .oc) (O-image l₅ ν δ)) ∷ [])) (PlayList 𝓤 H A mem′ run .pre (to-play l₅ ν δ n))
-      goes ν δ n = qed W (Toks (all mutably) n (‵ (flft (ν ∷ []) fullShare) ⊛ T) ∷ ‵ (Lent (all mutably) n (a .c) (a .bc) (a .oc) (O-image l₅ ν δ)) ∷ []) ∵ says ! (omega arith, omega arith, valid right .ready, refl) $ done !
-
       calls-it : Has (a .c) → FitsImage zeros → Sq W (Open H a (a .t) (a .d) (a .c) (locals E (held blank (holds (low-image zeros)) blank (holds (vbool (a .c .ais))) 11) (‵ (flft κp qp) ∷ ‵ OwnP ∷ []))) (runs C′ Λ E f.Code.Mir.t-12 (atRet E Post))
       calls-it gc gz =
           nothing ! $ move ! (59 ∷ 0 ∷ []) $ fjoin ! $ owned ! bool (Is bool) (bool-makes 𝓤 H A W) (a .c .ais) _ refl $ fjoin ! $
           owned ! u64 (Is u64) (uint-makes 𝓤 H A W w64) 256 _ (refl, omega arith) $ fjoin ! $ owned ! u64 (Is u64) (uint-makes 𝓤 H A W w64) imageSize _ (refl, omega arith) $ fjoin ! $ nothing ! $ move ! (59 ∷ 0 ∷ []) $ join ! $
           -- [T; O; what is open, 17; the locals], and the image's cell goes to the front
-          move ! (29 ∷ 0 ∷ 1 ∷ []) $ lends-array ! tt w64 imageSize zeros gz l₅ 0 mutably (λ ν δ. move ! (11 ∷ 12 ∷ 13 ∷ 14 ∷ 0 ∷ 1 ∷ []) $
-          calls-four (all mutably) ! fm (PlayList 𝓤 H A mem′ run) (known .play-list) (to-play l₅ ν δ) (a .c) gc (a .bc) (a .oc) St.the-row (‵ (flft (ν ∷ []) fullShare) ⊛ T) (O-image l₅ ν δ) (Leaves-image δ) (λ z w. Replayed (a .c) (w .0) (w .1 .0) (w .1 .1 .0) (w .1 .1 .1 .0) (w .1 .1 .1 .1 .0) ps z) (goes ν δ) (λ n v. id⊢ 𝓤 _) (λ n i.
+          move ! (29 ∷ 0 ∷ 1 ∷ []) $ lends-array ! tt w64 imageSize zeros gz (cs .0) 0 mutably (λ ν δ. move ! (11 ∷ 12 ∷ 13 ∷ 14 ∷ 0 ∷ 1 ∷ []) $
+          calls-four (all mutably) ! fm (PlayList 𝓤 H A mem′ run) (known .play-list) (to-play (cs .0) ν δ) (a .c) gc (a .bc) (a .oc) St.the-row {Y = List ℕ × Y} (said-of mutably w64 imageSize δ Leaves) (λ z w. Replayed (a .c) (w .0) (w .1 .0) (w .1 .1 .0) (w .1 .1 .1 .0) (w .1 .1 .1 .1 .0) ps z) (λ n. asks-that 𝓤 H A W _ (omega arith, omega arith, valid right .ready, refl)) (λ n v. id⊢ 𝓤 _) (λ n i.
           (and-then ! (load ! (from ! (stop !)) (look ! 38 refl)) (and-then ! (load ! (from ! (stop !)) (look ! 40 refl)) (and-then ! (load ! (from ! (stop !)) (look ! 42 refl)) (and-then ! (load ! (from ! (stop !)) (look ! 44 refl)) (and-then ! (load ! (from ! (stop !)) (look ! 46 refl)) (and-then ! (lit ! tt) (and-then ! (lit ! tt) (and-then ! (load ! (from ! (stop !)) (look ! 34 refl)) (and-then ! (load ! (from ! (stop !)) (look ! 27 refl)) (no-more !))))))))))) (λ z v w φ g′ is.
-          land ! (from ! (stop !)) (init ! 31 refl (LL.lawful St.the-type St.Laws.the-laws 𝓤 H A W .typed z _ is .0)) $ rewrite ! 31 (λ (u : Val). ‵ (fat fullShare St.Laws.mir l₆ 0 u)) (ap only (St.Laws.lowers .val-is z (v ∷ []) is)) refl $
+          land ! (from ! (stop !)) (init ! 31 refl (LL.lawful St.the-type St.Laws.the-laws 𝓤 H A W .typed z _ is .0)) $ rewrite ! 31 (λ (u : Val). ‵ (fat fullShare St.Laws.mir (cs .1 .0) 0 u)) (ap only (St.Laws.lowers .val-is z (v ∷ []) is)) refl $
           -- [the arrays; T; what is left; what the image's lender keeps; the rest that is open; the locals]
-          move ! (4 ∷ 5 ∷ 6 ∷ []) $ array-back ! tt w64 imageSize zeros gz l₅ 0 mutably ν δ Leaves (w .1 .1 .1 .1) (λ gi.
+          move ! (4 ∷ 5 ∷ 6 ∷ []) $ array-back ! tt w64 imageSize zeros gz (cs .0) 0 mutably ν δ Leaves (w .1 .1 .1 .1) (λ gi.
           move ! (2 ∷ []) $ drop ! $ move ! (1 ∷ []) $ split ! $ move ! (1 ∷ []) $ drop ! $
           -- [the list's token; the image's cell; the arrays; the rest that is open; the locals]
           move ! (0 ∷ 6 ∷ 7 ∷ 8 ∷ 9 ∷ 10 ∷ 11 ∷ 12 ∷ 13 ∷ 2 ∷ 3 ∷ 4 ∷ 5 ∷ 14 ∷ 15 ∷ 16 ∷ 17 ∷ 18 ∷ 19 ∷ 20 ∷ 21 ∷ 22 ∷ 23 ∷ 24 ∷ 25 ∷ 26 ∷ 27 ∷ 28 ∷ 1 ∷ []) $ swaps ! (‵ (flft κp qp) ∷ []) (Open H a (a .t) (a .d) (left-by (all mutably) (List ℕ × Y) (a .c) w) (locals E (held blank (holds (low-image (w .1 .1 .1 .1 .0))) (holds (St.Laws.lowered z)) (holds (vbool (a .c .ais))) 12) [])) $
@@ -214,10 +194,7 @@ module _ {M : Type 1} (𝓤 : URA M) (H : Heap 𝓤) (A : Atoms 𝓤) (W : Given
         (λ t. skips ! $ exec ! C′ Λ E f.Code.Mir.t-4 (atRet E Post) $ takes-empty ! mem′ run fm (known .empty) (λ gz.
         land ! (from ! (stop !)) (init ! 24 refl (image-typed 𝓤 H A W zeros gz)) $ assigns ! (of-opd ! (load ! (from ! (stop !)) (look ! 24 refl))) (from ! (stop !)) (init ! 16 refl (image-typed 𝓤 H A W zeros gz)) $
         opens-all ! tt a (λ gc gd.
-        assigns ! (addr ! (from ! (hop ! (look ! 19 refl) (fld ! refl (stop !))))) (from ! (stop !)) (init ! 37 refl (tt, tt)) $
-        assigns ! (addr ! (from ! (hop ! (look ! 19 refl) (fld ! refl (stop !))))) (from ! (stop !)) (init ! 39 refl (tt, tt)) $
-        assigns ! (addr ! (from ! (hop ! (look ! 19 refl) (fld ! refl (stop !))))) (from ! (stop !)) (init ! 41 refl (tt, tt)) $
-        assigns ! (addr ! (from ! (hop ! (look ! 19 refl) (fld ! refl (stop !))))) (from ! (stop !)) (init ! 43 refl (tt, tt)) $
+        refers ! 19 37 refl refl refl (tt, tt) $ refers ! 19 39 refl refl refl (tt, tt) $ refers ! 19 41 refl refl refl (tt, tt) $ refers ! 19 43 refl refl refl (tt, tt) $
         assigns ! (addr ! (from ! (stop !))) (from ! (stop !)) (init ! 45 refl (tt, tt)) $
         assigns ! (of-opd ! (load ! (from ! (hop ! (look ! 19 refl) (fld ! refl (stop !)))) (look ! 12 refl))) (from ! (stop !)) (store ! 33 refl (tt, tt)) $
         calls-it (right-length (a .c) _ (eqb-true (length (a .t)) imageSize (not-not (eqb (length (a .t)) imageSize) t))) gd gc gz)))
@@ -227,11 +204,8 @@ module _ {M : Type 1} (𝓤 : URA M) (H : Heap 𝓤) (A : Atoms 𝓤) (W : Given
       qed W (Tokens a T ∷ ‵ (Owned a (a .c) (a .d) (a .t) (owns (ShrSlice (named 3) κp u8 ∷ []) (x .1 .1 .1) (at .1 .1 .1))) ∷ []) ∵
       takes-all ! a $ move ! (7 ∷ []) $ fsplit ! $ move ! (8 ∷ []) $ split ! $
       -- [the list's token; true; the list; true; the references]
-      keep ! (4 ∷ 5 ∷ 6 ∷ 7 ∷ 8 ∷ 9 ∷ 0 ∷ 2 ∷ []) $ enter ! C′ Λ f.Code.function (vptr (a .bc) (a .oc) ∷ vptr (a .bd) (a .od) ∷ table a ∷ sp ∷ []) _ $
-      alloc1 ! (λ l₀. alloc1 ! (λ l₁. alloc1 ! (λ l₂. alloc1 ! (λ l₃. alloc1 ! (λ l₄. alloc1 ! (λ l₅. alloc1 ! (λ l₆. alloc1 ! (λ l₇. alloc1 ! (λ l₈. alloc1 ! (λ l₉. alloc1 ! (λ l₁₀. alloc1 ! (λ l₁₁. alloc1 ! (λ l₁₂. alloc1 ! (λ l₁₃. alloc1 ! (λ l₁₄. alloc1 ! (λ l₁₅. alloc1 ! (λ l₁₆. alloc1 ! (λ l₁₇. alloc1 ! (λ l₁₈. alloc1 ! (λ l₁₉. alloc0 ! $ params1 ! $
-      pass1 ! (init ! 36 refl (tt, tt)) $ pass1 ! (init ! 34 refl (tt, tt)) $ pass1 ! (init ! 32 refl (tt, (tt, (record { fits = room .0 }, tt)))) $ pass1 ! (init ! 30 refl (tt, (tt, (record { fits = room-p .0 }, tt)))) $ pass0 ! $
-      keep ! (40 ∷ 41 ∷ 42 ∷ 43 ∷ 44 ∷ 45 ∷ 38 ∷ 39 ∷ 36 ∷ 37 ∷ 34 ∷ 35 ∷ 32 ∷ 33 ∷ 30 ∷ 31 ∷ 28 ∷ 29 ∷ 26 ∷ 27 ∷ 24 ∷ 25 ∷ 22 ∷ 23 ∷ 20 ∷ 21 ∷ 18 ∷ 19 ∷ 16 ∷ 17 ∷ 14 ∷ 15 ∷ 12 ∷ 13 ∷ 10 ∷ 11 ∷ 8 ∷ 9 ∷ 6 ∷ 7 ∷ 4 ∷ 5 ∷ 2 ∷ 3 ∷ 0 ∷ 1 ∷ 46 ∷ 47 ∷ []) $
-      starts C′ Λ fm known l₀ l₁ l₂ l₃ l₄ l₅ l₆ l₇ l₈ l₉ l₁₀ l₁₁ l₁₂ l₁₃ l₁₄ l₁₅ l₁₆ l₁₇ l₁₈ l₁₉))))))))))))))))))))
+      keep ! (0 ∷ 2 ∷ 4 ∷ 5 ∷ 6 ∷ 7 ∷ 8 ∷ 9 ∷ []) $ enter ! C′ Λ f.Code.function (vptr (a .bc) (a .oc) ∷ vptr (a .bd) (a .od) ∷ table a ∷ sp ∷ []) _ $
+      sets-up ! _ An.Laws.mir (params-of f.Code.function) (others f.Code.function) _ ((tt, tt), ((tt, tt), ((tt, (tt, (record { fits = room .0 }, tt))), ((tt, (tt, (record { fits = room-p .0 }, tt))), tt)))) (λ l₀ bs cs. swaps ! (‵ (flft κp qp) ∷ ‵ OwnP ∷ []) _ $ starts C′ Λ fm known l₀ bs cs)
 
 pub flic-play-list-spec : {M : Type 1} → f.Statement.statement M
 unfolding f.Code.routine tablesOf

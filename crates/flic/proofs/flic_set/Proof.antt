@@ -1,7 +1,7 @@
 -- `flic_set`: the table's length is looked at first. Then the table, the device record and the controller are opened, the group decides which function is called, and all is
 -- closed at the exit. In between the walk holds their memory.
-use Rattle.flic.proofs.Walk.{_≡_, refl, sym, ap, subst, ℕ, _<_, _^_, Bool, true, false, [], _∷_, List, length, getD, URA, fullShare, named, erased, w8, w64, tyInt, tyBool, tyUnit, tyRef, imm, mut, Val, vunit, vint, vbool, vptr, SProp, ent, id⊢, GName, Lft, Share, Fml, ftrue, fsep, flft, fat, Memory, Routine, Heap, Env, Calls, Loops, WpFn, Atoms, Fun, givenOf, tablesOf, Given, Item, Sq, runs, atRet, ‵, ⋆, _⊛_, _$_, _∵_, !, qed, by, move, keep, drop, split, join, rewrite, fsplit, fjoin, suffices, frame, done, look, store, init, stop, hop, fld, from, load, lit, addr, of-opd, bin, and-then, no-more, assigns, land, enter, alloc1, alloc0, params1, pass1, pass0, agg, whole, sub, look-in, FmC, owns, Is, pointee, bool-makes, uint-vals, uint-tells, uint-makes, u8, u64, RefT, ptr-vals, mut-tells, sliceVal, sliceTy, ShrSlice, Room, slice-vals, mut-slice-tells, shr-slice-tells, plain, only, owned, nothing, onEntry, tripleOf, Contract, Triple, cited, says, Stays, stay-ref, stay-slice, walkOf, goes-ref, goes-slice, ends-at, yes, _+_, w32, tyArray, u32, bool, needs, stay-dropped, goes-dropped, Wp, afterSeq, atReturn, anyQ, first, skips, branches, exec, returns-within}
-use Rattle.lent_table.proofs.{Ends.concludes, Count.afters, Count.taken, Places.FitsId, Places.fit-id, Places.typed-id, Places.makes-id, Record.ReadDevice, Record.NoteInjection, Record.reads-device, Record.notes-injection, Calls.LookUp, Calls.looks-up}
+use Rattle.flic.proofs.Walk.{_≡_, refl, sym, ap, subst, ℕ, _<_, _^_, Bool, true, false, [], _∷_, List, length, getD, URA, fullShare, named, w64, Val, vunit, vint, vbool, vptr, SProp, ent, id⊢, GName, Lft, Share, Fml, ftrue, fsep, flft, fat, Memory, Routine, Heap, Env, Calls, Loops, WpFn, Atoms, Fun, givenOf, tablesOf, Given, Item, Sq, runs, atRet, ‵, ⋆, _⊛_, _$_, _∵_, !, qed, by, move, keep, drop, split, join, rewrite, fsplit, fjoin, suffices, frame, done, look, store, init, stop, hop, fld, from, load, lit, addr, of-opd, bin, and-then, no-more, assigns, land, enter, agg, whole, sub, look-in, FmC, owns, Is, bool-makes, uint-vals, uint-tells, uint-makes, u8, u64, RefT, ptr-vals, mut-tells, sliceVal, ShrSlice, Room, slice-vals, mut-slice-tells, shr-slice-tells, plain, only, owned, nothing, onEntry, tripleOf, Contract, Triple, cited, says, Stays, stay-ref, stay-slice, walkOf, goes-ref, goes-slice, ends-at, yes, _+_, w32, u32, bool, needs, stay-dropped, goes-dropped, atReturn, first, skips, branches, exec, returns-within}
+use Rattle.lent_table.proofs.{Ends.concludes, Shell.others, Count.afters, Count.taken, Places.FitsId, Places.fit-id, Places.typed-id, Places.makes-id, Record.ReadDevice, Record.NoteInjection, Record.reads-device, Record.notes-injection, Calls.LookUp, Calls.looks-up}
 use types.Kit.{post}
 use prog.Wp.{returns as returnsᴼ}
 use Rattle.numbers.proofs.Basics.{arith, eqb, not, eqb-true, eqb-false}
@@ -23,7 +23,7 @@ use Rattle.adapters.proofs.Device as D
 use Rattle.adapters.proofs.Place as P
 use Rattle.adapter_requests.specs.States.{onPlace}
 use Rattle.adapter_requests.proofs.on_place as on-place
-use Rattle.lent_table.proofs.Locals.{Content, blank, holds, since, locals, frees-front, swaps, holds-true, holds-false, not-not}
+use Rattle.lent_table.proofs.Locals.{Blocks, Content, blank, holds, since, locals, holds-true, holds-false, not-not, ends-with, sets-up}
 use Rattle.lent_requests.proofs.{Answered.FitsAnswer, Answered.refused, Answered.Refuse, Answered.ByFields, Answered.refuses, Answered.copies, Laws.canonical-unused}
 use Rattle.answers.proofs.by_fields as by-fields
 use Rattle.record_add.proofs.enqueue_irqs as enqueue
@@ -38,9 +38,9 @@ use Rattle.calls.proofs.Controller as C
 use Rattle.calls.proofs.answer_inject as answer-inject
 use Rattle.flic.specs.Surface.{Valid, Requested}
 use Rattle.flic.proofs.Promises.{SetRecords, Enqueued, enqueued, Cleared, cleared, ClearedIo, cleared-io, of-group, wrong-promises, record-promises, InjectedTo, inject-promises, place-promises, modes-promises}
-use Rattle.flic.proofs.{Opened.Has, Calls.OnPlace, Calls.SetPlace, Calls.SetModes, Calls.asks-place, Calls.sets-place, Calls.sets-modes}
+use Rattle.flic.proofs.{Opened.Has, Calls.asks-that, Calls.OnPlace, Calls.SetPlace, Calls.SetModes, Calls.asks-place, Calls.sets-place, Calls.sets-modes, Frame.params-of, Frame.laid, Frame.refers, Frame.then-runs}
 use Rattle.flic.proofs.All.{Refs, refs, at-ctl, at-dev, at-tab, table, Owned, Tokens, Passed, Open, Closed, takes-all, opens-all, closes-all, gives-all}
-use Rattle.flic.proofs.Four.{Ways, all, mutably, shared, apart, at-array, Loan, Toks, Lent, left-by, lent-lfts, lent-shares, lent-args, lent-vals, calls-four}
+use Rattle.flic.proofs.Four.{Ways, all, mutably, shared, apart, at-array, Loan, left-by, lent-lfts, lent-shares, lent-args, lent-vals, calls-four}
 use Rattle.flic.proofs.flic_set as f
 
 -- how the arrays are lent: to ENQUEUE all, to CLEAR_IRQS all but the slots, to CLEAR_IO_IRQ and to an injection all but the two single records
@@ -112,11 +112,9 @@ module _ {M : Type 1} (𝓤 : URA M) (H : Heap 𝓤) (A : Atoms 𝓤) (W : Given
       nothing ! $ nothing ! $ fjoin ! $ nothing ! $ fjoin ! $ nothing ! $ fjoin ! $ nothing ! $ move ! (11 ∷ 0 ∷ []) $ join ! $ move ! (2 ∷ 3 ∷ 4 ∷ 5 ∷ 6 ∷ 7 ∷ 8 ∷ 9 ∷ 10 ∷ []) $
       gives-all ! a zs m c′ e room $ frame ! $ frame ! $ owned ! An.the-row (Is An.the-row) (LL.makes An.the-type An.Laws.the-plain 𝓤 H A) z _ g $ done !
 
-  module _ (C′ : Calls 𝓤 H) (Λ : Loops 𝓤 H) (fm : FmC 𝓤 H (W .laws) C′) (known : Known 𝓤 H A mem′ run C′) (l₀ l₁ l₂ l₃ l₄ l₅ l₆ l₇ l₈ l₉ l₁₀ l₁₁ l₁₂ l₁₃ l₁₄ l₁₅ l₁₆ l₁₇ l₁₈ l₁₉ l₂₀ l₂₁ l₂₂ l₂₃ l₂₄ l₂₅ l₂₆ l₂₇ l₂₈ l₂₉ l₃₀ l₃₁ l₃₂ l₃₃ l₃₄ l₃₅ l₃₆ l₃₇ : ℕ) where
+  module _ (C′ : Calls 𝓤 H) (Λ : Loops 𝓤 H) (fm : FmC 𝓤 H (W .laws) C′) (known : Known 𝓤 H A mem′ run C′) (l₀ : ℕ) (bs : Blocks (params-of f.Code.function)) (cs : Blocks (others f.Code.function)) where
     abbrev E : Env 𝓤 H
-    E = (An.Laws.mir, l₀) ∷ (tyRef (named 0) mut (pointee (C.the-row .written)), l₁) ∷ (tyRef (named 1) mut (pointee (D.the-row .written)), l₂) ∷ (sliceTy (tyRef (named 2) mut (pointee (P.the-row .written))), l₃) ∷ (tyInt w32, l₄) ∷ (tyInt w64, l₅) ∷ (sliceTy (tyRef (named 3) imm (tyInt w8)), l₆) ∷ (sliceTy (tyRef erased imm (tyInt w8)), l₇) ∷ (An.Laws.mir, l₈) ∷ (I.Laws.mir, l₉) ∷ (P.Laws.mir, l₁₀) ∷ (D.Laws.mir, l₁₁) ∷ (An.Laws.mir, l₁₂) ∷ (tyInt w64, l₁₃) ∷ (tyBool, l₁₄)
-        ∷ (tyRef erased mut (tyArray (tyInt w8) 18432), l₁₅) ∷ (tyRef erased mut (tyArray (tyInt w8) 2560), l₁₆) ∷ (tyRef erased mut (tyArray (tyInt w64) 11), l₁₇) ∷ (tyRef erased mut (tyArray (tyInt w8) 146), l₁₈) ∷ (tyRef erased mut (tyArray (tyInt w8) 2560), l₁₉) ∷ (tyRef erased mut (tyArray (tyInt w64) 11), l₂₀) ∷ (tyRef erased mut (tyArray (tyInt w8) 146), l₂₁) ∷ (tyRef erased imm (tyArray (tyInt w8) 18432), l₂₂) ∷ (tyRef erased mut (tyArray (tyInt w8) 2560), l₂₃) ∷ (tyRef erased mut (tyArray (tyInt w64) 11), l₂₄)
-        ∷ (tyRef erased imm (pointee (P.the-row .written)), l₂₅) ∷ (sliceTy (tyRef erased imm (pointee (P.the-row .written))), l₂₆) ∷ (tyRef erased imm (pointee (D.the-row .written)), l₂₇) ∷ (tyRef erased mut (tyArray (tyInt w8) 18432), l₂₈) ∷ (tyRef erased mut (tyArray (tyInt w8) 2560), l₂₉) ∷ (tyRef erased mut (tyArray (tyInt w64) 11), l₃₀) ∷ (tyBool, l₃₁) ∷ (tyUnit, l₃₂) ∷ (tyRef erased mut (pointee (D.the-row .written)), l₃₃) ∷ (tyBool, l₃₄) ∷ (tyRef erased mut (pointee (P.the-row .written)), l₃₅) ∷ (sliceTy (tyRef erased mut (pointee (P.the-row .written))), l₃₆) ∷ (tyRef erased mut (pointee (D.the-row .written)), l₃₇) ∷ []
+    E = laid f.Code.function An.Laws.mir l₀ bs cs
 
     abbrev c : Controller
     c = a .c
@@ -151,23 +149,27 @@ module _ {M : Type 1} (𝓤 : URA M) (H : Heap 𝓤) (A : Atoms 𝓤) (W : Given
     abbrev At : List Place → Device → Controller → List Content → List (Item 𝓤)
     At t m c′ vs = Open H a t m c′ (‵ (flft κp qp) ∷ ‵ OwnP ∷ locals E vs [])
 
-    -- the answer is the result: all is closed, and the function returns, in the midst of q
-    ends : (q : types.Kit.Post 𝓤 H) → post 𝓤 H q returnsᴼ ≡ atReturn 𝓤 H E Post returnsᴼ → (c′ : Controller) (m : Device) (zs : List Place) (z : Answer) → length zs ≡ length ys → Has c′ → Is D.the-row m (D.Laws.lowered m ∷ []) → FitsAnswer z
-        → Requested (setAttr group attr) c c′ d m ys zs ps (saw z ps) → (rest : List Content) → Sq W (At zs m c′ (holds (An.Laws.lowered z) ∷ rest)) (runs C′ Λ E return q)
-    ends q h c′ m zs z len gc′ gm gz requested rest =
-        closes-all ! tt a zs m c′ len gm gc′ $ move ! (10 ∷ []) $ drop ! $ returns-within ! Post h (look ! 10 refl) $
-        swaps ! (Closed a zs m c′ (‵ (flft κp qp) ∷ [])) (locals E (holds (An.Laws.lowered z) ∷ rest) []) $ frees-front ! E (holds (An.Laws.lowered z) ∷ rest) $ by ! (exits c′ m zs z len requested gz)
+    -- the answer is the result: all is closed, and the function returns, in the midst of q. The payload is not held any more, or still is.
+    module _ {q : types.Kit.Post 𝓤 H} (h : post 𝓤 H q returnsᴼ ≡ atReturn 𝓤 H E Post returnsᴼ) (c′ : Controller) (m : Device) (zs : List Place) (z : Answer) (len : length zs ≡ length ys) (gc′ : Has c′) (gm : Is D.the-row m (D.Laws.lowered m ∷ [])) (gz : FitsAnswer z)
+        (requested : Requested (setAttr group attr) c c′ d m ys zs ps (saw z ps)) (rest : List Content) where
+      leaves : Sq W (Open H a zs m c′ (‵ (flft κp qp) ∷ locals E (holds (An.Laws.lowered z) ∷ rest) [])) (runs C′ Λ E return q)
+      leaves =
+          closes-all ! tt a zs m c′ len gm gc′ $ returns-within ! Post h (look ! 10 refl) $
+          ends-with ! (Closed a zs m c′ (‵ (flft κp qp) ∷ [])) E (holds (An.Laws.lowered z) ∷ rest) $ by ! (exits c′ m zs z len requested gz)
+
+      ends : Sq W (At zs m c′ (holds (An.Laws.lowered z) ∷ rest)) (runs C′ Λ E return q)
+      ends = move ! (18 ∷ []) $ drop ! $ leaves
 
     -- what follows a test
     abbrev Then : Code → types.Kit.Post 𝓤 H
-    Then rest = anyQ (afterSeq 𝓤 H (Wp 𝓤 H C′ Λ E rest (atReturn 𝓤 H E Post)) (atReturn 𝓤 H E Post))
+    Then rest = then-runs C′ Λ E Post rest
 
     -- ---- a wrong table
     refuses-it : eqb (length ys) imageSize ≡ false → Sq W (Passed a (‵ (flft κp qp) ∷ ‵ OwnP ∷ locals E (tested wrong) [])) (runs C′ Λ E (taken f.Code.Mir.s-3) (Then f.Code.Mir.t-4))
     refuses-it e =
         refuses ! mem′ run fm (known .refuse) 14 (omega arith) (λ i. (and-then ! (lit ! tt) (no-more !))) (λ g.
         land ! (from ! (stop !)) (init ! 8 refl (LL.lawful An.the-type An.Laws.the-laws 𝓤 H A W .typed (refused 14) _ g .0)) $
-        opens-all ! tt a (λ gc gd. ends (Then f.Code.Mir.t-4) refl c d ys (refused 14) refl gc gd g (wrong-promises c d ys ps (wrong-length c _ (eqb-false (length ys) imageSize e)) (setAttr group attr) tt) (plainly wrong 0 0 0 blank 0 blank)))
+        opens-all ! tt a (λ gc gd. ends refl c d ys (refused 14) refl gc gd g (wrong-promises c d ys ps (wrong-length c _ (eqb-false (length ys) imageSize e)) (setAttr group attr) tt) (plainly wrong 0 0 0 blank 0 blank)))
 
     module _ (right : length ys ≡ limitsOf c .places) (gc : Has c) (gd : Is D.the-row d (D.Laws.lowered d ∷ [])) where
       -- ---- requests about pending records alone
@@ -178,94 +180,63 @@ module _ {M : Type 1} (𝓤 : URA M) (H : Heap 𝓤) (A : Atoms 𝓤) (W : Given
       promised-records : (k : ℕ) → eqb group k ≡ true → (z : Answer) (c′ : Controller) → c′ .ais ≡ c .ais → SetRecords k attr c c′ ps z → Requested (setAttr group attr) c c′ d d ys ys ps (saw z ps)
       promised-records k e z c′ same φ = record-promises group attr c c′ d ys ps z right (valid right) same (of-group c c′ attr ps z k group (eqb-true group k e) φ)
 
-      ends-records : (k : ℕ) → eqb group k ≡ true → (rest : Code) (z : Answer) (c′ : Controller) → Has c′ → FitsAnswer z → c′ .ais ≡ c .ais → SetRecords k attr c c′ ps z → (vs : List Content)
-          → Sq W (Open H a ys d c′ (‵ (flft κp qp) ∷ locals E (holds (An.Laws.lowered z) ∷ vs) [])) (runs C′ Λ E return (Then rest))
-      ends-records k e rest z c′ gc′ gz same φ vs =
-          closes-all ! tt a ys d c′ refl gd gc′ $ returns-within ! Post refl (look ! 10 refl) $ swaps ! (Closed a ys d c′ (‵ (flft κp qp) ∷ [])) (locals E (holds (An.Laws.lowered z) ∷ vs) []) $
-          frees-front ! E (holds (An.Laws.lowered z) ∷ vs) $ by ! (exits c′ d ys z refl (promised-records k e z c′ same φ) gz)
-
       -- ENQUEUE: after the arrays it takes the room, the attribute and the payload
       module _ (e : eqb group 2 ≡ true) where
-        abbrev O₁ : Fml
-        O₁ = fsep (u64 .own 256 (vint w64 256 ∷ [])) (fsep (u64 .own attr (vint w64 attr ∷ [])) (fsep OwnP ftrue))
-
         abbrev Y₁ : Type 0
         Y₁ = Unit {0} × (Unit {0} × (Unit {0} × Unit {0}))
 
         abbrev to-enqueue : Loan → Enqueue 𝓤 H A mem′ run .Ghost
         to-enqueue n = ((lent-lfts (all mutably) n (κp, tt), lent-shares (all mutably) (qp, tt), tt, lent-args (all mutably) n c (a .bc) (a .oc) (256, (attr, (at-array bp op γp ps, tt))), lent-vals (all mutably) (a .bc) (a .oc) (vint w64 256 ∷ [], (vint w64 attr ∷ [], (sp ∷ [], tt)))), tt)
 
-        goes₁ : (n : Loan) → ent 𝓤 (⋆ 𝓤 H A (Toks (all mutably) n T ∷ ‵ (Lent (all mutably) n c (a .bc) (a .oc) O₁) ∷ [])) (Enqueue 𝓤 H A mem′ run .pre (to-enqueue n))
-        goes₁ n = qed W (Toks (all mutably) n T ∷ ‵ (Lent (all mutably) n c (a .bc) (a .oc) O₁) ∷ []) ∵ says ! (omega arith, valid right .ready) $ done !
-
         takes-enqueue : Sq W (At ys d c (tested (eqb group 2))) (runs C′ Λ E (taken f.Code.Mir.s-5) (Then f.Code.Mir.t-6))
         takes-enqueue =
             assigns ! (of-opd ! (load ! (from ! (stop !)) (look ! 31 refl))) (from ! (stop !)) (init ! 33 refl (tt, (tt, (record { fits = room-p .0 }, tt)))) $
-            assigns ! (addr ! (from ! (hop ! (look ! 21 refl) (fld ! refl (stop !))))) (from ! (stop !)) (init ! 49 refl (tt, tt)) $
-            assigns ! (addr ! (from ! (hop ! (look ! 21 refl) (fld ! refl (stop !))))) (from ! (stop !)) (init ! 51 refl (tt, tt)) $
-            assigns ! (addr ! (from ! (hop ! (look ! 21 refl) (fld ! refl (stop !))))) (from ! (stop !)) (init ! 53 refl (tt, tt)) $
-            assigns ! (addr ! (from ! (hop ! (look ! 21 refl) (fld ! refl (stop !))))) (from ! (stop !)) (init ! 55 refl (tt, tt)) $
+            refers ! 21 49 refl refl refl (tt, tt) $ refers ! 21 51 refl refl refl (tt, tt) $ refers ! 21 53 refl refl refl (tt, tt) $ refers ! 21 55 refl refl refl (tt, tt) $
             nothing ! $ move ! (19 ∷ 0 ∷ []) $ fjoin ! $ owned ! u64 (Is u64) (uint-makes 𝓤 H A W w64) attr _ (refl, attr-fits) $ fjoin ! $ owned ! u64 (Is u64) (uint-makes 𝓤 H A W w64) 256 _ (refl, omega arith) $ fjoin ! $
             nothing ! $ move ! (19 ∷ 0 ∷ []) $ join ! $ move ! (10 ∷ 11 ∷ 12 ∷ 13 ∷ 0 ∷ 1 ∷ []) $
-            calls-four (all mutably) ! fm (Enqueue 𝓤 H A mem′ run) (known .enqueue) to-enqueue c gc (a .bc) (a .oc) An.the-row T O₁ {Y = Y₁} (λ y. fsep ftrue (fsep ftrue (fsep ftrue ftrue))) (λ z w. Enqueued c (w .0) (w .1 .0) (w .1 .1 .0) (w .1 .1 .1 .0) attr ps z) goes₁ (λ n v. id⊢ 𝓤 _)
+            calls-four (all mutably) ! fm (Enqueue 𝓤 H A mem′ run) (known .enqueue) to-enqueue c gc (a .bc) (a .oc) An.the-row {Y = Y₁} (λ y. fsep ftrue (fsep ftrue (fsep ftrue ftrue))) (λ z w. Enqueued c (w .0) (w .1 .0) (w .1 .1 .0) (w .1 .1 .1 .0) attr ps z) (λ n. asks-that 𝓤 H A W _ (omega arith, valid right .ready)) (λ n v. id⊢ 𝓤 _)
             (λ n i. (and-then ! (load ! (from ! (stop !)) (look ! 48 refl)) (and-then ! (load ! (from ! (stop !)) (look ! 50 refl)) (and-then ! (load ! (from ! (stop !)) (look ! 52 refl)) (and-then ! (load ! (from ! (stop !)) (look ! 54 refl)) (and-then ! (lit ! tt) (and-then ! (load ! (from ! (stop !)) (look ! 28 refl)) (and-then ! (load ! (from ! (stop !)) (look ! 32 refl)) (no-more !))))))))) (λ z v w φ g′ is.
-            land ! (from ! (stop !)) (init ! 35 refl (LL.lawful An.the-type An.Laws.the-laws 𝓤 H A W .typed z _ is .0)) $ rewrite ! 35 (λ (u : Val). ‵ (fat fullShare An.Laws.mir l₈ 0 u)) (ap only (An.Laws.lowers .val-is z (v ∷ []) is)) refl $
+            land ! (from ! (stop !)) (init ! 35 refl (LL.lawful An.the-type An.Laws.the-laws 𝓤 H A W .typed z _ is .0)) $ rewrite ! 35 (λ (u : Val). ‵ (fat fullShare An.Laws.mir (cs .1 .0) 0 u)) (ap only (An.Laws.lowers .val-is z (v ∷ []) is)) refl $
             move ! (5 ∷ []) $ drop ! $ move ! (4 ∷ []) $ split ! $ move ! (1 ∷ []) $ drop ! $ move ! (5 ∷ 6 ∷ 7 ∷ 8 ∷ 9 ∷ 10 ∷ 11 ∷ 12 ∷ 1 ∷ 2 ∷ 3 ∷ 4 ∷ 13 ∷ 14 ∷ 15 ∷ 16 ∷ 17 ∷ 0 ∷ []) $
             copies ! mem′ run fm (known .by-fields) z (subst (Is An.the-row z) (An.Laws.lowers .val-is z (v ∷ []) is) is) (λ i. (and-then ! (load ! (from ! (stop !)) (look ! 35 refl)) (no-more !))) (land ! (from ! (stop !)) (init ! 18 refl (LL.lawful An.the-type An.Laws.the-laws 𝓤 H A W .typed z _ (subst (Is An.the-row z) (An.Laws.lowers .val-is z (v ∷ []) is) is) .0)) $
-            ends-records 2 e f.Code.Mir.t-6 z (left-by (all mutably) Y₁ c w) g′ (subst (Is An.the-row z) (An.Laws.lowers .val-is z (v ∷ []) is) is) refl (enqueued c _ _ _ _ attr ps z φ) (held (holds sp) (holds (An.Laws.lowered z)) blank blank blank blank (eqb group 2) 4 0 0 0 blank blank blank blank 0 blank)))
+            leaves refl (left-by (all mutably) Y₁ c w) d ys z refl g′ gd (subst (Is An.the-row z) (An.Laws.lowers .val-is z (v ∷ []) is) is) (promised-records 2 e z (left-by (all mutably) Y₁ c w) refl (enqueued c _ _ _ _ attr ps z φ)) (held (holds sp) (holds (An.Laws.lowered z)) blank blank blank blank (eqb group 2) 4 0 0 0 blank blank blank blank 0 blank)))
 
       -- CLEAR_IRQS: after the arrays it takes the attribute
       module _ (e : eqb group 3 ≡ true) where
-        abbrev O₂ : Fml
-        O₂ = fsep (u64 .own attr (vint w64 attr ∷ [])) ftrue
-
         abbrev Y₂ : Type 0
         Y₂ = Unit {0} × Unit {0}
 
         abbrev to-clear : Loan → Clear 𝓤 H A mem′ run .Ghost
         to-clear n = ((lent-lfts clear-ways n tt, lent-shares clear-ways tt, tt, lent-args clear-ways n c (a .bc) (a .oc) (attr, tt), lent-vals clear-ways (a .bc) (a .oc) (vint w64 attr ∷ [], tt)), tt)
 
-        goes₂ : (n : Loan) → ent 𝓤 (⋆ 𝓤 H A (Toks clear-ways n (‵ ftrue) ∷ ‵ (Lent clear-ways n c (a .bc) (a .oc) O₂) ∷ [])) (Clear 𝓤 H A mem′ run .pre (to-clear n))
-        goes₂ n = qed W (Toks clear-ways n (‵ ftrue) ∷ ‵ (Lent clear-ways n c (a .bc) (a .oc) O₂) ∷ []) ∵ says ! (valid right .ready) $ done !
-
         takes-clear : Sq W (At ys d c (tested (eqb group 3))) (runs C′ Λ E (taken f.Code.Mir.s-7) (Then f.Code.Mir.t-8))
         takes-clear =
-            assigns ! (addr ! (from ! (hop ! (look ! 21 refl) (fld ! refl (stop !))))) (from ! (stop !)) (init ! 57 refl (tt, tt)) $
-            assigns ! (addr ! (from ! (hop ! (look ! 21 refl) (fld ! refl (stop !))))) (from ! (stop !)) (init ! 59 refl (tt, tt)) $
-            assigns ! (addr ! (from ! (hop ! (look ! 21 refl) (fld ! refl (stop !))))) (from ! (stop !)) (init ! 61 refl (tt, tt)) $
+            refers ! 21 57 refl refl refl (tt, tt) $ refers ! 21 59 refl refl refl (tt, tt) $ refers ! 21 61 refl refl refl (tt, tt) $
             nothing ! $ owned ! u64 (Is u64) (uint-makes 𝓤 H A W w64) attr _ (refl, attr-fits) $ fjoin ! $ nothing ! $ move ! (10 ∷ 11 ∷ 12 ∷ 13 ∷ 0 ∷ 1 ∷ []) $
-            calls-four clear-ways ! fm (Clear 𝓤 H A mem′ run) (known .clear) to-clear c gc (a .bc) (a .oc) An.the-row (‵ ftrue) O₂ {Y = Y₂} (λ y. fsep ftrue ftrue) (λ z w. Cleared c (c .slots) (w .0) (w .1 .0) (w .1 .1 .0) attr ps z) goes₂ (λ n v. id⊢ 𝓤 _)
+            calls-four clear-ways ! fm (Clear 𝓤 H A mem′ run) (known .clear) to-clear c gc (a .bc) (a .oc) An.the-row {Y = Y₂} (λ y. fsep ftrue ftrue) (λ z w. Cleared c (c .slots) (w .0) (w .1 .0) (w .1 .1 .0) attr ps z) (λ n. asks-that 𝓤 H A W _ (valid right .ready)) (λ n v. id⊢ 𝓤 _)
             (λ n i. (and-then ! (load ! (from ! (stop !)) (look ! 58 refl)) (and-then ! (load ! (from ! (stop !)) (look ! 60 refl)) (and-then ! (load ! (from ! (stop !)) (look ! 62 refl)) (and-then ! (load ! (from ! (stop !)) (look ! 30 refl)) (no-more !)))))) (λ z v w φ g′ is.
             land ! (from ! (stop !)) (init ! 21 refl (LL.lawful An.the-type An.Laws.the-laws 𝓤 H A W .typed z _ is .0)) $ rewrite ! 21 (λ (u : Val). ‵ (fat fullShare An.Laws.mir l₀ 0 u)) (ap only (An.Laws.lowers .val-is z (v ∷ []) is)) refl $
             move ! (5 ∷ []) $ drop ! $ move ! (4 ∷ []) $ drop ! $ move ! (4 ∷ 5 ∷ 6 ∷ 7 ∷ 8 ∷ 9 ∷ 10 ∷ 11 ∷ 0 ∷ 1 ∷ 2 ∷ 3 ∷ []) $
-            ends (Then f.Code.Mir.t-8) refl (left-by clear-ways Y₂ c w) d ys z refl g′ gd (subst (Is An.the-row z) (An.Laws.lowers .val-is z (v ∷ []) is) is) (promised-records 3 e z (left-by clear-ways Y₂ c w) refl (cleared c (c .slots) _ _ _ attr ps z φ)) (plainly (eqb group 3) 0 3 0 blank 0 blank))
+            ends refl (left-by clear-ways Y₂ c w) d ys z refl g′ gd (subst (Is An.the-row z) (An.Laws.lowers .val-is z (v ∷ []) is) is) (promised-records 3 e z (left-by clear-ways Y₂ c w) refl (cleared c (c .slots) _ _ _ attr ps z φ)) (plainly (eqb group 3) 0 3 0 blank 0 blank))
 
       -- CLEAR_IO_IRQ: after the arrays it takes the attribute and the payload
       module _ (e : eqb group 8 ≡ true) where
-        abbrev O₃ : Fml
-        O₃ = fsep (u64 .own attr (vint w64 attr ∷ [])) (fsep OwnP ftrue)
-
         abbrev Y₃ : Type 0
         Y₃ = Unit {0} × (Unit {0} × Unit {0})
 
         abbrev to-clear-io : Loan → ClearIo 𝓤 H A mem′ run .Ghost
         to-clear-io n = ((lent-lfts io-ways n (κp, tt), lent-shares io-ways (qp, tt), tt, lent-args io-ways n c (a .bc) (a .oc) (attr, (at-array bp op γp ps, tt)), lent-vals io-ways (a .bc) (a .oc) (vint w64 attr ∷ [], (sp ∷ [], tt))), tt)
 
-        goes₃ : (n : Loan) → ent 𝓤 (⋆ 𝓤 H A (Toks io-ways n T ∷ ‵ (Lent io-ways n c (a .bc) (a .oc) O₃) ∷ [])) (ClearIo 𝓤 H A mem′ run .pre (to-clear-io n))
-        goes₃ n = qed W (Toks io-ways n T ∷ ‵ (Lent io-ways n c (a .bc) (a .oc) O₃) ∷ []) ∵ says ! (valid right .ready) $ done !
-
         takes-clear-io : Sq W (At ys d c (tested (eqb group 8))) (runs C′ Λ E (taken f.Code.Mir.s-9) (Then f.Code.Mir.t-10))
         takes-clear-io =
-            assigns ! (addr ! (from ! (hop ! (look ! 21 refl) (fld ! refl (stop !))))) (from ! (stop !)) (init ! 63 refl (tt, tt)) $
-            assigns ! (addr ! (from ! (hop ! (look ! 21 refl) (fld ! refl (stop !))))) (from ! (stop !)) (init ! 65 refl (tt, tt)) $
-            assigns ! (addr ! (from ! (hop ! (look ! 21 refl) (fld ! refl (stop !))))) (from ! (stop !)) (init ! 67 refl (tt, tt)) $
+            refers ! 21 63 refl refl refl (tt, tt) $ refers ! 21 65 refl refl refl (tt, tt) $ refers ! 21 67 refl refl refl (tt, tt) $
             nothing ! $ move ! (19 ∷ 0 ∷ []) $ fjoin ! $ owned ! u64 (Is u64) (uint-makes 𝓤 H A W w64) attr _ (refl, attr-fits) $ fjoin ! $
             nothing ! $ move ! (19 ∷ 0 ∷ []) $ join ! $ move ! (10 ∷ 11 ∷ 12 ∷ 13 ∷ 0 ∷ 1 ∷ []) $
-            calls-four io-ways ! fm (ClearIo 𝓤 H A mem′ run) (known .clear-io) to-clear-io c gc (a .bc) (a .oc) An.the-row T O₃ {Y = Y₃} (λ y. fsep ftrue (fsep ftrue ftrue)) (λ z w. ClearedIo c (c .slots) (w .1 .0) (w .1 .1 .0) (c .singles) attr ps z) goes₃ (λ n v. id⊢ 𝓤 _)
+            calls-four io-ways ! fm (ClearIo 𝓤 H A mem′ run) (known .clear-io) to-clear-io c gc (a .bc) (a .oc) An.the-row {Y = Y₃} (λ y. fsep ftrue (fsep ftrue ftrue)) (λ z w. ClearedIo c (c .slots) (w .1 .0) (w .1 .1 .0) (c .singles) attr ps z) (λ n. asks-that 𝓤 H A W _ (valid right .ready)) (λ n v. id⊢ 𝓤 _)
             (λ n i. (and-then ! (load ! (from ! (stop !)) (look ! 62 refl)) (and-then ! (load ! (from ! (stop !)) (look ! 64 refl)) (and-then ! (load ! (from ! (stop !)) (look ! 66 refl)) (and-then ! (load ! (from ! (stop !)) (look ! 28 refl)) (and-then ! (load ! (from ! (stop !)) (look ! 30 refl)) (no-more !))))))) (λ z v w φ g′ is.
             land ! (from ! (stop !)) (init ! 19 refl (LL.lawful An.the-type An.Laws.the-laws 𝓤 H A W .typed z _ is .0)) $ rewrite ! 19 (λ (u : Val). ‵ (fat fullShare An.Laws.mir l₀ 0 u)) (ap only (An.Laws.lowers .val-is z (v ∷ []) is)) refl $
             move ! (5 ∷ []) $ drop ! $ move ! (4 ∷ []) $ split ! $ move ! (1 ∷ []) $ drop ! $ move ! (5 ∷ 6 ∷ 7 ∷ 8 ∷ 9 ∷ 10 ∷ 11 ∷ 12 ∷ 1 ∷ 2 ∷ 3 ∷ 4 ∷ 13 ∷ 14 ∷ 15 ∷ 16 ∷ 17 ∷ 0 ∷ []) $
-            ends-records 8 e f.Code.Mir.t-10 z (left-by io-ways Y₃ c w) g′ (subst (Is An.the-row z) (An.Laws.lowers .val-is z (v ∷ []) is) is) refl (cleared-io c (c .slots) _ _ (c .singles) attr ps z φ) (plainly (eqb group 8) 0 0 3 blank 0 blank))
+            leaves refl (left-by io-ways Y₃ c w) d ys z refl g′ gd (subst (Is An.the-row z) (An.Laws.lowers .val-is z (v ∷ []) is) is) (promised-records 8 e z (left-by io-ways Y₃ c w) refl (cleared-io c (c .slots) _ _ (c .singles) attr ps z φ)) (plainly (eqb group 8) 0 0 3 blank 0 blank))
 
       -- ---- an injection: after the arrays `answer_inject` takes the limits and four values
       module _ (is-inject : eqb group 10 ≡ true) where
@@ -285,17 +256,8 @@ module _ {M : Type 1} (𝓤 : URA M) (H : Heap 𝓤) (A : Atoms 𝓤) (W : Given
         abbrev injected : Content → (c₈ c₉ c₁₀ : Content) → ℕ → (c₃₀ c₃₁ c₃₂ : Content) → List Content
         injected v₀ c₈ c₉ c₁₀ n c₃₀ c₃₁ c₃₂ = v₀ ∷ held blank blank (holds (I.Laws.lowered id)) c₈ c₉ c₁₀ (eqb group 10) 0 0 0 n c₃₀ c₃₁ c₃₂ blank 0 blank
 
-        abbrev O₄ : Fml
-        O₄ = fsep (u64 .own imageSize (vint w64 imageSize ∷ [])) (fsep (u64 .own 256 (vint w64 256 ∷ [])) (fsep (bool .own (c .ais) (vbool (c .ais) ∷ [])) (fsep (D.the-row .own d (D.Laws.lowered d ∷ [])) (fsep (P.the-row .own place (P.Laws.lowered place ∷ [])) (fsep (I.the-row .own id (I.Laws.lowered id ∷ [])) ftrue)))))
-
-        abbrev Y₄ : Type 0
-        Y₄ = Unit {0} × (Unit {0} × (Unit {0} × (Unit {0} × (Unit {0} × (Unit {0} × Unit {0})))))
-
         abbrev to-inject : Loan → AnswerInject 𝓤 H A mem′ run .Ghost
         to-inject n = ((lent-lfts inject-ways n tt, lent-shares inject-ways tt, tt, lent-args inject-ways n c (a .bc) (a .oc) (imageSize, (256, (c .ais, (d, (place, (id, tt)))))), lent-vals inject-ways (a .bc) (a .oc) (vint w64 imageSize ∷ [], (vint w64 256 ∷ [], (vbool (c .ais) ∷ [], (D.Laws.lowered d ∷ [], (P.Laws.lowered place ∷ [], (I.Laws.lowered id ∷ [], tt))))))), tt)
-
-        goes₄ : (n : Loan) → ent 𝓤 (⋆ 𝓤 H A (Toks inject-ways n (‵ ftrue) ∷ ‵ (Lent inject-ways n c (a .bc) (a .oc) O₄) ∷ [])) (AnswerInject 𝓤 H A mem′ run .pre (to-inject n))
-        goes₄ n = qed W (Toks inject-ways n (‵ ftrue) ∷ ‵ (Lent inject-ways n c (a .bc) (a .oc) O₄) ∷ []) ∵ says ! (omega arith, valid right .ready, canonical) $ done !
 
         module _ (gp : Is P.the-row place (P.Laws.lowered place ∷ [])) (r : Answer) (gr : FitsAnswer r) (slots order counts : List ℕ) (gc′ : Has (controller slots order counts (c .singles) (c .ais))) (φ : InjectedTo attr c slots order counts d place r) where
           abbrev c′ : Controller
@@ -308,15 +270,8 @@ module _ {M : Type 1} (𝓤 : URA M) (H : Heap 𝓤) (A : Atoms 𝓤) (W : Given
           abbrev answered : Content → Bool → (c₃₁ c₃₂ : Content) → List Content
           answered v₀ flag c₃₁ c₃₂ = injected v₀ (holds (P.Laws.lowered place)) (holds (D.Laws.lowered d)) (holds (An.Laws.lowered r)) 6 (holds (vbool flag)) c₃₁ c₃₂
 
-          -- what follows the second test
-          abbrev Then-noted : types.Kit.Post 𝓤 H
-          Then-noted = anyQ (afterSeq 𝓤 H (Wp 𝓤 H C′ Λ E (afters 13 (taken f.Code.Mir.s-11)) (post 𝓤 H (Then f.Code.Mir.t-12))) (post 𝓤 H (Then f.Code.Mir.t-12)))
-
           abbrev noted : Device
           noted = injectedDevice (c .ais) d place
-
-          noted-is : eqb (r .count) 1 ≡ true → notedIn (c .ais) d place r ≡ noted
-          noted-is e = chosen (eqb (r .count) 1) (injectedDevice (c .ais) d place) d e
 
           -- one record was appended: `note_injection` is called
           notes-it : eqb (r .count) 1 ≡ true → Sq W (At ys d c′ (answered blank (not (eqb (r .count) 1)) blank blank)) (runs C′ Λ E (afters 13 (taken f.Code.Mir.s-11)) (Then f.Code.Mir.t-12))
@@ -325,14 +280,14 @@ module _ {M : Type 1} (𝓤 : URA M) (H : Heap 𝓤) (A : Atoms 𝓤) (W : Given
               assigns ! (of-opd ! (load ! (from ! (hop ! (look ! 21 refl) (fld ! refl (stop !)))) (look ! 12 refl))) (from ! (stop !)) (store ! 81 refl (tt, tt)) $
               move ! (1 ∷ []) $ notes-injection ! mem′ run fm (known .note) d (c′ .ais) place (a .bd) (a .od) gd gp (canonical .iscSmall) (λ _ _. (and-then ! (load ! (from ! (stop !)) (look ! 86 refl)) (and-then ! (load ! (from ! (stop !)) (look ! 82 refl)) (and-then ! (load ! (from ! (stop !)) (look ! 40 refl)) (no-more !))))) (λ gn.
               land ! (from ! (stop !)) (init ! 83 refl (tt, tt)) $ move ! (1 ∷ []) $ assigns ! (of-opd ! (load ! (from ! (stop !)) (look ! 43 refl))) (from ! (stop !)) (init ! 19 refl (LL.lawful An.the-type An.Laws.the-laws 𝓤 H A W .typed r _ gr .0)) $
-              ends (Then f.Code.Mir.t-12) refl c′ noted ys r refl gc′ gn gr (promised noted (noted-is e)) (held blank blank (holds (I.Laws.lowered id)) (holds (P.Laws.lowered place)) (holds (D.Laws.lowered d)) (holds (An.Laws.lowered r)) (eqb group 10) 0 0 0 6 (holds (vbool (c′ .ais))) (holds vunit) (holds (vptr (a .bd) (a .od))) blank 0 blank))
+              ends refl c′ noted ys r refl gc′ gn gr (promised noted (chosen (eqb (r .count) 1) noted d e)) (held blank blank (holds (I.Laws.lowered id)) (holds (P.Laws.lowered place)) (holds (D.Laws.lowered d)) (holds (An.Laws.lowered r)) (eqb group 10) 0 0 0 6 (holds (vbool (c′ .ais))) (holds vunit) (holds (vptr (a .bd) (a .od))) blank 0 blank))
 
           tests-it : Sq W (At ys d c′ (answered blank (c .ais) blank blank)) (runs C′ Λ E (afters 11 (taken f.Code.Mir.s-11)) (Then f.Code.Mir.t-12))
           tests-it =
               assigns ! (bin ! (load ! (from ! (fld ! refl (stop !))) (look-in ! 43 (sub ! 1 refl (whole !)))) (lit ! tt) tt) (from ! (stop !)) (store ! 81 refl (tt, tt)) $
               first ! $ branches ! (load ! (from ! (stop !)) (look ! 81 refl))
               (λ t. assigns ! (of-opd ! (load ! (from ! (stop !)) (look ! 43 refl))) (from ! (stop !)) (init ! 19 refl (LL.lawful An.the-type An.Laws.the-laws 𝓤 H A W .typed r _ gr .0)) $
-              ends Then-noted refl c′ d ys r refl gc′ gd gr (promised d (passed (eqb (r .count) 1) (injectedDevice (c .ais) d place) d (holds-false (eqb (r .count) 1) t))) (held blank blank (holds (I.Laws.lowered id)) (holds (P.Laws.lowered place)) (holds (D.Laws.lowered d)) (holds (An.Laws.lowered r)) (eqb group 10) 0 0 0 6 (holds (vbool (not (eqb (r .count) 1)))) blank blank blank 0 blank))
+              ends refl c′ d ys r refl gc′ gd gr (promised d (passed (eqb (r .count) 1) (injectedDevice (c .ais) d place) d (holds-false (eqb (r .count) 1) t))) (held blank blank (holds (I.Laws.lowered id)) (holds (P.Laws.lowered place)) (holds (D.Laws.lowered d)) (holds (An.Laws.lowered r)) (eqb group 10) 0 0 0 6 (holds (vbool (not (eqb (r .count) 1)))) blank blank blank 0 blank))
               (λ t. skips ! $ exec ! C′ Λ E (afters 13 (taken f.Code.Mir.s-11)) (Then f.Code.Mir.t-12) $ notes-it (not-not (eqb (r .count) 1) t))
 
         -- `answer_inject` is called
@@ -341,19 +296,17 @@ module _ {M : Type 1} (𝓤 : URA M) (H : Heap 𝓤) (A : Atoms 𝓤) (W : Given
             nothing ! $ owned ! I.the-row (Is I.the-row) (makes-id 𝓤 H A W) id _ fits-id $ fjoin ! $ owned ! P.the-row (Is P.the-row) (LL.makes P.the-type P.Laws.the-plain 𝓤 H A) place _ gp $ fjoin ! $ owned ! D.the-row (Is D.the-row) (LL.makes D.the-type D.Laws.the-plain 𝓤 H A) d _ gd $ fjoin ! $
             owned ! bool (Is bool) (bool-makes 𝓤 H A W) (c .ais) _ refl $ fjoin ! $ owned ! u64 (Is u64) (uint-makes 𝓤 H A W w64) 256 _ (refl, omega arith) $ fjoin ! $ owned ! u64 (Is u64) (uint-makes 𝓤 H A W w64) imageSize _ (refl, omega arith) $ fjoin ! $
             nothing ! $ move ! (10 ∷ 11 ∷ 12 ∷ 13 ∷ 0 ∷ 1 ∷ []) $
-            calls-four inject-ways ! fm (AnswerInject 𝓤 H A mem′ run) (known .inject) to-inject c gc (a .bc) (a .oc) An.the-row (‵ ftrue) O₄ {Y = Y₄} (λ y. fsep ftrue (fsep ftrue (fsep ftrue (fsep ftrue (fsep ftrue (fsep ftrue ftrue))))))
-            (λ z w. InjectedTo attr c (w .0) (w .1 .0) (w .1 .1 .0) d place z) goes₄ (λ n v. id⊢ 𝓤 _)
+            calls-four inject-ways ! fm (AnswerInject 𝓤 H A mem′ run) (known .inject) to-inject c gc (a .bc) (a .oc) An.the-row {Y = Unit {0} × (Unit {0} × (Unit {0} × (Unit {0} × (Unit {0} × (Unit {0} × Unit {0})))))} (λ y. fsep ftrue (fsep ftrue (fsep ftrue (fsep ftrue (fsep ftrue (fsep ftrue ftrue))))))
+            (λ z w. InjectedTo attr c (w .0) (w .1 .0) (w .1 .1 .0) d place z) (λ n. asks-that 𝓤 H A W _ (omega arith, valid right .ready, canonical)) (λ n v. id⊢ 𝓤 _)
             (λ n i. (and-then ! (load ! (from ! (stop !)) (look ! 76 refl)) (and-then ! (load ! (from ! (stop !)) (look ! 78 refl)) (and-then ! (load ! (from ! (stop !)) (look ! 80 refl)) (and-then ! (lit ! tt) (and-then ! (lit ! tt) (and-then ! (load ! (from ! (stop !)) (look ! 82 refl)) (and-then ! (load ! (from ! (stop !)) (look ! 42 refl)) (and-then ! (load ! (from ! (stop !)) (look ! 40 refl)) (and-then ! (load ! (from ! (stop !)) (look ! 38 refl)) (no-more !))))))))))) (λ z v w φ g′ is.
-            land ! (from ! (stop !)) (init ! 45 refl (LL.lawful An.the-type An.Laws.the-laws 𝓤 H A W .typed z _ is .0)) $ rewrite ! 45 (λ (u : Val). ‵ (fat fullShare An.Laws.mir l₁₂ 0 u)) (ap only (An.Laws.lowers .val-is z (v ∷ []) is)) refl $
+            land ! (from ! (stop !)) (init ! 45 refl (LL.lawful An.the-type An.Laws.the-laws 𝓤 H A W .typed z _ is .0)) $ rewrite ! 45 (λ (u : Val). ‵ (fat fullShare An.Laws.mir (cs .1 .1 .1 .1 .1 .0) 0 u)) (ap only (An.Laws.lowers .val-is z (v ∷ []) is)) refl $
             move ! (5 ∷ []) $ drop ! $ move ! (4 ∷ []) $ drop ! $ move ! (4 ∷ 5 ∷ 6 ∷ 7 ∷ 8 ∷ 9 ∷ 10 ∷ 11 ∷ 0 ∷ 1 ∷ 2 ∷ 3 ∷ []) $
             tests-it gp z (subst (Is An.the-row z) (An.Laws.lowers .val-is z (v ∷ []) is) is) (w .0) (w .1 .0) (w .1 .1 .0) g′ φ)
 
         -- its operands
         operands : Is P.the-row place (P.Laws.lowered place ∷ []) → Sq W (At ys d c (injected blank (holds (P.Laws.lowered place)) (holds (D.Laws.lowered d)) blank 3 blank blank blank)) (runs C′ Λ E (afters 6 (taken f.Code.Mir.s-11)) (Then f.Code.Mir.t-12))
         operands gp =
-            assigns ! (addr ! (from ! (hop ! (look ! 21 refl) (fld ! refl (stop !))))) (from ! (stop !)) (init ! 75 refl (tt, tt)) $
-            assigns ! (addr ! (from ! (hop ! (look ! 21 refl) (fld ! refl (stop !))))) (from ! (stop !)) (init ! 77 refl (tt, tt)) $
-            assigns ! (addr ! (from ! (hop ! (look ! 21 refl) (fld ! refl (stop !))))) (from ! (stop !)) (init ! 79 refl (tt, tt)) $
+            refers ! 21 75 refl refl refl (tt, tt) $ refers ! 21 77 refl refl refl (tt, tt) $ refers ! 21 79 refl refl refl (tt, tt) $
             assigns ! (of-opd ! (load ! (from ! (hop ! (look ! 21 refl) (fld ! refl (stop !)))) (look ! 12 refl))) (from ! (stop !)) (init ! 81 refl (tt, tt)) $ injects-it gp
 
         takes-inject : Sq W (At ys d c (tested (eqb group 10))) (runs C′ Λ E (taken f.Code.Mir.s-11) (Then f.Code.Mir.t-12))
@@ -375,7 +328,7 @@ module _ {M : Type 1} (𝓤 : URA M) (H : Heap 𝓤) (A : Atoms 𝓤) (W : Given
           move ! (0 ∷ 17 ∷ 18 ∷ []) $ sets-place ! mem′ run fm (known .set-place) κp qp bp op γp ps ys (a .bt) (a .ot) room group attr group-fits attr-fits on (λ _ _ _. (and-then ! (load ! (from ! (stop !)) (look ! 91 refl)) (and-then ! (load ! (from ! (stop !)) (look ! 27 refl)) (and-then ! (load ! (from ! (stop !)) (look ! 29 refl)) (and-then ! (load ! (from ! (stop !)) (look ! 31 refl)) (no-more !)))))) (λ z v zs φ is.
           land ! (from ! (stop !)) (init ! 19 refl (LL.lawful An.the-type An.Laws.the-laws 𝓤 H A W .typed z _ is .0)) $ rewrite ! 19 (λ (u : Val). ‵ (fat fullShare An.Laws.mir l₀ 0 u)) (ap only (An.Laws.lowers .val-is z (v ∷ []) is)) refl $
           move ! (0 ∷ 3 ∷ 4 ∷ 5 ∷ 6 ∷ 7 ∷ 8 ∷ 9 ∷ 10 ∷ 11 ∷ 12 ∷ 13 ∷ 14 ∷ 15 ∷ 16 ∷ 17 ∷ 18 ∷ 1 ∷ 2 ∷ []) $
-          ends (Then f.Code.Mir.t-14) refl c d zs z (φ .same-length) gc gd (subst (Is An.the-row z) (An.Laws.lowers .val-is z (v ∷ []) is) is) (place-promises group attr c d ys ps z right (valid right) zs φ) (plainly (eqb group 10) 0 0 0 (holds (vbool (onPlace group))) 2 blank))
+          ends refl c d zs z (φ .same-length) gc gd (subst (Is An.the-row z) (An.Laws.lowers .val-is z (v ∷ []) is) is) (place-promises group attr c d ys ps z right (valid right) zs φ) (plainly (eqb group 10) 0 0 0 (holds (vbool (onPlace group))) 2 blank))
 
       -- ---- any other request is about the device record, or of no group
       takes-modes : (group ≡ 2 → ⊥) × (group ≡ 3 → ⊥) × (group ≡ 8 → ⊥) × (group ≡ 10 → ⊥) × (onPlace group ≡ false) → Sq W (At ys d c (blank ∷ plainly (eqb group 10) 0 0 0 (holds (vbool (onPlace group))) 0 blank)) (runs C′ Λ E f.Code.Mir.t-14 (atRet E Post))
@@ -385,7 +338,7 @@ module _ {M : Type 1} (𝓤 : URA M) (H : Heap 𝓤) (A : Atoms 𝓤) (W : Given
           move ! (1 ∷ 17 ∷ 18 ∷ []) $ sets-modes ! mem′ run fm (known .set-modes) κp qp bp op γp ps d (a .bd) (a .od) gd (c .ais) group attr group-fits attr-fits other (λ _ _ _. (and-then ! (load ! (from ! (stop !)) (look ! 93 refl)) (and-then ! (load ! (from ! (stop !)) (look ! 47 refl)) (and-then ! (load ! (from ! (stop !)) (look ! 27 refl)) (and-then ! (load ! (from ! (stop !)) (look ! 29 refl)) (and-then ! (load ! (from ! (stop !)) (look ! 31 refl)) (no-more !))))))) (λ z v y φ is gy.
           land ! (from ! (stop !)) (init ! 19 refl (LL.lawful An.the-type An.Laws.the-laws 𝓤 H A W .typed z _ is .0)) $ rewrite ! 19 (λ (u : Val). ‵ (fat fullShare An.Laws.mir l₀ 0 u)) (ap only (An.Laws.lowers .val-is z (v ∷ []) is)) refl $
           move ! (3 ∷ 0 ∷ 4 ∷ 5 ∷ 6 ∷ 7 ∷ 8 ∷ 9 ∷ 10 ∷ 11 ∷ 12 ∷ 13 ∷ 14 ∷ 15 ∷ 16 ∷ 17 ∷ 18 ∷ 1 ∷ 2 ∷ []) $
-          ends (atRet E Post) refl c y ys z refl gc gy (subst (Is An.the-row z) (An.Laws.lowers .val-is z (v ∷ []) is) is) (modes-promises group attr c d ys ps z right (valid right) y φ) (plainly (c .ais) 0 0 0 (holds (vbool (onPlace group))) 0 (holds (vptr (a .bd) (a .od)))))
+          ends refl c y ys z refl gc gy (subst (Is An.the-row z) (An.Laws.lowers .val-is z (v ∷ []) is) is) (modes-promises group attr c d ys ps z right (valid right) y φ) (plainly (c .ais) 0 0 0 (holds (vbool (onPlace group))) 0 (holds (vptr (a .bd) (a .od)))))
 
       -- ---- the groups, one after another
       abbrev not-records : Type 0
@@ -430,11 +383,8 @@ module _ {M : Type 1} (𝓤 : URA M) (H : Heap 𝓤) (A : Atoms 𝓤) (W : Given
       qed W (Tokens a (‵ (flft κp qp) ⊛ ‵ ftrue) ∷ ‵ (Owned a (a .c) (a .d) (a .t) (owns (u32 ∷ u64 ∷ ShrSlice (named 3) κp u8 ∷ []) (x .1 .1 .1) (at .1 .1 .1))) ∷ []) ∵
       takes-all ! a $ move ! (7 ∷ []) $ fsplit ! $ drop ! $ fsplit ! $ drop ! $ fsplit ! $ move ! (8 ∷ []) $ split ! $
       -- [the payload's token; true; the payload; true; the references]
-      keep ! (4 ∷ 5 ∷ 6 ∷ 7 ∷ 8 ∷ 9 ∷ 0 ∷ 2 ∷ []) $
-      enter ! C′ Λ f.Code.function (vptr (a .bc) (a .oc) ∷ vptr (a .bd) (a .od) ∷ table a ∷ vint w32 group ∷ vint w64 attr ∷ sp ∷ []) _ $
-      alloc1 ! (λ l₀. alloc1 ! (λ l₁. alloc1 ! (λ l₂. alloc1 ! (λ l₃. alloc1 ! (λ l₄. alloc1 ! (λ l₅. alloc1 ! (λ l₆. alloc1 ! (λ l₇. alloc1 ! (λ l₈. alloc1 ! (λ l₉. alloc1 ! (λ l₁₀. alloc1 ! (λ l₁₁. alloc1 ! (λ l₁₂. alloc1 ! (λ l₁₃. alloc1 ! (λ l₁₄. alloc1 ! (λ l₁₅. alloc1 ! (λ l₁₆. alloc1 ! (λ l₁₇. alloc1 ! (λ l₁₈. alloc1 ! (λ l₁₉. alloc1 ! (λ l₂₀. alloc1 ! (λ l₂₁. alloc1 ! (λ l₂₂. alloc1 ! (λ l₂₃. alloc1 ! (λ l₂₄. alloc1 ! (λ l₂₅. alloc1 ! (λ l₂₆. alloc1 ! (λ l₂₇. alloc1 ! (λ l₂₈. alloc1 ! (λ l₂₉. alloc1 ! (λ l₃₀. alloc1 ! (λ l₃₁. alloc1 ! (λ l₃₂. alloc1 ! (λ l₃₃. alloc1 ! (λ l₃₄. alloc1 ! (λ l₃₅. alloc1 ! (λ l₃₆. alloc1 ! (λ l₃₇. alloc0 ! $ params1 ! $
-      pass1 ! (init ! 72 refl (tt, tt)) $ pass1 ! (init ! 70 refl (tt, tt)) $ pass1 ! (init ! 68 refl (tt, (tt, (record { fits = room .0 }, tt)))) $ pass1 ! (init ! 66 refl (tt, record { fits = group-fits })) $ pass1 ! (init ! 64 refl (tt, record { fits = attr-fits })) $ pass1 ! (init ! 62 refl (tt, (tt, (record { fits = room-p .0 }, tt)))) $ pass0 ! $
-      keep ! (76 ∷ 77 ∷ 78 ∷ 79 ∷ 80 ∷ 81 ∷ 82 ∷ 83 ∷ 74 ∷ 75 ∷ 72 ∷ 73 ∷ 70 ∷ 71 ∷ 68 ∷ 69 ∷ 66 ∷ 67 ∷ 64 ∷ 65 ∷ 62 ∷ 63 ∷ 60 ∷ 61 ∷ 58 ∷ 59 ∷ 56 ∷ 57 ∷ 54 ∷ 55 ∷ 52 ∷ 53 ∷ 50 ∷ 51 ∷ 48 ∷ 49 ∷ 46 ∷ 47 ∷ 44 ∷ 45 ∷ 42 ∷ 43 ∷ 40 ∷ 41 ∷ 38 ∷ 39 ∷ 36 ∷ 37 ∷ 34 ∷ 35 ∷ 32 ∷ 33 ∷ 30 ∷ 31 ∷ 28 ∷ 29 ∷ 26 ∷ 27 ∷ 24 ∷ 25 ∷ 22 ∷ 23 ∷ 20 ∷ 21 ∷ 18 ∷ 19 ∷ 16 ∷ 17 ∷ 14 ∷ 15 ∷ 12 ∷ 13 ∷ 10 ∷ 11 ∷ 8 ∷ 9 ∷ 6 ∷ 7 ∷ 4 ∷ 5 ∷ 2 ∷ 3 ∷ 0 ∷ 1 ∷ []) $ starts-it C′ Λ fm known l₀ l₁ l₂ l₃ l₄ l₅ l₆ l₇ l₈ l₉ l₁₀ l₁₁ l₁₂ l₁₃ l₁₄ l₁₅ l₁₆ l₁₇ l₁₈ l₁₉ l₂₀ l₂₁ l₂₂ l₂₃ l₂₄ l₂₅ l₂₆ l₂₇ l₂₈ l₂₉ l₃₀ l₃₁ l₃₂ l₃₃ l₃₄ l₃₅ l₃₆ l₃₇))))))))))))))))))))))))))))))))))))))
+      keep ! (4 ∷ 5 ∷ 6 ∷ 7 ∷ 8 ∷ 9 ∷ 0 ∷ 2 ∷ []) $ enter ! C′ Λ f.Code.function (vptr (a .bc) (a .oc) ∷ vptr (a .bd) (a .od) ∷ table a ∷ vint w32 group ∷ vint w64 attr ∷ sp ∷ []) _ $
+      sets-up ! _ An.Laws.mir (params-of f.Code.function) (others f.Code.function) _ ((tt, tt), ((tt, tt), ((tt, (tt, (record { fits = room .0 }, tt))), ((tt, record { fits = group-fits }), ((tt, record { fits = attr-fits }), ((tt, (tt, (record { fits = room-p .0 }, tt))), tt)))))) (starts-it C′ Λ fm known)
 
 pub flic-set-spec : {M : Type 1} → f.Statement.statement M
 unfolding f.Code.routine tablesOf

@@ -1,14 +1,14 @@
 -- `flic_take`: the controller is opened at entry and closed at the exit; its four arrays, the slots shared, are lent to `take`, and the bytes are passed on.
-use Rattle.flic.proofs.Walk.{_≡_, refl, ℕ, _<_, _^_, Bool, [], _∷_, List, length, URA, fullShare, imm, named, erased, w8, w64, tyInt, tyBool, tyRef, mut, Val, vint, vbool, vptr, SProp, ent, id⊢, feq, GName, Lft, Share, Fml, ftrue, fsep, flft, fobs, fbor, Memory, Routine, Heap, Env, Calls, Loops, WpFn, Atoms, Fun, givenOf, tablesOf, Given, Item, Sq, runs, atRet, ‵, ⋆, _⊛_, _$_, _∵_, !, qed, by, move, keep, drop, split, join, fsplit, fsplit3, fjoin, fjoin3, feqL, feqI, suffices, frame, done, look, init, stop, hop, fld, from, load, addr, and-then, no-more, assigns, land, returns, enter, alloc1, alloc0, params1, pass1, pass0, agg, whole, sub, look-in, Body, FmC, owns, Is, mem, pointee, bool-vals, bool-tells, bool-makes, uint-vals, uint-tells, uint-makes, u8, RefT, MutRef, ptr-vals, mut-tells, finally, sliceVal, sliceTy, MutSlice, Room, slice-vals, mut-slice-tells, plain, owned, nothing, onEntry, tripleOf, Contract, Triple, cited, says, Stays, stay-ref, walkOf, goes-ref, ends-at, yes, _+_, tyArray, bool, needs, stay-dropped, goes-dropped, gave-slice, goes-gave-slice}
-use Rattle.lent_table.proofs.{Ends.concludes, Locals.Content, Locals.blank, Locals.holds, Locals.since, Locals.locals, Locals.frees-all, Locals.swaps}
+use Rattle.flic.proofs.Walk.{_≡_, refl, ℕ, _<_, _^_, Bool, [], _∷_, List, length, URA, fullShare, named, w8, Val, vint, vbool, vptr, SProp, ent, id⊢, feq, GName, Lft, Share, Fml, ftrue, fsep, flft, fobs, fbor, Memory, Routine, Heap, Env, Calls, Loops, WpFn, Atoms, Fun, givenOf, tablesOf, Given, Item, Sq, runs, atRet, ‵, ⋆, _⊛_, _$_, _∵_, !, qed, by, move, keep, drop, split, join, fsplit, fsplit3, fjoin, fjoin3, feqL, feqI, suffices, frame, done, look, init, stop, hop, fld, from, load, addr, and-then, no-more, assigns, land, returns, enter, agg, whole, sub, look-in, Body, FmC, owns, Is, mem, bool-vals, bool-tells, bool-makes, uint-vals, uint-tells, uint-makes, u8, RefT, MutRef, ptr-vals, mut-tells, finally, sliceVal, MutSlice, Room, slice-vals, mut-slice-tells, plain, owned, nothing, onEntry, tripleOf, Contract, Triple, cited, says, Stays, stay-ref, walkOf, goes-ref, ends-at, yes, _+_, bool, needs, stay-dropped, goes-dropped, gave-slice, goes-gave-slice}
+use Rattle.lent_table.proofs.{Ends.concludes, Locals.Content, Locals.blank, Locals.holds, Locals.since, Locals.locals, Locals.ends-with, Locals.Blocks, Locals.sets-up, Shell.others}
 use denote.Struct.Laws as LL
 use Rattle.answers.specs.{declared.Answer.Answer, Answers.saw}
 use Rattle.answers.proofs.Answer as An
 use Rattle.calls.specs.declared.Controller.{Controller}
 use Rattle.flic.specs.Surface.{Ready, Taken}
-use Rattle.flic.proofs.{Promises.TakenOf, Promises.take-promises, Opened.Has, Opened.OpenAt, Opened.opens-ctl, Opened.closes-ctl}
+use Rattle.flic.proofs.{Promises.TakenOf, Promises.take-promises, Opened.Has, Opened.OpenAt, Opened.opens-ctl, Opened.closes-ctl, Calls.asks-that, Frame.params-of, Frame.laid, Frame.refers}
 use Rattle.calls.proofs.Controller as C
-use Rattle.flic.proofs.Four.{Ways, mutably, shared, Loan, Toks, Lent, Left, left-by, lent-lfts, lent-shares, lent-args, lent-vals, calls-four}
+use Rattle.flic.proofs.Four.{Ways, mutably, shared, Loan, Left, left-by, lent-lfts, lent-shares, lent-args, lent-vals, calls-four}
 use Rattle.record_take.proofs.take as take
 use Rattle.flic.proofs.flic_take as f
 
@@ -59,9 +59,6 @@ module _ {M : Type 1} (𝓤 : URA M) (H : Heap 𝓤) (A : Atoms 𝓤) (W : Given
   abbrev T : Item 𝓤
   T = ‵ (flft κo qo) ⊛ ‵ ftrue
 
-  abbrev O : Fml
-  O = fsep (u8 .own subclasses (vint w8 subclasses ∷ [])) (fsep (bool .own external (vbool external ∷ [])) (fsep (bool .own mcheck (vbool mcheck ∷ [])) (fsep OwnO ftrue)))
-
   abbrev Y : Type 0
   Y = Unit {0} × (Unit {0} × (Unit {0} × (List ℕ × Unit {0})))
 
@@ -81,12 +78,9 @@ module _ {M : Type 1} (𝓤 : URA M) (H : Heap 𝓤) (A : Atoms 𝓤) (W : Given
   abbrev to-take : Loan → Take 𝓤 H A mem′ run .Ghost
   to-take n = ((lent-lfts ways n (κo, tt), lent-shares ways (qo, tt), tt, lent-args ways n c bc oc (subclasses, (external, (mcheck, (xo, tt)))), lent-vals ways bc oc (vint w8 subclasses ∷ [], (vbool external ∷ [], (vbool mcheck ∷ [], (out ∷ [], tt))))), tt)
 
-  goes : (n : Loan) → ent 𝓤 (⋆ 𝓤 H A (Toks ways n T ∷ ‵ (Lent ways n c bc oc O) ∷ [])) (Take 𝓤 H A mem′ run .pre (to-take n))
-  goes n = qed W (Toks ways n T ∷ ‵ (Lent ways n c bc oc O) ∷ []) ∵ says ! ready $ done !
-
-  module _ (C′ : Calls 𝓤 H) (Λ : Loops 𝓤 H) (fm : FmC 𝓤 H (W .laws) C′) (known : Triple 𝓤 (C′ take.Symbol.name) (Take 𝓤 H A mem′ run)) (l₀ l₁ l₂ l₃ l₄ l₅ l₆ l₇ l₈ l₉ l₁₀ l₁₁ : ℕ) where
+  module _ (C′ : Calls 𝓤 H) (Λ : Loops 𝓤 H) (fm : FmC 𝓤 H (W .laws) C′) (known : Triple 𝓤 (C′ take.Symbol.name) (Take 𝓤 H A mem′ run)) (l₀ : ℕ) (bs : Blocks (params-of f.Code.function)) (cs : Blocks (others f.Code.function)) where
     abbrev E : Env 𝓤 H
-    E = (An.Laws.mir, l₀) ∷ (tyRef (named 0) mut (pointee (C.the-row .written)), l₁) ∷ (tyInt w8, l₂) ∷ (tyBool, l₃) ∷ (tyBool, l₄) ∷ (sliceTy (tyRef (named 1) mut (tyInt w8)), l₅) ∷ (tyRef erased imm (tyArray (tyInt w8) 18432), l₆) ∷ (tyRef erased mut (tyArray (tyInt w8) 2560), l₇) ∷ (tyRef erased mut (tyArray (tyInt w64) 11), l₈) ∷ (tyRef erased mut (tyArray (tyInt w8) 146), l₉) ∷ (tyRef erased mut (tyInt w8), l₁₀) ∷ (sliceTy (tyRef erased mut (tyInt w8)), l₁₁) ∷ []
+    E = laid f.Code.function An.Laws.mir l₀ bs cs
 
     -- what the locals hold after n statements, and the result's v₀
     abbrev held : Content → ℕ → List Content
@@ -99,13 +93,13 @@ module _ {M : Type 1} (𝓤 : URA M) (H : Heap 𝓤) (A : Atoms 𝓤) (W : Given
         closes-ctl ! tt c (left-by ways Y c w) g bc oc $ move ! (4 ∷ []) $ fsplit ! $ drop ! $ fsplit ! $ drop ! $ fsplit ! $ drop ! $ fsplit ! $ fsplit ! $ move ! (1 ∷ []) $ feqL ! (λ e.
         -- [the last bytes; true; obs; the borrow; the token; T; the locals]
         move ! (5 ∷ []) $ split ! $ move ! (4 ∷ 5 ∷ 6 ∷ 0 ∷ 2 ∷ 1 ∷ 3 ∷ []) $ move ! (5 ∷ []) $ drop ! $ move ! (5 ∷ []) $ drop ! $
-        returns ! (look ! 5 refl) $ swaps ! (Rest (left-by ways Y c w) (last w)) (locals E (held (holds v) 6) []) $ frees-all ! E (held (holds v) 6) $ by ! (exits (left-by ways Y c w) (last w) z v (take-promises subclasses external mcheck c _ _ _ bytes (last w) z φ) e is))
+        returns ! (look ! 5 refl) $ ends-with ! (Rest (left-by ways Y c w) (last w)) E (held (holds v) 6) $ by ! (exits (left-by ways Y c w) (last w) z v (take-promises subclasses external mcheck c _ _ _ bytes (last w) z φ) e is))
 
     calls-it : Has c → Sq W (OpenAt H κc qc γc c c bc oc (‵ OwnO ∷ ‵ (flft κo qo) ∷ locals E (held blank 6) [])) (runs C′ Λ E f.Code.Mir.t-7 (atRet E Post))
     calls-it g =
         nothing ! $ move ! (10 ∷ 0 ∷ []) $ fjoin ! $ owned ! bool (Is bool) (bool-makes 𝓤 H A W) mcheck _ refl $ fjoin ! $ owned ! bool (Is bool) (bool-makes 𝓤 H A W) external _ refl $ fjoin ! $ owned ! u8 (Is u8) (uint-makes 𝓤 H A W w8) subclasses _ (refl, fits) $ fjoin ! $
         nothing ! $ move ! (11 ∷ 0 ∷ []) $ join ! $ move ! (2 ∷ 3 ∷ 4 ∷ 5 ∷ 0 ∷ 1 ∷ []) $
-        calls-four ways ! fm (Take 𝓤 H A mem′ run) known to-take c g bc oc An.the-row T O Leaves Φ goes (λ n v. id⊢ 𝓤 _) (λ n i.
+        calls-four ways ! fm (Take 𝓤 H A mem′ run) known to-take c g bc oc An.the-row Leaves Φ (λ n. asks-that 𝓤 H A W _ ready) (λ n v. id⊢ 𝓤 _) (λ n i.
         (and-then ! (load ! (from ! (stop !)) (look ! 22 refl)) (and-then ! (load ! (from ! (stop !)) (look ! 24 refl)) (and-then ! (load ! (from ! (stop !)) (look ! 26 refl)) (and-then ! (load ! (from ! (stop !)) (look ! 28 refl)) (and-then ! (load ! (from ! (stop !)) (look ! 14 refl)) (and-then ! (load ! (from ! (stop !)) (look ! 16 refl)) (and-then ! (load ! (from ! (stop !)) (look ! 18 refl)) (and-then ! (load ! (from ! (stop !)) (look ! 32 refl)) (no-more !)))))))))) (λ z v w φ g′ is.
         land ! (from ! (stop !)) (init ! 11 refl (LL.lawful An.the-type An.Laws.the-laws 𝓤 H A W .typed z _ is .0)) $ move ! (0 ∷ 1 ∷ 2 ∷ 3 ∷ 6 ∷ 7 ∷ 8 ∷ 9 ∷ 10 ∷ []) $ ends z v w φ g′ is)
 
@@ -113,10 +107,7 @@ module _ {M : Type 1} (𝓤 : URA M) (H : Heap 𝓤) (A : Atoms 𝓤) (W : Given
     opens-it : Sq W (‵ (MutRef (named 0) κc C.the-row .own (x .0) (vptr bc oc ∷ [])) ∷ ‵ (flft κc qc) ∷ ‵ OwnO ∷ ‵ (flft κo qo) ∷ locals E (held blank 0) []) (runs C′ Λ E f.Code.Mir.t-1 (atRet E Post))
     opens-it =
         fsplit3 ! $ drop ! $ opens-ctl ! tt c bc oc (λ g.
-        assigns ! (addr ! (from ! (hop ! (look ! 13 refl) (fld ! refl (stop !))))) (from ! (stop !)) (init ! 23 refl (tt, tt)) $
-        assigns ! (addr ! (from ! (hop ! (look ! 13 refl) (fld ! refl (stop !))))) (from ! (stop !)) (init ! 25 refl (tt, tt)) $
-        assigns ! (addr ! (from ! (hop ! (look ! 13 refl) (fld ! refl (stop !))))) (from ! (stop !)) (init ! 27 refl (tt, tt)) $
-        assigns ! (addr ! (from ! (hop ! (look ! 13 refl) (fld ! refl (stop !))))) (from ! (stop !)) (init ! 29 refl (tt, tt)) $
+        refers ! 13 23 refl refl refl (tt, tt) $ refers ! 13 25 refl refl refl (tt, tt) $ refers ! 13 27 refl refl refl (tt, tt) $ refers ! 13 29 refl refl refl (tt, tt) $
         assigns ! (addr ! (from ! (fld ! refl (hop ! (look-in ! 21 (sub ! 0 refl (whole !))) (stop !))))) (from ! (stop !)) (init ! 31 refl (tt, tt)) $
         assigns ! (agg ! (and-then ! (load ! (from ! (stop !)) (look ! 31 refl)) (and-then ! (load ! (from ! (fld ! refl (stop !))) (look-in ! 21 (sub ! 1 refl (whole !)))) (no-more !)))) (from ! (stop !)) (init ! 33 refl (tt, (tt, (record { fits = room .0 }, tt)))) $
         calls-it g)
@@ -126,9 +117,7 @@ module _ {M : Type 1} (𝓤 : URA M) (H : Heap 𝓤) (A : Atoms 𝓤) (W : Given
       qed W ((‵ (flft κc qc) ⊛ ‵ (flft κo qo) ⊛ ‵ ftrue) ∷ ‵ (owns (MutRef (named 0) κc C.the-row ∷ u8 ∷ bool ∷ bool ∷ MutSlice (named 1) κo u8 ∷ []) x at) ∷ []) ∵
       split ! $ move ! (1 ∷ []) $ split ! $ move ! (3 ∷ []) $ fsplit ! $ move ! (1 ∷ []) $ fsplit ! $ drop ! $ fsplit ! $ drop ! $ fsplit ! $ drop ! $ fsplit ! $ keep ! (2 ∷ 5 ∷ 0 ∷ 3 ∷ []) $
       enter ! C′ Λ f.Code.function (vptr bc oc ∷ vint w8 subclasses ∷ vbool external ∷ vbool mcheck ∷ out ∷ []) _ $
-      alloc1 ! (λ l₀. alloc1 ! (λ l₁. alloc1 ! (λ l₂. alloc1 ! (λ l₃. alloc1 ! (λ l₄. alloc1 ! (λ l₅. alloc1 ! (λ l₆. alloc1 ! (λ l₇. alloc1 ! (λ l₈. alloc1 ! (λ l₉. alloc1 ! (λ l₁₀. alloc1 ! (λ l₁₁. alloc0 ! $ params1 ! $
-      pass1 ! (init ! 20 refl (tt, tt)) $ pass1 ! (init ! 18 refl (tt, record { fits = fits })) $ pass1 ! (init ! 16 refl (tt, tt)) $ pass1 ! (init ! 14 refl (tt, tt)) $ pass1 ! (init ! 12 refl (tt, (tt, (record { fits = room .0 }, tt)))) $ pass0 ! $
-      keep ! (24 ∷ 25 ∷ 26 ∷ 27 ∷ 22 ∷ 23 ∷ 20 ∷ 21 ∷ 18 ∷ 19 ∷ 16 ∷ 17 ∷ 14 ∷ 15 ∷ 12 ∷ 13 ∷ 10 ∷ 11 ∷ 8 ∷ 9 ∷ 6 ∷ 7 ∷ 4 ∷ 5 ∷ 2 ∷ 3 ∷ 0 ∷ 1 ∷ []) $ opens-it C′ Λ fm known l₀ l₁ l₂ l₃ l₄ l₅ l₆ l₇ l₈ l₉ l₁₀ l₁₁))))))))))))
+      sets-up ! _ An.Laws.mir (params-of f.Code.function) (others f.Code.function) _ ((tt, tt), ((tt, record { fits = fits }), ((tt, tt), ((tt, tt), ((tt, (tt, (record { fits = room .0 }, tt))), tt))))) (opens-it C′ Λ fm known)
 
 pub flic-take-spec : {M : Type 1} → f.Statement.statement M
 unfolding f.Code.routine tablesOf

@@ -1,7 +1,7 @@
 -- `flic_write_list`: a table of a wrong length is refused. Else the device record and the table are passed on and given up; the controller is looked into, and shut at the exit. The
 -- bytes are passed on whole.
-use Rattle.flic.proofs.Walk.{_≡_, refl, Bool, false, lit, bin, store, first, skips, branches, exec, returns-within, anyQ, afterSeq, Wp, atReturn, ℕ, [], _∷_, List, length, URA, fullShare, named, erased, w8, w64, tyInt, tyBool, tyRef, imm, mut, Val, vint, vbool, vptr, SProp, ent, id⊢, feq, GName, Lft, Share, Fml, ftrue, fsep, flft, fobor, Memory, Routine, Heap, Env, Calls, Loops, WpFn, Atoms, Fun, Given, Item, Sq, runs, atRet, ‵, ⋆, _⊛_, _$_, _∵_, !, qed, by, move, keep, drop, split, join, fsplit, fsplit3, fjoin, feqL, suffices, frame, done, look, init, stop, hop, fld, from, load, addr, of-opd, and-then, no-more, assigns, land, returns, enter, alloc1, alloc0, params1, pass1, pass0, agg, whole, sub, look-in, FmC, owns, Is, partAt, pointee, bool-makes, u8, RefT, ShrRef, ptr-vals, shr-tells, finally, sliceVal, sliceTy, MutSlice, ShrSlice, Room, slice-vals, mut-slice-tells, shr-slice-tells, plain, owned, nothing, onEntry, tripleOf, Contract, Triple, cited, says, Stays, walkOf, ends-at, yes, givenOf, tablesOf, _+_, tyArray, bool, needs, stay-dropped, goes-dropped, gave-slice, goes-gave-slice}
-use Rattle.lent_table.proofs.{Ends.concludes, Images.imageTy, Images.low-image, Images.FitsImage, Images.image-typed, Tables.length-snap, Record.ReadDevice, Calls.Snapshot, Calls.snapshots-shared, Count.taken}
+use Rattle.flic.proofs.Walk.{_≡_, refl, Bool, false, lit, bin, store, first, skips, branches, exec, returns-within, ℕ, [], _∷_, List, length, URA, fullShare, named, w64, Val, vint, vbool, vptr, SProp, ent, id⊢, feq, GName, Lft, Share, Fml, ftrue, fsep, flft, fobor, Memory, Routine, Heap, Env, Calls, Loops, WpFn, Atoms, Fun, Given, Item, Sq, runs, atRet, ‵, ⋆, _⊛_, _$_, _∵_, !, qed, by, move, keep, drop, split, join, fsplit, fsplit3, fjoin, feqL, suffices, frame, done, look, init, stop, hop, fld, from, load, addr, of-opd, and-then, no-more, assigns, land, returns, enter, agg, whole, sub, look-in, FmC, owns, Is, partAt, bool-makes, u8, RefT, ShrRef, ptr-vals, shr-tells, finally, sliceVal, MutSlice, ShrSlice, Room, slice-vals, mut-slice-tells, shr-slice-tells, plain, owned, nothing, onEntry, tripleOf, Contract, Triple, cited, says, Stays, walkOf, ends-at, yes, givenOf, tablesOf, _+_, bool, needs, stay-dropped, goes-dropped, gave-slice, goes-gave-slice}
+use Rattle.lent_table.proofs.{Ends.concludes, Shell.others, Images.low-image, Images.FitsImage, Images.image-typed, Tables.length-snap, Record.ReadDevice, Calls.Snapshot, Calls.snapshots-shared, Count.taken}
 use Rattle.numbers.proofs.Basics.{arith, eqb, not, eqb-true, eqb-false}
 use denote.Struct.Laws as LL
 use denote.Signature.{shrRefTo, shrSliceOf}
@@ -17,9 +17,9 @@ use Rattle.lent_table.specs.Table.{snapTo}
 use Rattle.flic.specs.Surface.{Valid, Requested}
 use Rattle.list_write.specs.Write.{Written}
 use Rattle.calls.proofs.Controller as C
-use Rattle.flic.proofs.{Promises.write-promises, Promises.wrong-promises, Opened.Has, Opened.Cells, Opened.looks-ctl, Opened.shuts-ctl, All.Refs, All.refs, All.at-ctl, All.at-dev, All.at-tab, All.table, All.Tokens, Calls.gives-up, Calls.reads-passed}
-use Rattle.lent_table.proofs.Locals.{Content, blank, holds, since, locals, frees-all, swaps, holds-false, not-not}
-use Rattle.flic.proofs.Four.{all, shared, at-array, lends-array, array-back, Loan, Toks, Lent, lent-lfts, lent-shares, lent-args, lent-vals, calls-four}
+use Rattle.flic.proofs.{Promises.write-promises, Promises.wrong-promises, Opened.Has, Opened.Cells, Opened.looks-ctl, Opened.shuts-ctl, All.Refs, All.refs, All.at-ctl, All.at-dev, All.at-tab, All.table, All.Tokens, Calls.asks-that, Calls.gives-up, Calls.reads-passed, Frame.params-of, Frame.laid, Frame.refers, Frame.then-runs}
+use Rattle.lent_table.proofs.Locals.{Blocks, Content, blank, holds, since, locals, holds-false, not-not, ends-with, sets-up}
+use Rattle.flic.proofs.Four.{all, shared, at-array, lends-array, array-back, Loan, lent-lfts, lent-shares, lent-args, lent-vals, calls-four}
 use Rattle.lent_requests.proofs.Answered.{refused, Refuse, refuses}
 use Rattle.answers.proofs.refuse as refuse
 use Rattle.lent_table.proofs.read_device as read-device
@@ -27,7 +27,6 @@ use Rattle.lent_table.proofs.snapshot as snapshot
 use Rattle.list_write.proofs.write_list as write-list
 use Rattle.flic.proofs.flic_write_list as f
 use Rattle.list_image.specs.Image.{imageSize}
-use Rattle.flic.proofs.Ints.{Ints}
 
 abbrev stayed : Stays (f.ended .signature .params) (f.ended .kept)
 stayed = (stay-dropped (shrRefTo (0 ∷ []) tt (plain (λ _. C.the-row))) yes, (stay-dropped (shrRefTo (1 ∷ []) tt (plain (λ _. D.the-row))) yes, (stay-dropped (shrSliceOf (2 ∷ []) tt (plain (λ _. P.the-row))) yes, (gave-slice (3 ∷ []) tt (plain (λ _. u8)), tt))))
@@ -80,9 +79,6 @@ module _ {M : Type 1} (𝓤 : URA M) (H : Heap 𝓤) (A : Atoms 𝓤) (W : Given
   abbrev T : Item 𝓤
   T = ‵ (flft κo qo) ⊛ ‵ ftrue
 
-  abbrev O : (l ν : ℕ) → GName → Fml
-  O l ν δ = fsep (bool .own (a .c .ais) (vbool (a .c .ais) ∷ [])) (fsep (D.the-row .own (a .d) (D.Laws.lowered (a .d) ∷ [])) (fsep (ShrRef (named 0) (ν ∷ []) (Ints w64 imageSize) .own (at-array l 0 δ image) (vptr l 0 ∷ [])) (fsep OwnO ftrue)))
-
   -- what it leaves of the bytes, and of all
   abbrev Left-bytes : Type 0
   Left-bytes = List ℕ × Unit {0}
@@ -99,14 +95,9 @@ module _ {M : Type 1} (𝓤 : URA M) (H : Heap 𝓤) (A : Atoms 𝓤) (W : Given
   abbrev to-write : (l ν : ℕ) → GName → Share → Loan → WriteList 𝓤 H A mem′ run .Ghost
   to-write l ν δ sh n = ((lent-lfts (all (shared sh)) n (ν ∷ [], (κo, tt)), lent-shares (all (shared sh)) (fullShare, (qo, tt)), tt, lent-args (all (shared sh)) n (a .c) (a .bc) (a .oc) (a .c .ais, (a .d, (at-array l 0 δ image, (at-array bo oo γo bytes, tt)))), lent-vals (all (shared sh)) (a .bc) (a .oc) (vbool (a .c .ais) ∷ [], (D.Laws.lowered (a .d) ∷ [], (vptr l 0 ∷ [], (out ∷ [], tt))))), tt)
 
-  goes : length (a .t) ≡ limitsOf (a .c) .places → (l ν : ℕ) (δ : GName) (sh : Share) (n : Loan)
-      → ent 𝓤 (⋆ 𝓤 H A (Toks (all (shared sh)) n (‵ (flft (ν ∷ []) fullShare) ⊛ T) ∷ ‵ (Lent (all (shared sh)) n (a .c) (a .bc) (a .oc) (O l ν δ)) ∷ [])) (WriteList 𝓤 H A mem′ run .pre (to-write l ν δ sh n))
-  goes right l ν δ sh n = qed W (Toks (all (shared sh)) n (‵ (flft (ν ∷ []) fullShare) ⊛ T) ∷ ‵ (Lent (all (shared sh)) n (a .c) (a .bc) (a .oc) (O l ν δ)) ∷ []) ∵ says ! (valid right .ready, length-snap (a .t) imageSize) $ done !
-
-  module _ (C′ : Calls 𝓤 H) (Λ : Loops 𝓤 H) (fm : FmC 𝓤 H (W .laws) C′) (known : Known 𝓤 H A mem′ run C′) (l₀ l₁ l₂ l₃ l₄ l₅ l₆ l₇ l₈ l₉ l₁₀ l₁₁ l₁₂ l₁₃ l₁₄ l₁₅ l₁₆ : ℕ) where
+  module _ (C′ : Calls 𝓤 H) (Λ : Loops 𝓤 H) (fm : FmC 𝓤 H (W .laws) C′) (known : Known 𝓤 H A mem′ run C′) (l₀ : ℕ) (bs : Blocks (params-of f.Code.function)) (cs : Blocks (others f.Code.function)) where
     abbrev E : Env 𝓤 H
-    E = (An.Laws.mir, l₀) ∷ (tyRef (named 0) imm (pointee (C.the-row .written)), l₁) ∷ (tyRef (named 1) imm (pointee (D.the-row .written)), l₂) ∷ (sliceTy (tyRef (named 2) imm (pointee (P.the-row .written))), l₃) ∷ (sliceTy (tyRef (named 3) mut (tyInt w8)), l₄) ∷ (D.Laws.mir, l₅) ∷ (imageTy, l₆) ∷ (tyInt w64, l₇) ∷ (tyBool, l₈) ∷ (imageTy, l₉)
-        ∷ (tyRef erased imm (tyArray (tyInt w8) 18432), l₁₀) ∷ (tyRef erased imm (tyArray (tyInt w8) 2560), l₁₁) ∷ (tyRef erased imm (tyArray (tyInt w64) 11), l₁₂) ∷ (tyRef erased imm (tyArray (tyInt w8) 146), l₁₃) ∷ (tyRef erased imm imageTy, l₁₄) ∷ (tyRef erased mut (tyInt w8), l₁₅) ∷ (sliceTy (tyRef erased mut (tyInt w8)), l₁₆) ∷ []
+    E = laid f.Code.function An.Laws.mir l₀ bs cs
 
     -- what the locals hold after n statements, and the result's v₀; the flag is whether the length is wrong, then the capability
     abbrev wrong : Bool
@@ -114,7 +105,7 @@ module _ {M : Type 1} (𝓤 : URA M) (H : Heap 𝓤) (A : Atoms 𝓤) (W : Given
 
     abbrev held : Content → Bool → ℕ → List Content
     held v₀ flag n = v₀ ∷ holds (vptr (a .bc) (a .oc)) ∷ holds (vptr (a .bd) (a .od)) ∷ holds (table a) ∷ holds out ∷ since 4 n (D.Laws.lowered (a .d)) ∷ since 6 n (low-image image) ∷ since 1 n (vint w64 (length (a .t))) ∷ since 2 n (vbool flag) ∷ since 5 n (low-image image)
-        ∷ since 7 n (vptr (a .bc) (a .oc + 0)) ∷ since 8 n (vptr (a .bc) (a .oc + 18432)) ∷ since 9 n (vptr (a .bc) (a .oc + 20992)) ∷ since 10 n (vptr (a .bc) (a .oc + 21080)) ∷ since 12 n (vptr l₆ 0) ∷ since 13 n (vptr bo oo) ∷ since 14 n out ∷ []
+        ∷ since 7 n (vptr (a .bc) (a .oc + 0)) ∷ since 8 n (vptr (a .bc) (a .oc + 18432)) ∷ since 9 n (vptr (a .bc) (a .oc + 20992)) ∷ since 10 n (vptr (a .bc) (a .oc + 21080)) ∷ since 12 n (vptr (cs .1 .0) 0) ∷ since 13 n (vptr bo oo) ∷ since 14 n out ∷ []
 
     -- the controller looked into, at the share sh
     abbrev Open : Share → List (Item 𝓤) → List (Item 𝓤)
@@ -128,29 +119,26 @@ module _ {M : Type 1} (𝓤 : URA M) (H : Heap 𝓤) (A : Atoms 𝓤) (W : Given
           shuts-ctl ! tt sh (a .c) g (a .bc) (a .oc) $ move ! (2 ∷ []) $ fsplit ! $ fsplit ! $ move ! (1 ∷ []) $ feqL ! (λ e.
           -- [the last bytes; true; the token; T; two tokens; the locals]
           move ! (3 ∷ []) $ split ! $ move ! (4 ∷ 5 ∷ 6 ∷ 0 ∷ 2 ∷ 1 ∷ 3 ∷ []) $ move ! (5 ∷ []) $ drop ! $ move ! (5 ∷ []) $ drop ! $
-          returns ! (look ! 5 refl) $ swaps ! (Rest (y .0)) (locals E (held (holds v) (a .c .ais) 14) []) $ frees-all ! E (held (holds v) (a .c .ais) 14) $ by ! (exits (y .0) z v (write-promises (a .c) (a .d) (a .t) bytes (y .0) z right (valid right) wrote) e is))
+          returns ! (look ! 5 refl) $ ends-with ! (Rest (y .0)) E (held (holds v) (a .c .ais) 14) $ by ! (exits (y .0) z v (write-promises (a .c) (a .d) (a .t) bytes (y .0) z right (valid right) wrote) e is))
 
       calls-it : (sh : Share) → Has (a .c) → Is D.the-row (a .d) (D.Laws.lowered (a .d) ∷ []) → FitsImage image → Sq W (Open sh (‵ (flft (a .κd) (a .qd)) ∷ ‵ OwnO ∷ ‵ (flft κo qo) ∷ ‵ (flft (a .κt) (a .qt)) ∷ locals E (held blank (a .c .ais) 14) [])) (runs C′ Λ E f.Code.Mir.t-15 (atRet E Post))
       calls-it sh g gd gi =
           nothing ! $ move ! (9 ∷ 0 ∷ []) $ fjoin ! $ nothing ! $ move ! (10 ∷ 0 ∷ []) $ join ! $
           -- [T; the bytes; the controller's, 7; two tokens; the locals], and the image's cell goes to the front
-          move ! (23 ∷ 0 ∷ 1 ∷ []) $ lends-array ! tt w64 imageSize image gi l₆ 0 (shared fullShare) (λ ν δ.
+          move ! (23 ∷ 0 ∷ 1 ∷ []) $ lends-array ! tt w64 imageSize image gi (cs .1 .0) 0 (shared fullShare) (λ ν δ.
           move ! (1 ∷ []) $ owned ! D.the-row (Is D.the-row) (LL.makes D.the-type D.Laws.the-plain 𝓤 H A) (a .d) _ gd $ fjoin ! $ owned ! bool (Is bool) (bool-makes 𝓤 H A W) (a .c .ais) _ refl $ fjoin ! $ move ! (3 ∷ 4 ∷ 5 ∷ 6 ∷ 1 ∷ 0 ∷ []) $
-          calls-four (all (shared sh)) ! fm (WriteList 𝓤 H A mem′ run) (known .write-list) (to-write l₆ ν δ sh) (a .c) g (a .bc) (a .oc) An.the-row (‵ (flft (ν ∷ []) fullShare) ⊛ T) (O l₆ ν δ) Leaves (λ z w. Written (a .c .ais) (a .d) image (pendingIn (a .c)) bytes (w .1 .1 .1 .1 .1 .1 .1 .0) z) (goes right l₆ ν δ sh) (λ n v. id⊢ 𝓤 _) (λ n i.
+          calls-four (all (shared sh)) ! fm (WriteList 𝓤 H A mem′ run) (known .write-list) (to-write (cs .1 .0) ν δ sh) (a .c) g (a .bc) (a .oc) An.the-row Leaves (λ z w. Written (a .c .ais) (a .d) image (pendingIn (a .c)) bytes (w .1 .1 .1 .1 .1 .1 .1 .0) z) (λ n. asks-that 𝓤 H A W _ (valid right .ready, length-snap (a .t) imageSize)) (λ n v. id⊢ 𝓤 _) (λ n i.
           (and-then ! (load ! (from ! (stop !)) (look ! 30 refl)) (and-then ! (load ! (from ! (stop !)) (look ! 32 refl)) (and-then ! (load ! (from ! (stop !)) (look ! 34 refl)) (and-then ! (load ! (from ! (stop !)) (look ! 36 refl)) (and-then ! (load ! (from ! (stop !)) (look ! 26 refl)) (and-then ! (load ! (from ! (stop !)) (look ! 21 refl)) (and-then ! (load ! (from ! (stop !)) (look ! 38 refl)) (and-then ! (load ! (from ! (stop !)) (look ! 42 refl)) (no-more !)))))))))) (λ z v w wrote g′ is.
           land ! (from ! (stop !)) (init ! 12 refl (LL.lawful An.the-type An.Laws.the-laws 𝓤 H A W .typed z _ is .0)) $
           -- [the arrays; T; what is left; what the image's lender keeps; the rest of the controller's; two tokens; the locals]
-          move ! (5 ∷ []) $ fsplit ! $ drop ! $ fsplit ! $ drop ! $ move ! (5 ∷ 0 ∷ 6 ∷ []) $ array-back ! tt w64 imageSize image gi l₆ 0 (shared fullShare) ν δ Says-bytes (w .1 .1 .1 .1 .1 .1) (λ _.
+          move ! (5 ∷ []) $ fsplit ! $ drop ! $ fsplit ! $ drop ! $ move ! (5 ∷ 0 ∷ 6 ∷ []) $ array-back ! tt w64 imageSize image gi (cs .1 .0) 0 (shared fullShare) ν δ Says-bytes (w .1 .1 .1 .1 .1 .1) (λ _.
           -- the image's cell goes back
           move ! (3 ∷ 4 ∷ 5 ∷ 6 ∷ 7 ∷ 8 ∷ 9 ∷ 1 ∷ 2 ∷ 10 ∷ 11 ∷ 12 ∷ 13 ∷ 14 ∷ 15 ∷ 16 ∷ 17 ∷ 18 ∷ 19 ∷ 20 ∷ 21 ∷ 22 ∷ 23 ∷ 0 ∷ []) $ ends sh g z v (w .1 .1 .1 .1 .1 .1 .1) wrote is)))
 
       -- the operands
       operands : (sh : Share) → Has (a .c) → Is D.the-row (a .d) (D.Laws.lowered (a .d) ∷ []) → FitsImage image → Sq W (Open sh (‵ (flft (a .κd) (a .qd)) ∷ ‵ OwnO ∷ ‵ (flft κo qo) ∷ ‵ (flft (a .κt) (a .qt)) ∷ locals E (held blank wrong 6) [])) (runs C′ Λ E f.Code.Mir.t-7 (atRet E Post))
       operands sh g gd gi =
-          assigns ! (addr ! (from ! (hop ! (look ! 13 refl) (fld ! refl (stop !))))) (from ! (stop !)) (init ! 31 refl (tt, tt)) $
-          assigns ! (addr ! (from ! (hop ! (look ! 13 refl) (fld ! refl (stop !))))) (from ! (stop !)) (init ! 33 refl (tt, tt)) $
-          assigns ! (addr ! (from ! (hop ! (look ! 13 refl) (fld ! refl (stop !))))) (from ! (stop !)) (init ! 35 refl (tt, tt)) $
-          assigns ! (addr ! (from ! (hop ! (look ! 13 refl) (fld ! refl (stop !))))) (from ! (stop !)) (init ! 37 refl (tt, tt)) $
+          refers ! 13 31 refl refl refl (tt, tt) $ refers ! 13 33 refl refl refl (tt, tt) $ refers ! 13 35 refl refl refl (tt, tt) $ refers ! 13 37 refl refl refl (tt, tt) $
           assigns ! (of-opd ! (load ! (from ! (hop ! (look ! 13 refl) (fld ! refl (stop !)))) (look ! 4 refl))) (from ! (stop !)) (store ! 27 refl (tt, tt)) $
           assigns ! (addr ! (from ! (stop !))) (from ! (stop !)) (init ! 39 refl (tt, tt)) $
           assigns ! (addr ! (from ! (fld ! refl (hop ! (look-in ! 19 (sub ! 0 refl (whole !))) (stop !))))) (from ! (stop !)) (init ! 41 refl (tt, tt)) $
@@ -170,16 +158,13 @@ module _ {M : Type 1} (𝓤 : URA M) (H : Heap 𝓤) (A : Atoms 𝓤) (W : Given
         -- [t's token; t's; d's token; c's; its token; out's; its token; the locals]
         move ! (1 ∷ []) $ drop ! $ move ! (2 ∷ []) $ fsplit3 ! $ drop ! $ drop ! $ move ! (0 ∷ 3 ∷ 2 ∷ 4 ∷ 5 ∷ 1 ∷ []) $ looks-ctl ! tt (a .c) (a .bc) (a .oc) (λ sh g. operands right sh g gd gi)))
 
-    abbrev Then : types.Kit.Post 𝓤 H
-    Then = anyQ (afterSeq 𝓤 H (Wp 𝓤 H C′ Λ E f.Code.Mir.t-4 (atReturn 𝓤 H E Post)) (atReturn 𝓤 H E Post))
-
     -- a wrong table: the bytes are given up as they are
-    refuses-it : eqb (length (a .t)) imageSize ≡ false → Sq W (Passed (locals E (held blank wrong 2) [])) (runs C′ Λ E (taken f.Code.Mir.s-3) Then)
+    refuses-it : eqb (length (a .t)) imageSize ≡ false → Sq W (Passed (locals E (held blank wrong 2) [])) (runs C′ Λ E (taken f.Code.Mir.s-3) (then-runs C′ Λ E Post f.Code.Mir.t-4))
     refuses-it e =
         refuses ! mem′ run fm (known .refuse) 14 (omega arith) (λ i. (and-then ! (lit ! tt) (no-more !))) (λ g.
         land ! (from ! (stop !)) (init ! 8 refl (LL.lawful An.the-type An.Laws.the-laws 𝓤 H A W .typed (refused 14) _ g .0)) $ move ! (4 ∷ []) $ gives-up ! κo bo oo γo bytes $
         move ! (4 ∷ 1 ∷ 6 ∷ 5 ∷ 0 ∷ []) $ move ! (5 ∷ []) $ drop ! $ move ! (5 ∷ []) $ drop ! $ move ! (5 ∷ []) $ drop ! $ returns-within ! Post refl (look ! 5 refl) $
-        swaps ! (Rest bytes) (locals E (held (holds (An.Laws.lowered (refused 14))) wrong 2) []) $ frees-all ! E (held (holds (An.Laws.lowered (refused 14))) wrong 2) $
+        ends-with ! (Rest bytes) E (held (holds (An.Laws.lowered (refused 14))) wrong 2) $
         by ! (exits bytes (refused 14) (An.Laws.lowered (refused 14)) (wrong-promises (a .c) (a .d) (a .t) bytes (wrong-length (a .c) _ (eqb-false (length (a .t)) imageSize e)) writeList tt) refl g))
 
     -- the length is looked at
@@ -198,9 +183,7 @@ module _ {M : Type 1} (𝓤 : URA M) (H : Heap 𝓤) (A : Atoms 𝓤) (W : Given
       move ! (5 ∷ []) $ fsplit ! $ move ! (1 ∷ []) $ fsplit ! $ move ! (1 ∷ []) $ fsplit ! $ move ! (1 ∷ []) $ fsplit ! $
       -- [out's; true; t's; d's; c's; the tokens o; true; t; d; c]
       keep ! (8 ∷ 3 ∷ 4 ∷ 9 ∷ 0 ∷ 5 ∷ 7 ∷ 2 ∷ []) $ enter ! C′ Λ f.Code.function (vptr (a .bc) (a .oc) ∷ vptr (a .bd) (a .od) ∷ table a ∷ out ∷ []) _ $
-      alloc1 ! (λ l₀. alloc1 ! (λ l₁. alloc1 ! (λ l₂. alloc1 ! (λ l₃. alloc1 ! (λ l₄. alloc1 ! (λ l₅. alloc1 ! (λ l₆. alloc1 ! (λ l₇. alloc1 ! (λ l₈. alloc1 ! (λ l₉. alloc1 ! (λ l₁₀. alloc1 ! (λ l₁₁. alloc1 ! (λ l₁₂. alloc1 ! (λ l₁₃. alloc1 ! (λ l₁₄. alloc1 ! (λ l₁₅. alloc1 ! (λ l₁₆. alloc0 ! $ params1 ! $
-      pass1 ! (init ! 30 refl (tt, tt)) $ pass1 ! (init ! 28 refl (tt, tt)) $ pass1 ! (init ! 26 refl (tt, (tt, (record { fits = room .0 }, tt)))) $ pass1 ! (init ! 24 refl (tt, (tt, (record { fits = room-o .0 }, tt)))) $ pass0 ! $
-      keep ! (34 ∷ 35 ∷ 36 ∷ 37 ∷ 38 ∷ 39 ∷ 40 ∷ 41 ∷ 32 ∷ 33 ∷ 30 ∷ 31 ∷ 28 ∷ 29 ∷ 26 ∷ 27 ∷ 24 ∷ 25 ∷ 22 ∷ 23 ∷ 20 ∷ 21 ∷ 18 ∷ 19 ∷ 16 ∷ 17 ∷ 14 ∷ 15 ∷ 12 ∷ 13 ∷ 10 ∷ 11 ∷ 8 ∷ 9 ∷ 6 ∷ 7 ∷ 4 ∷ 5 ∷ 2 ∷ 3 ∷ 0 ∷ 1 ∷ []) $ starts C′ Λ fm known l₀ l₁ l₂ l₃ l₄ l₅ l₆ l₇ l₈ l₉ l₁₀ l₁₁ l₁₂ l₁₃ l₁₄ l₁₅ l₁₆)))))))))))))))))
+      sets-up ! _ An.Laws.mir (params-of f.Code.function) (others f.Code.function) _ ((tt, tt), ((tt, tt), ((tt, (tt, (record { fits = room .0 }, tt))), ((tt, (tt, (record { fits = room-o .0 }, tt))), tt)))) (starts C′ Λ fm known)
 
 pub flic-write-list-spec : {M : Type 1} → f.Statement.statement M
 unfolding f.Code.routine tablesOf

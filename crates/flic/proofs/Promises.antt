@@ -8,13 +8,14 @@ use Rattle.rules.specs.Machine.{Ask, setAttr, getAttr, guestTake, writeList, pl
 use Rattle.rules.proofs.{Checks.passes, Checks.fails, Checks.chosen, Checks.passed, Lists.all-replicate, Outcomes.Known, Outcomes.Plays, Outcomes.known-outcome, Outcomes.never-zero, Reachable.kept-step, Reachable.fresh-sound}
 use Rattle.answers.specs.{declared.Answer.Answer, Answers.Answers, Answers.answered, Answers.saw}
 use Rattle.adapters.specs.{declared.Device.Device, declared.Place.Place, Values.placeOf, Values.deviceOf, Values.unused, Values.Canonical}
+use Rattle.adapters.proofs.Laws.{canonical-unused}
 use Rattle.list_image.specs.{Image.imageSize, Image.unpacked, Places.placesOf, Places.AllCanonical}
 use Rattle.list_image.proofs.{Laws.places-all, Laws.places-take, Packed.unpacked-zero, Packed.unpacked-table}
 use Rattle.list_write.specs.Write.{Written}
 use Rattle.lent_table.specs.Table.{snapTo, restored}
 use Rattle.lent_requests.specs.Requests.{ModesSet, PlaceSet}
 use Rattle.lent_table.proofs.Tables.{snap-all, restored-all, restored-whole}
-use Rattle.lent_requests.proofs.{Maps.map-replicate, Laws.canonical-unused}
+use Rattle.lent_requests.proofs.{Maps.map-replicate}
 use Rattle.calls.specs.{declared.Controller.Controller, Limits.limitsOf, Inner.controller, Inner.pendingIn, Inner.notedIn, Inner.Injected, Inner.Got}
 use Rattle.list_play.specs.{declared.Played.Played, Play.PlayedTo}
 use Rattle.calls.proofs.Sized.{paper-sized}

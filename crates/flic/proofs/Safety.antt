@@ -17,11 +17,12 @@ use contract.Lifetimes.{Lfts}
 use contract.Monad.{Fun, fact, factI, fact-mono}
 use denote.Ref.{now}
 use denote.Triple.{Entry.Args, Entry.Res, Clauses.Ended, Clauses.AtExit, Clauses.Clauses}
-use Rattle.rules.specs.{Bytes.choose, State.State, State.paperLimits, State.free, State.fresh, Outcome.Outcome, Outcome.refuseWith, Outcome.accept, Outcome.resetWith, Outcome.refuse, Outcome.result, Outcome.answering, Outcome.Answer as Told, Invariant.All}
+use Rattle.rules.specs.{State.State, State.paperLimits, State.free, State.fresh, Outcome.Outcome, Outcome.refuseWith, Outcome.accept, Outcome.resetWith, Outcome.refuse, Outcome.result, Outcome.answering, Outcome.Answer as Told, Invariant.All}
 use Rattle.rules.specs.Machine.{Ask, setAttr, getAttr, guestTake, writeList, playList, outcome, step, answerOf}
 use Rattle.rules.proofs.Outcomes.{Known, Plays, known-outcome, plays-fresh, Answered, every-answer}
 use Rattle.answers.specs.{declared.Answer.Answer, Answers.answered, Answers.saw}
 use Rattle.adapters.specs.{declared.Device.Device, declared.Place.Place, Values.placeOf, Values.unused, Values.Canonical}
+use Rattle.adapters.proofs.Laws.{place-is-free}
 use Rattle.calls.specs.{declared.Controller.Controller, Limits.limitsOf}
 use Rattle.flic.specs.{Surface.stateOf, Surface.Steps, Surface.Requested, Surface.Taken, Surface.Made, Chain.asked, Safety.SafeRequest, Safety.SafeTake, Safety.IsFresh, Safety.playing, Safety.SafePlay, Safety.SafeMake}
 use Rattle.flic.proofs.{Promises.right-table, Promises.by-length, Promises.Tabled, Promises.refused-table}
@@ -111,19 +112,11 @@ safe-make ais c c′ d d′ t t′ r f =
     }
 
 -- a table whose places are all free: each is the one unused place
-is-unused : (p : Place) → Canonical p → placeOf p ≡ free → p ≡ unused
-unfolding placeOf choose
-is-unused p k e = go (p .used) refl
-  where
-    go : (u : Bool) → p .used ≡ u → p ≡ unused
-    go true q = absurd (true≢false (let z : true ≡ false = cc in z))
-    go false q = k .unusedOne q
-
 all-unused : (n : ℕ) (t : List Place) → All Canonical t → map placeOf t ≡ replicate n free → t ≡ replicate n unused
 all-unused zero [] k e = refl
 all-unused zero (p ∷ t) k e = absurd (true≢false (let z : true ≡ false = cc in z))
 all-unused (suc n) [] k e = absurd (true≢false (let z : true ≡ false = cc in z))
-all-unused (suc n) (p ∷ t) k e = λ i. is-unused p (k .0) (cc) i ∷ all-unused n t (k .1) (cc) i
+all-unused (suc n) (p ∷ t) k e = λ i. k .0 .unusedOne (place-is-free p (cc)) i ∷ all-unused n t (k .1) (cc) i
 
 module _ (c c′ : Controller) (d d′ : Device) (t t′ : List Place) (b : List ℕ) (r : Answer)
     (f : Requested playList c c′ d d′ t t′ b (saw r b)) where

@@ -1,9 +1,10 @@
 -- From a request's code, and what it changes where that is 0, to what the request promises.
-use Rattle.numbers.proofs.Basics.{ℕ, _≡_, refl, ap, sym, _∙_, Bool, List, map, arith, getD, set}
+use Rattle.numbers.proofs.Basics.{ℕ, _≡_, refl, ap, sym, _∙_, Bool, List, map, getD, set}
 use Rattle.numbers.proofs.Basics.{length-set, List·getD-map}
 use Rattle.rules.specs.{Bytes.choose, State.Limits, State.State, State.free, State.withDevice, Outcome.result, Outcome.tell, Requests.setRequest, Requests.request, Machine.answerOf}
 use Rattle.rules.proofs.Lists.{all-set, all-get}
 use Rattle.adapters.specs.{declared.Device.Device, declared.Place.Place, Values.placeOf, Values.deviceOf, Values.deviceFrom, Values.unused, Values.Canonical}
+use Rattle.adapters.proofs.Laws.{canonical-unused}
 use Rattle.list_image.specs.Image.{imageSize}
 use Rattle.adapter_requests.specs.States.{payloadId, decided, placeAfter, withPlace, modesAfter}
 use Rattle.adapter_requests.proofs.Laws.{decided-refused, decided-accepted}
@@ -30,10 +31,6 @@ module _ (ais : Bool) (group attr : ℕ) (d : Device) (b : List ℕ) (code : ℕ
         answer = λ L s e h. ap (answerOf L s b) (f L s e ∙ decided-accepted _ _ z) ∙ (λ i. tell 0 0 (withDevice (modesAfter group b (h i)) s) b);
         kept = λ n. absurd (n refl);
       }
-
--- ---- the table
-pub canonical-unused : Canonical unused
-canonical-unused = record { unusedOne = λ e. refl; iscSmall = omega arith; maskedMaskable = λ e. e }
 
 module _ (group attr : ℕ) (t : List Place) (b : List ℕ) (code : ℕ) where
   abbrev id : ℕ

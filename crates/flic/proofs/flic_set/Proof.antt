@@ -19,12 +19,13 @@ use Rattle.answers.specs.{declared.Answer.Answer, Answers.saw}
 use Rattle.answers.proofs.Answer as An
 use Rattle.answers.proofs.refuse as refuse
 use Rattle.adapters.specs.{declared.Device.Device, declared.Place.Place, Values.unused, Values.Canonical, Values.injectedDevice}
+use Rattle.adapters.proofs.Laws.{canonical-unused}
 use Rattle.adapters.proofs.Device as D
 use Rattle.adapters.proofs.Place as P
 use Rattle.adapter_requests.specs.States.{onPlace}
 use Rattle.adapter_requests.proofs.on_place as on-place
 use Rattle.lent_table.proofs.Locals.{Blocks, Content, blank, holds, since, locals, holds-true, holds-false, not-not, ends-with, sets-up}
-use Rattle.lent_requests.proofs.{Answered.FitsAnswer, Answered.refused, Answered.Refuse, Answered.ByFields, Answered.refuses, Answered.copies, Laws.canonical-unused}
+use Rattle.lent_requests.proofs.{Answered.FitsAnswer, Answered.refused, Answered.Refuse, Answered.ByFields, Answered.refuses, Answered.copies}
 use Rattle.answers.proofs.by_fields as by-fields
 use Rattle.record_add.proofs.enqueue_irqs as enqueue
 use Rattle.record_take.proofs.clear_irqs as clear

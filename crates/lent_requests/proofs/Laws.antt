@@ -32,6 +32,7 @@ module _ (ais : Bool) (group attr : ℕ) (d : Device) (b : List ℕ) (code : ℕ
         kept = λ n. absurd (n refl);
       }
 
+-- ---- the table
 module _ (group attr : ℕ) (t : List Place) (b : List ℕ) (code : ℕ) where
   abbrev id : ℕ
   id = payloadId b

@@ -206,7 +206,8 @@ unfoldable pub removes : State → Option (List (List Record)) → Outcome State
 removes s none = accept 0 s []
 removes s (some qs) =
     accept 1
-    (withPending (record { io = qs; done = s .pending .done; service = s .pending .service; mchk = s .pending .mchk }) s) []
+    (withPending (record { io = qs; done = s .pending .done; service = s .pending .service; mchk = s .pending .mchk }) s)
+    []
 
 -- 8 CLEAR_IO_IRQ: the first I/O record in listing order that has both subchannel id and number is removed; count: 0 or
 -- 1. None: code 0, count 0. Word 0, which is id 0 and number 0, is refused (000, last note).

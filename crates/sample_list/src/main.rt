@@ -49,51 +49,70 @@ fn set(
     ran.device
 }
 
-fn main() {
-    let mut s = [0u8; SLOT_BYTES];
-    let mut o = [0u8; ORDER_BYTES];
-    let mut c = [0usize; COUNTS];
-    let mut g = [0u8; SINGLES_BYTES];
-    let mut image = list_image::empty();
-    store::fresh(&mut o, &mut c, &mut g);
+// Makes P9 on a fresh controller with free places. The result is the device record.
+fn make(
+    slots: &mut [u8; SLOT_BYTES],
+    order: &mut [u8; ORDER_BYTES],
+    counts: &mut [usize; COUNTS],
+    singles: &mut [u8; SINGLES_BYTES],
+    image: &mut [u64; PLACES],
+) -> Device
+    requires { ⌜ Held (now order) (now counts) × Imaged (now image) ⌝ }
+    ensures { λ _. ⌜ HeldAfter order counts × Imaged (now (image .exit)) ⌝ }
+{
     let adapter = [0, 0, 0, 5, 3, 1, 0, 1];
     let mode = [3, 0, 0, 1];
     let mut d = adapters::fresh_device();
     d = set(
-        &mut s,
-        &mut o,
-        &mut c,
-        &mut g,
-        &mut image,
+        slots,
+        order,
+        counts,
+        singles,
+        image,
         d,
         ADAPTER_REGISTER,
         0,
         &adapter,
     );
-    d = set(
-        &mut s,
-        &mut o,
-        &mut c,
-        &mut g,
-        &mut image,
-        d,
-        AISM,
-        0,
-        &mode,
-    );
-    d = set(
-        &mut s,
-        &mut o,
-        &mut c,
-        &mut g,
-        &mut image,
+    d = set(slots, order, counts, singles, image, d, AISM, 0, &mode);
+    set(
+        slots,
+        order,
+        counts,
+        singles,
+        image,
         d,
         AIRQ_INJECT,
         5,
         &mode,
+    )
+}
+
+fn main() {
+    let mut slots = [0u8; SLOT_BYTES];
+    let mut order = [0u8; ORDER_BYTES];
+    let mut counts = [0usize; COUNTS];
+    let mut singles = [0u8; SINGLES_BYTES];
+    let mut image = list_image::empty();
+    store::fresh(&mut order, &mut counts, &mut singles);
+    let device = make(
+        &mut slots,
+        &mut order,
+        &mut counts,
+        &mut singles,
+        &mut image,
     );
     let mut list = [0u8; 174];
-    let written = list_write::write_list(&s, &o, &c, &g, true, d, &image, &mut list);
+    let written = list_write::write_list(
+        &slots,
+        &order,
+        &counts,
+        &singles,
+        true,
+        device,
+        &image,
+        &mut list,
+    );
     if written.count == 174 {
         io::write_all(STDOUT_FILENO, &list);
     }

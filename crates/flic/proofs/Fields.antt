@@ -1,6 +1,6 @@
 -- A share of a struct's cell taken apart into its fields' cells, side by side, and put together again. It says nothing of the crate.
---     fields-out   the struct's cell  ⟶  its fields' cells, and the way back from any values of theirs
---     fields-in    the fields' cells at the values us, and the way back  ⟶  the struct's cell at us
+--     fields-out   the struct's cell  ⟶  its fields' cells, and how they go back, with any values of theirs
+--     fields-in    the fields' cells at the values us, and how they go back  ⟶  the struct's cell at us
 use Rattle.flic.proofs.Walk.{ℕ, [], _∷_, List, URA, SProp, Share, fat, Heap, Atoms, Goal, Step, step, Given, Item, ‵, raw, _⊛_, _$_, move, use1, use2, split, Tys, tyStruct, Vals, vstruct}
 use base.Logic.{wand, all, allE, apply∗}
 use prog.Model.{fieldsAt}

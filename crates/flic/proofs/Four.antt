@@ -1,7 +1,7 @@
 -- The call of a covered function that takes some of the controller's four arrays by reference, then whatever else: the cells of these arrays are lent at the same
 -- time, each for a lifetime of the call, and come back.
---     Way              how an array is lent: by `&mut`, for which its whole cell is held; by `&`, of which a share is held; or not at all
---     Ways             the ways of the four arrays
+--     Lending              how an array is lent: by `&mut`, for which its whole cell is held; by `&`, of which a share is held; or not at all
+--     Lendings             the lendings of the four arrays
 --     lends-array, array-back      one array's cell: its token and its reference are put before the tokens T and the formula O of what is passed after it
 --     calls-four       the cells of c ∷ T ∷ O ∷ Γ  ⟶  the cells of the controller that the callee leaves ∷ T ∷ what it says of the rest ∷ Γ
 use Rattle.flic.proofs.Walk.{ℕ, [], _∷_, List, URA, fullShare, named, w8, w64, Val, vptr, ent, flent, GName, Lft, Share, Fml, ftrue, fsep, flft, fres, Heap, Env, Calls, Loops, Atoms, Soaks, Goal, Given, Item, mean, Seq, runs, lands, ‵, ⋆, _⊛_, _$_, move, drop, split, join, fsplit, fjoin, Opds, Body, FmC, RattleType, Is, shows, mem, partAt, cellAt, RefT, ShrRef, MutRef, owned, peeks, spelt, Contract, Triple, _+_}
@@ -11,13 +11,13 @@ use Rattle.lent_table.proofs.{Rows.shares-cell, Rows.cell-shared-back, Rows.len
 use Rattle.calls.specs.{declared.Controller.Controller, Inner.controller}
 use Rattle.flic.proofs.{Ints.Ints, Ints.ints, Ints.FitsInts, Ints.ints-tells, Ints.ints-makes, Opened.Has}
 
-pub data Way : Type 0 where
-  mutably : Way
-  shared : Share → Way
-  apart : Share → Way
+pub data Lending : Type 0 where
+  mutably : Lending
+  shared : Share → Lending
+  apart : Share → Lending
 
 -- the share of the cell that is held
-abbrev pub share-of : Way → Share
+abbrev pub share-of : Lending → Share
 share-of mutably = fullShare
 share-of (shared s) = s
 share-of (apart s) = s
@@ -28,58 +28,58 @@ at-array b o δ xs = record { ptr = (b, o); name = δ; now = xs }
 -- ---- One array of m integers of the width w, which is xs at b and o, lent for ν under the name δ.
 module _ {M : Type 1} {𝓤 : URA M} where
   -- its token, and then T
-  abbrev tok : Way → ℕ → Item 𝓤 → Item 𝓤
+  abbrev tok : Lending → ℕ → Item 𝓤 → Item 𝓤
   tok mutably ν T = ‵ (flft (ν ∷ []) fullShare) ⊛ T
   tok (shared s) ν T = ‵ (flft (ν ∷ []) fullShare) ⊛ T
   tok (apart s) ν T = T
 
   -- what stays with the lender
-  abbrev lender : Way → Width → ℕ → List ℕ → (b o ν : ℕ) → GName → Item 𝓤
+  abbrev lender : Lending → Width → ℕ → List ℕ → (b o ν : ℕ) → GName → Item 𝓤
   lender mutably w m xs b o ν δ = ‵ (flent (ν ∷ []) (Body (mem (Ints w m)) b o δ))
   lender (shared s) w m xs b o ν δ = ‵ (flent (ν ∷ []) (partAt (Ints w m) s xs b o))
   lender (apart s) w m xs b o ν δ = ‵ (cellAt s (Ints w m .mir) (ints w xs ∷ []) b o)
 
 -- its reference, and then O
-abbrev lent : Way → Width → ℕ → List ℕ → (b o ν : ℕ) → GName → Fml → Fml
+abbrev lent : Lending → Width → ℕ → List ℕ → (b o ν : ℕ) → GName → Fml → Fml
 lent mutably w m xs b o ν δ O = fsep (MutRef (named 0) (ν ∷ []) (Ints w m) .own (at-array b o δ xs) (vptr b o ∷ [])) O
 lent (shared s) w m xs b o ν δ O = fsep (ShrRef (named 0) (ν ∷ []) (Ints w m) .own (at-array b o δ xs) (vptr b o ∷ [])) O
 lent (apart s) w m xs b o ν δ O = O
 
 -- an argument for it, and then the others'
-abbrev With : Way → Type 0 → Type 0 → Type 0
+abbrev With : Lending → Type 0 → Type 0 → Type 0
 With mutably X Y = X × Y
 With (shared s) X Y = X × Y
 With (apart s) X Y = Y
 
-abbrev with : (way : Way) {X Y : Type 0} → X → Y → With way X Y
+abbrev with : (lending : Lending) {X Y : Type 0} → X → Y → With lending X Y
 with mutably x y = (x, y)
 with (shared s) x y = (x, y)
 with (apart s) x y = y
 
 -- what a callee leaves of it and of what comes after it, Y; the list it then is, the rest, and what is said of both
-abbrev Left-of : Way → Type 0 → Type 0
+abbrev Left-of : Lending → Type 0 → Type 0
 Left-of mutably Y = List ℕ × Y
 Left-of (shared s) Y = Unit {0} × Y
 Left-of (apart s) Y = Y
 
-abbrev list-of : (way : Way) (Y : Type 0) → List ℕ → Left-of way Y → List ℕ
+abbrev list-of : (lending : Lending) (Y : Type 0) → List ℕ → Left-of lending Y → List ℕ
 list-of mutably Y xs y = y .0
 list-of (shared s) Y xs y = xs
 list-of (apart s) Y xs y = xs
 
-abbrev rest-of : (way : Way) {Y : Type 0} → Left-of way Y → Y
+abbrev rest-of : (lending : Lending) {Y : Type 0} → Left-of lending Y → Y
 rest-of mutably y = y .1
 rest-of (shared s) y = y .1
 rest-of (apart s) y = y
 
-abbrev pub said-of : (way : Way) {Y : Type 0} → Width → ℕ → GName → (Y → Fml) → Left-of way Y → Fml
+abbrev pub said-of : (lending : Lending) {Y : Type 0} → Width → ℕ → GName → (Y → Fml) → Left-of lending Y → Fml
 said-of mutably w m δ L y = fsep (fres δ (Ints w m .coded .code (y .0))) (L (y .1))
 said-of (shared s) w m δ L y = fsep ftrue (L (y .1))
 said-of (apart s) w m δ L y = L y
 
 module _ {M : Type 1} {𝓤 : URA M} {H : Heap 𝓤} {A : Atoms 𝓤} {K : Type 0} {W : Given 𝓤 H A} {Γ : List (Item 𝓤)} {G : Goal 𝓤 H} (t : K) (z : Soaks G) (w : Width) (m : ℕ) (xs : List ℕ) (g : FitsInts w m xs) (b o : ℕ) where
-  pub lends-array : (way : Way) {T : Item 𝓤} {O : Fml} → ((ν : ℕ) (δ : GName) → Seq K W (tok way ν T ∷ ‵ (lent way w m xs b o ν δ O) ∷ lender way w m xs b o ν δ ∷ Γ) G)
-      → Seq K W (‵ (cellAt (share-of way) (Ints w m .mir) (ints w xs ∷ []) b o) ∷ T ∷ ‵ O ∷ Γ) G
+  pub lends-array : (lending : Lending) {T : Item 𝓤} {O : Fml} → ((ν : ℕ) (δ : GName) → Seq K W (tok lending ν T ∷ ‵ (lent lending w m xs b o ν δ O) ∷ lender lending w m xs b o ν δ ∷ Γ) G)
+      → Seq K W (‵ (cellAt (share-of lending) (Ints w m .mir) (ints w xs ∷ []) b o) ∷ T ∷ ‵ O ∷ Γ) G
   lends-array mutably k =
       owned t (Ints w m) (Is (Ints w m)) (ints-makes 𝓤 H A W w m) xs _ g $ move t (1 ∷ 0 ∷ []) $ lends-cell t z (Ints w m) xs (ints w xs ∷ []) b o (λ ν δ.
       -- [the token; the reference; the lender's part; T; O; Γ]
@@ -89,9 +89,9 @@ module _ {M : Type 1} {𝓤 : URA M} {H : Heap 𝓤} {A : Atoms 𝓤} {K : Type 
       move t (1 ∷ 4 ∷ []) $ fjoin t $ move t (1 ∷ 3 ∷ []) $ join t $ k ν δ)
   lends-array (apart s) k = move t (1 ∷ 2 ∷ []) $ k 0 0
 
-  pub array-back : (way : Way) (ν : ℕ) (δ : GName) {Y : Type 0} (L : Y → Fml) (y : Left-of way Y) {T : Item 𝓤}
-      → (FitsInts w m (list-of way Y xs y) → Seq K W (‵ (cellAt (share-of way) (Ints w m .mir) (ints w (list-of way Y xs y) ∷ []) b o) ∷ T ∷ ‵ (L (rest-of way y)) ∷ Γ) G)
-      → Seq K W (tok way ν T ∷ ‵ (said-of way w m δ L y) ∷ lender way w m xs b o ν δ ∷ Γ) G
+  pub array-back : (lending : Lending) (ν : ℕ) (δ : GName) {Y : Type 0} (L : Y → Fml) (y : Left-of lending Y) {T : Item 𝓤}
+      → (FitsInts w m (list-of lending Y xs y) → Seq K W (‵ (cellAt (share-of lending) (Ints w m .mir) (ints w (list-of lending Y xs y) ∷ []) b o) ∷ T ∷ ‵ (L (rest-of lending y)) ∷ Γ) G)
+      → Seq K W (tok lending ν T ∷ ‵ (said-of lending w m δ L y) ∷ lender lending w m xs b o ν δ ∷ Γ) G
   array-back mutably ν δ L y k =
       -- [what is said; O; the token; T; the lender's part; Γ]
       split t $ move t (2 ∷ []) $ fsplit t $ move t (2 ∷ 4 ∷ 0 ∷ []) $ cell-back t z (Ints w m) b o ν δ (y .0) (λ vs.
@@ -103,15 +103,15 @@ module _ {M : Type 1} {𝓤 : URA M} {H : Heap 𝓤} {A : Atoms 𝓤} {K : Type 
   array-back (apart s) ν δ L y k = move t (2 ∷ []) $ k g
 
 -- ---- The four arrays.
-pub record Ways : Type 0 where
-  pub slots : Way
-  pub order : Way
-  pub counts : Way
-  pub singles : Way
+pub record Lendings : Type 0 where
+  pub slots : Lending
+  pub order : Lending
+  pub counts : Lending
+  pub singles : Lending
 
 -- all four are lent alike
-abbrev pub all : Way → Ways
-all way = record { slots = way; order = way; counts = way; singles = way }
+abbrev pub all : Lending → Lendings
+all lending = record { slots = lending; order = lending; counts = lending; singles = lending }
 
 -- the lifetimes and the names of a loan
 pub record Loan : Type 0 where
@@ -124,33 +124,33 @@ pub record Loan : Type 0 where
   pub δ₂ : GName
   pub δ₃ : GName
 
-module _ (ways : Ways) where
+module _ (lendings : Lendings) where
   module _ {M : Type 1} {𝓤 : URA M} where
     -- the tokens of a loan, and then T
     abbrev Toks : Loan → Item 𝓤 → Item 𝓤
-    Toks n T = tok (ways .slots) (n .ν₀) (tok (ways .order) (n .ν₁) (tok (ways .counts) (n .ν₂) (tok (ways .singles) (n .ν₃) T)))
+    Toks n T = tok (lendings .slots) (n .ν₀) (tok (lendings .order) (n .ν₁) (tok (lendings .counts) (n .ν₂) (tok (lendings .singles) (n .ν₃) T)))
 
     -- what the lender keeps
     abbrev Lenders : Controller → (b o : ℕ) → Loan → List (Item 𝓤) → List (Item 𝓤)
-    Lenders c b o n Δ = lender (ways .slots) w8 18432 (c .slots) b (o + 0) (n .ν₀) (n .δ₀) ∷ lender (ways .order) w8 2560 (c .order) b (o + 18432) (n .ν₁) (n .δ₁)
-        ∷ lender (ways .counts) w64 11 (c .counts) b (o + 20992) (n .ν₂) (n .δ₂) ∷ lender (ways .singles) w8 146 (c .singles) b (o + 21080) (n .ν₃) (n .δ₃) ∷ Δ
+    Lenders c b o n Δ = lender (lendings .slots) w8 18432 (c .slots) b (o + 0) (n .ν₀) (n .δ₀) ∷ lender (lendings .order) w8 2560 (c .order) b (o + 18432) (n .ν₁) (n .δ₁)
+        ∷ lender (lendings .counts) w64 11 (c .counts) b (o + 20992) (n .ν₂) (n .δ₂) ∷ lender (lendings .singles) w8 146 (c .singles) b (o + 21080) (n .ν₃) (n .δ₃) ∷ Δ
 
     -- the cells of the arrays, a share of each, in front of Γ
     abbrev Cells-of : Controller → (b o : ℕ) → List (Item 𝓤) → List (Item 𝓤)
-    Cells-of c b o Γ = ‵ (cellAt (share-of (ways .slots)) (Ints w8 18432 .mir) (ints w8 (c .slots) ∷ []) b (o + 0)) ∷ ‵ (cellAt (share-of (ways .order)) (Ints w8 2560 .mir) (ints w8 (c .order) ∷ []) b (o + 18432))
-        ∷ ‵ (cellAt (share-of (ways .counts)) (Ints w64 11 .mir) (ints w64 (c .counts) ∷ []) b (o + 20992)) ∷ ‵ (cellAt (share-of (ways .singles)) (Ints w8 146 .mir) (ints w8 (c .singles) ∷ []) b (o + 21080)) ∷ Γ
+    Cells-of c b o Γ = ‵ (cellAt (share-of (lendings .slots)) (Ints w8 18432 .mir) (ints w8 (c .slots) ∷ []) b (o + 0)) ∷ ‵ (cellAt (share-of (lendings .order)) (Ints w8 2560 .mir) (ints w8 (c .order) ∷ []) b (o + 18432))
+        ∷ ‵ (cellAt (share-of (lendings .counts)) (Ints w64 11 .mir) (ints w64 (c .counts) ∷ []) b (o + 20992)) ∷ ‵ (cellAt (share-of (lendings .singles)) (Ints w8 146 .mir) (ints w8 (c .singles) ∷ []) b (o + 21080)) ∷ Γ
 
   -- the references of a loan, and then O
   abbrev Lent : Loan → Controller → ℕ → ℕ → Fml → Fml
-  Lent n c b o O = lent (ways .slots) w8 18432 (c .slots) b (o + 0) (n .ν₀) (n .δ₀) (lent (ways .order) w8 2560 (c .order) b (o + 18432) (n .ν₁) (n .δ₁)
-      (lent (ways .counts) w64 11 (c .counts) b (o + 20992) (n .ν₂) (n .δ₂) (lent (ways .singles) w8 146 (c .singles) b (o + 21080) (n .ν₃) (n .δ₃) O)))
+  Lent n c b o O = lent (lendings .slots) w8 18432 (c .slots) b (o + 0) (n .ν₀) (n .δ₀) (lent (lendings .order) w8 2560 (c .order) b (o + 18432) (n .ν₁) (n .δ₁)
+      (lent (lendings .counts) w64 11 (c .counts) b (o + 20992) (n .ν₂) (n .δ₂) (lent (lendings .singles) w8 146 (c .singles) b (o + 21080) (n .ν₃) (n .δ₃) O)))
 
   -- the ghost arguments of such a call: those of the loan, and then the others'
   abbrev With-four : Type 0 → Type 0 → Type 0
-  With-four X Y = With (ways .slots) X (With (ways .order) X (With (ways .counts) X (With (ways .singles) X Y)))
+  With-four X Y = With (lendings .slots) X (With (lendings .order) X (With (lendings .counts) X (With (lendings .singles) X Y)))
 
   abbrev with-four : {X Y : Type 0} → X → X → X → X → Y → With-four X Y
-  with-four {X} {Y} x₀ x₁ x₂ x₃ y = with (ways .slots) {X = X} x₀ (with (ways .order) {X = X} x₁ (with (ways .counts) {X = X} x₂ (with (ways .singles) {X = X} {Y = Y} x₃ y)))
+  with-four {X} {Y} x₀ x₁ x₂ x₃ y = with (lendings .slots) {X = X} x₀ (with (lendings .order) {X = X} x₁ (with (lendings .counts) {X = X} x₂ (with (lendings .singles) {X = X} {Y = Y} x₃ y)))
 
   abbrev pub lent-lfts : {Y : Type 0} → Loan → Y → With-four Lft Y
   lent-lfts {Y} n y = with-four {X = Lft} {Y = Y} (n .ν₀ ∷ []) (n .ν₁ ∷ []) (n .ν₂ ∷ []) (n .ν₃ ∷ []) y
@@ -166,47 +166,47 @@ module _ (ways : Ways) where
 
   -- what a callee leaves of the four lists, and of the rest; the controller that is; the rest; and what is said of it
   abbrev pub Left : Type 0 → Type 0
-  Left Y = Left-of (ways .slots) (Left-of (ways .order) (Left-of (ways .counts) (Left-of (ways .singles) Y)))
+  Left Y = Left-of (lendings .slots) (Left-of (lendings .order) (Left-of (lendings .counts) (Left-of (lendings .singles) Y)))
 
   module _ (Y : Type 0) where
-    abbrev rest₁ : Left Y → Left-of (ways .order) (Left-of (ways .counts) (Left-of (ways .singles) Y))
-    rest₁ y = rest-of (ways .slots) y
+    abbrev rest₁ : Left Y → Left-of (lendings .order) (Left-of (lendings .counts) (Left-of (lendings .singles) Y))
+    rest₁ y = rest-of (lendings .slots) y
 
-    abbrev rest₂ : Left Y → Left-of (ways .counts) (Left-of (ways .singles) Y)
-    rest₂ y = rest-of (ways .order) (rest₁ y)
+    abbrev rest₂ : Left Y → Left-of (lendings .counts) (Left-of (lendings .singles) Y)
+    rest₂ y = rest-of (lendings .order) (rest₁ y)
 
-    abbrev rest₃ : Left Y → Left-of (ways .singles) Y
-    rest₃ y = rest-of (ways .counts) (rest₂ y)
+    abbrev rest₃ : Left Y → Left-of (lendings .singles) Y
+    rest₃ y = rest-of (lendings .counts) (rest₂ y)
 
     abbrev pub others : Left Y → Y
-    others y = rest-of (ways .singles) {Y = Y} (rest₃ y)
+    others y = rest-of (lendings .singles) {Y = Y} (rest₃ y)
 
     abbrev pub left-by : Controller → Left Y → Controller
-    left-by c y = controller (list-of (ways .slots) _ (c .slots) y) (list-of (ways .order) _ (c .order) (rest₁ y)) (list-of (ways .counts) _ (c .counts) (rest₂ y)) (list-of (ways .singles) Y (c .singles) (rest₃ y)) (c .ais)
+    left-by c y = controller (list-of (lendings .slots) _ (c .slots) y) (list-of (lendings .order) _ (c .order) (rest₁ y)) (list-of (lendings .counts) _ (c .counts) (rest₂ y)) (list-of (lendings .singles) Y (c .singles) (rest₃ y)) (c .ais)
 
-    abbrev said₃ : Loan → (Y → Fml) → Left-of (ways .singles) Y → Fml
-    said₃ n L y = said-of (ways .singles) w8 146 (n .δ₃) L y
+    abbrev said₃ : Loan → (Y → Fml) → Left-of (lendings .singles) Y → Fml
+    said₃ n L y = said-of (lendings .singles) w8 146 (n .δ₃) L y
 
-    abbrev said₂ : Loan → (Y → Fml) → Left-of (ways .counts) (Left-of (ways .singles) Y) → Fml
-    said₂ n L y = said-of (ways .counts) w64 11 (n .δ₂) (said₃ n L) y
+    abbrev said₂ : Loan → (Y → Fml) → Left-of (lendings .counts) (Left-of (lendings .singles) Y) → Fml
+    said₂ n L y = said-of (lendings .counts) w64 11 (n .δ₂) (said₃ n L) y
 
-    abbrev said₁ : Loan → (Y → Fml) → Left-of (ways .order) (Left-of (ways .counts) (Left-of (ways .singles) Y)) → Fml
-    said₁ n L y = said-of (ways .order) w8 2560 (n .δ₁) (said₂ n L) y
+    abbrev said₁ : Loan → (Y → Fml) → Left-of (lendings .order) (Left-of (lendings .counts) (Left-of (lendings .singles) Y)) → Fml
+    said₁ n L y = said-of (lendings .order) w8 2560 (n .δ₁) (said₂ n L) y
 
     abbrev pub Last : Loan → (Y → Fml) → Left Y → Fml
-    Last n L y = said-of (ways .slots) w8 18432 (n .δ₀) (said₁ n L) y
+    Last n L y = said-of (lendings .slots) w8 18432 (n .δ₀) (said₁ n L) y
 
   module _ {M : Type 1} {𝓤 : URA M} {H : Heap 𝓤} {A : Atoms 𝓤} {K : Type 0} {W : Given 𝓤 H A} {Γ : List (Item 𝓤)} {G : Goal 𝓤 H} (b o : ℕ) (t : K) (z : Soaks G) (c : Controller) (g : Has c) where
     lends-four : {T : Item 𝓤} {O : Fml} → ((n : Loan) → Seq K W (Toks n T ∷ ‵ (Lent n c b o O) ∷ Lenders c b o n Γ) G) → Seq K W (Cells-of c b o (T ∷ ‵ O ∷ Γ)) G
     lends-four k =
-        move t (3 ∷ 4 ∷ 5 ∷ []) $ lends-array t z w8 146 (c .singles) (g .3) b (o + 21080) (ways .singles) (λ ν₃ δ₃. move t (5 ∷ 0 ∷ 1 ∷ []) $ lends-array t z w64 11 (c .counts) (g .2) b (o + 20992) (ways .counts) (λ ν₂ δ₂.
-        move t (5 ∷ 0 ∷ 1 ∷ []) $ lends-array t z w8 2560 (c .order) (g .1) b (o + 18432) (ways .order) (λ ν₁ δ₁. move t (5 ∷ 0 ∷ 1 ∷ []) $ lends-array t z w8 18432 (c .slots) (g .0) b (o + 0) (ways .slots) (λ ν₀ δ₀.
+        move t (3 ∷ 4 ∷ 5 ∷ []) $ lends-array t z w8 146 (c .singles) (g .3) b (o + 21080) (lendings .singles) (λ ν₃ δ₃. move t (5 ∷ 0 ∷ 1 ∷ []) $ lends-array t z w64 11 (c .counts) (g .2) b (o + 20992) (lendings .counts) (λ ν₂ δ₂.
+        move t (5 ∷ 0 ∷ 1 ∷ []) $ lends-array t z w8 2560 (c .order) (g .1) b (o + 18432) (lendings .order) (λ ν₁ δ₁. move t (5 ∷ 0 ∷ 1 ∷ []) $ lends-array t z w8 18432 (c .slots) (g .0) b (o + 0) (lendings .slots) (λ ν₀ δ₀.
         k (record { ν₀ = ν₀; ν₁ = ν₁; ν₂ = ν₂; ν₃ = ν₃; δ₀ = δ₀; δ₁ = δ₁; δ₂ = δ₂; δ₃ = δ₃ })))))
 
     four-back : (n : Loan) {Y : Type 0} (L : Y → Fml) (y : Left Y) {T : Item 𝓤} → (Has (left-by Y c y) → Seq K W (Cells-of (left-by Y c y) b o (T ∷ ‵ (L (others Y y)) ∷ Γ)) G) → Seq K W (Toks n T ∷ ‵ (Last Y n L y) ∷ Lenders c b o n Γ) G
     four-back n {Y} L y k =
-        array-back t z w8 18432 (c .slots) (g .0) b (o + 0) (ways .slots) (n .ν₀) (n .δ₀) (said₁ Y n L) y (λ g₀. move t (1 ∷ 2 ∷ 3 ∷ []) $ array-back t z w8 2560 (c .order) (g .1) b (o + 18432) (ways .order) (n .ν₁) (n .δ₁) (said₂ Y n L) (rest₁ Y y) (λ g₁.
-        move t (1 ∷ 2 ∷ 4 ∷ []) $ array-back t z w64 11 (c .counts) (g .2) b (o + 20992) (ways .counts) (n .ν₂) (n .δ₂) (said₃ Y n L) (rest₂ Y y) (λ g₂. move t (1 ∷ 2 ∷ 5 ∷ []) $ array-back t z w8 146 (c .singles) (g .3) b (o + 21080) (ways .singles) (n .ν₃) (n .δ₃) L (rest₃ Y y) (λ g₃.
+        array-back t z w8 18432 (c .slots) (g .0) b (o + 0) (lendings .slots) (n .ν₀) (n .δ₀) (said₁ Y n L) y (λ g₀. move t (1 ∷ 2 ∷ 3 ∷ []) $ array-back t z w8 2560 (c .order) (g .1) b (o + 18432) (lendings .order) (n .ν₁) (n .δ₁) (said₂ Y n L) (rest₁ Y y) (λ g₁.
+        move t (1 ∷ 2 ∷ 4 ∷ []) $ array-back t z w64 11 (c .counts) (g .2) b (o + 20992) (lendings .counts) (n .ν₂) (n .δ₂) (said₃ Y n L) (rest₂ Y y) (λ g₂. move t (1 ∷ 2 ∷ 5 ∷ []) $ array-back t z w8 146 (c .singles) (g .3) b (o + 21080) (lendings .singles) (n .ν₃) (n .δ₃) L (rest₃ Y y) (λ g₃.
         -- [cell 3; T; O; cells 2, 1, 0; Γ]
         move t (5 ∷ 4 ∷ 3 ∷ 0 ∷ []) $ k (g₀, g₁, g₂, g₃)))))
 

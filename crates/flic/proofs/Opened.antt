@@ -40,7 +40,7 @@ module _ {M : Type 1} {𝓤 : URA M} where
       ∷ ‵ (cellAt q (Ints w8 2560 .mir) (ints w8 (c .order) ∷ []) b (o + 18432)) ∷ ‵ (cellAt q (Ints w64 11 .mir) (ints w64 (c .counts) ∷ []) b (o + 20992))
       ∷ ‵ (cellAt q (Ints w8 146 .mir) (ints w8 (c .singles) ∷ []) b (o + 21080)) ∷ Γ
 
-  -- and of the capability, and the way back to the struct
+  -- and of the capability, and how they go back to the struct
   abbrev pub Cells : (H : Heap 𝓤) → Share → Controller → ℕ → ℕ → List (Item 𝓤) → List (Item 𝓤)
   Cells H q c b o Γ = Arrays q c b o (‵ (cellAt q (Boolean .mir) (vbool (c .ais) ∷ []) b (o + 21226)) ∷ raw (FieldsBack 𝓤 H q τs b o) ∷ Γ)
 

@@ -20,7 +20,7 @@ use Rattle.flic.specs.Surface.{Made}
 use Rattle.calls.proofs.Controller as C
 use Rattle.flic.proofs.{Promises.freshDevice, Promises.make-promises, Promises.wrong-makes, Opened.Has, Frame.params-of, Frame.laid, Frame.refers, Frame.then-runs}
 use Rattle.flic.proofs.All.{Refs, refs, at-ctl, at-dev, at-tab, table, Owned, Tokens, Passed, Open, Closed, takes-all, opens-all, closes-all, gives-all}
-use Rattle.flic.proofs.Four.{Ways, mutably, apart, Loan, lent-lfts, lent-shares, lent-args, lent-vals, calls-four}
+use Rattle.flic.proofs.Four.{Lendings, mutably, apart, Loan, lent-lfts, lent-shares, lent-args, lent-vals, calls-four}
 use Rattle.answers.proofs.refuse as refuse
 use Rattle.answers.proofs.accept as accept
 use Rattle.lent_requests.proofs.Answered.{refused, accepted, Refuse, Accept, refuses, accepts}
@@ -34,8 +34,8 @@ abbrev stayed : Stays (f.ended .signature .params) (f.ended .kept)
 stayed = (stay-ref (0 ∷ []) tt (plain (λ _. C.the-row)), (stay-ref (1 ∷ []) tt (plain (λ _. D.the-row)), (stay-slice (2 ∷ []) tt (plain (λ _. P.the-row)), (stay-dropped (plain (λ _. bool)) yes, tt))))
 
 -- the slots are not lent
-abbrev ways : Ways
-ways = record { slots = apart fullShare; order = mutably; counts = mutably; singles = mutably }
+abbrev lendings : Lendings
+lendings = record { slots = apart fullShare; order = mutably; counts = mutably; singles = mutably }
 
 fresh-fits : Is D.the-row freshDevice (D.Laws.lowered freshDevice ∷ [])
 fresh-fits = LL.owes D.the-type D.Laws.the-laws freshDevice ((refl, omega arith), ((refl, omega arith), (refl, tt)))
@@ -80,7 +80,7 @@ module _ {M : Type 1} (𝓤 : URA M) (H : Heap 𝓤) (A : Atoms 𝓤) (W : Given
 
   -- ---- the call of `fresh`, which takes nothing but the arrays
   abbrev to-fresh : Loan → Fresh 𝓤 H A mem′ run .Ghost
-  to-fresh n = ((lent-lfts ways n tt, lent-shares ways tt, tt, lent-args ways n (a .c) (a .bc) (a .oc) tt, lent-vals ways (a .bc) (a .oc) tt), tt)
+  to-fresh n = ((lent-lfts lendings n tt, lent-shares lendings tt, tt, lent-args lendings n (a .c) (a .bc) (a .oc) tt, lent-vals lendings (a .bc) (a .oc) tt), tt)
 
   -- whether the length is wrong
   abbrev wrong : Bool
@@ -138,7 +138,7 @@ module _ {M : Type 1} (𝓤 : URA M) (H : Heap 𝓤) (A : Atoms 𝓤) (W : Given
         nothing ! $ nothing ! $
         -- [true; true; the table; the device record; what closes each; the arrays from 10; …]
         move ! (10 ∷ 11 ∷ 12 ∷ 13 ∷ 0 ∷ 1 ∷ []) $
-        calls-four ways ! fm (Fresh 𝓤 H A mem′ run) (known .fresh) to-fresh (a .c) gc (a .bc) (a .oc) unit {Y = Unit {0}} (λ y. ftrue) (λ z w. Freshly (w .0) (w .1 .0) (w .1 .1 .0)) (λ n. asks-nothing 𝓤 _) (λ n v. id⊢ 𝓤 _) (λ n i.
+        calls-four lendings ! fm (Fresh 𝓤 H A mem′ run) (known .fresh) to-fresh (a .c) gc (a .bc) (a .oc) unit {Y = Unit {0}} (λ y. ftrue) (λ z w. Freshly (w .0) (w .1 .0) (w .1 .1 .0)) (λ n. asks-nothing 𝓤 _) (λ n v. id⊢ 𝓤 _) (λ n i.
         (and-then ! (load ! (from ! (stop !)) (look ! 34 refl)) (and-then ! (load ! (from ! (stop !)) (look ! 36 refl)) (and-then ! (load ! (from ! (stop !)) (look ! 38 refl)) (no-more !))))) (λ z v w φ g′ is.
         land ! (from ! (stop !)) (init ! 33 refl (unit-typed is)) $ rewrite ! 33 (λ (u : Val). ‵ (fat fullShare tyUnit (cs .1 .1 .0) 0 u)) (ap only is) refl $
         -- [the arrays; true; the rest's last values; the table; …]

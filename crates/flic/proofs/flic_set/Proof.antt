@@ -41,17 +41,17 @@ use Rattle.flic.specs.Surface.{Valid, Requested}
 use Rattle.flic.proofs.Promises.{SetRecords, Enqueued, enqueued, Cleared, cleared, ClearedIo, cleared-io, of-group, wrong-promises, record-promises, InjectedTo, inject-promises, place-promises, modes-promises}
 use Rattle.flic.proofs.{Opened.Has, Calls.asks-that, Calls.OnPlace, Calls.SetPlace, Calls.SetModes, Calls.asks-place, Calls.sets-place, Calls.sets-modes, Frame.params-of, Frame.laid, Frame.refers, Frame.then-runs}
 use Rattle.flic.proofs.All.{Refs, refs, at-ctl, at-dev, at-tab, table, Owned, Tokens, Passed, Open, Closed, takes-all, opens-all, closes-all, gives-all}
-use Rattle.flic.proofs.Four.{Ways, all, mutably, shared, apart, at-array, Loan, left-by, lent-lfts, lent-shares, lent-args, lent-vals, calls-four}
+use Rattle.flic.proofs.Four.{Lendings, all, mutably, shared, apart, at-array, Loan, left-by, lent-lfts, lent-shares, lent-args, lent-vals, calls-four}
 use Rattle.flic.proofs.flic_set as f
 
 -- how the arrays are lent: to ENQUEUE all, to CLEAR_IRQS all but the slots, to CLEAR_IO_IRQ and to an injection all but the two single records
-abbrev clear-ways : Ways
+abbrev clear-ways : Lendings
 clear-ways = record { slots = apart fullShare; order = mutably; counts = mutably; singles = mutably }
 
-abbrev io-ways : Ways
+abbrev io-ways : Lendings
 io-ways = record { slots = shared fullShare; order = mutably; counts = mutably; singles = apart fullShare }
 
-abbrev inject-ways : Ways
+abbrev inject-ways : Lendings
 inject-ways = record { slots = mutably; order = mutably; counts = mutably; singles = apart fullShare }
 
 abbrev stayed : Stays (f.ended .signature .params) (f.ended .kept)

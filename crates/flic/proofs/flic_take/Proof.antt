@@ -8,7 +8,7 @@ use Rattle.calls.specs.declared.Controller.{Controller}
 use Rattle.flic.specs.Surface.{Ready, Taken}
 use Rattle.flic.proofs.{Promises.TakenOf, Promises.take-promises, Opened.Has, Opened.OpenAt, Opened.opens-ctl, Opened.closes-ctl, Calls.asks-that, Frame.params-of, Frame.laid, Frame.refers}
 use Rattle.calls.proofs.Controller as C
-use Rattle.flic.proofs.Four.{Ways, mutably, shared, Loan, Left, left-by, lent-lfts, lent-shares, lent-args, lent-vals, calls-four}
+use Rattle.flic.proofs.Four.{Lendings, mutably, shared, Loan, Left, left-by, lent-lfts, lent-shares, lent-args, lent-vals, calls-four}
 use Rattle.record_take.proofs.take as take
 use Rattle.flic.proofs.flic_take as f
 
@@ -63,20 +63,20 @@ module _ {M : Type 1} (𝓤 : URA M) (H : Heap 𝓤) (A : Atoms 𝓤) (W : Given
   Y = Unit {0} × (Unit {0} × (Unit {0} × (List ℕ × Unit {0})))
 
   -- the slots are lent shared
-  abbrev ways : Ways
-  ways = record { slots = shared fullShare; order = mutably; counts = mutably; singles = mutably }
+  abbrev lendings : Lendings
+  lendings = record { slots = shared fullShare; order = mutably; counts = mutably; singles = mutably }
 
-  abbrev last : Left ways Y → List ℕ
+  abbrev last : Left lendings Y → List ℕ
   last w = w .1 .1 .1 .1 .1 .1 .1 .0
 
   abbrev Leaves : Y → Fml
   Leaves y = fsep ftrue (fsep ftrue (fsep ftrue (fsep (fsep (finally u8 γo (y .1 .1 .1 .0)) (feq ℕ (length (y .1 .1 .1 .0)) (length bytes))) ftrue)))
 
-  abbrev Φ : Answer → Left ways Y → Type 0
+  abbrev Φ : Answer → Left lendings Y → Type 0
   Φ z w = TakenOf subclasses external mcheck c (w .1 .0) (w .1 .1 .0) (w .1 .1 .1 .0) bytes (last w) z
 
   abbrev to-take : Loan → Take 𝓤 H A mem′ run .Ghost
-  to-take n = ((lent-lfts ways n (κo, tt), lent-shares ways (qo, tt), tt, lent-args ways n c bc oc (subclasses, (external, (mcheck, (xo, tt)))), lent-vals ways bc oc (vint w8 subclasses ∷ [], (vbool external ∷ [], (vbool mcheck ∷ [], (out ∷ [], tt))))), tt)
+  to-take n = ((lent-lfts lendings n (κo, tt), lent-shares lendings (qo, tt), tt, lent-args lendings n c bc oc (subclasses, (external, (mcheck, (xo, tt)))), lent-vals lendings bc oc (vint w8 subclasses ∷ [], (vbool external ∷ [], (vbool mcheck ∷ [], (out ∷ [], tt))))), tt)
 
   module _ (C′ : Calls 𝓤 H) (Λ : Loops 𝓤 H) (fm : FmC 𝓤 H (W .laws) C′) (known : Triple 𝓤 (C′ take.Symbol.name) (Take 𝓤 H A mem′ run)) (l₀ : ℕ) (bs : Blocks (params-of f.Code.function)) (cs : Blocks (others f.Code.function)) where
     abbrev E : Env 𝓤 H
@@ -87,19 +87,19 @@ module _ {M : Type 1} (𝓤 : URA M) (H : Heap 𝓤) (A : Atoms 𝓤) (W : Given
     held v₀ n = v₀ ∷ holds (vptr bc oc) ∷ holds (vint w8 subclasses) ∷ holds (vbool external) ∷ holds (vbool mcheck) ∷ holds out ∷ since 1 n (vptr bc (oc + 0)) ∷ since 2 n (vptr bc (oc + 18432)) ∷ since 3 n (vptr bc (oc + 20992)) ∷ since 4 n (vptr bc (oc + 21080)) ∷ since 5 n (vptr bo oo) ∷ since 6 n out ∷ []
 
     -- the controller is closed
-    ends : (z : Answer) (v : Val) (w : Left ways Y) → Φ z w → Has (left-by ways Y c w) → Is An.the-row z (v ∷ [])
-        → Sq W (OpenAt H κc qc γc c (left-by ways Y c w) bc oc (T ∷ ‵ (Leaves (w .1 .1 .1 .1)) ∷ locals E (held (holds v) 6) [])) (runs C′ Λ E f.Code.Mir.t-8 (atRet E Post))
+    ends : (z : Answer) (v : Val) (w : Left lendings Y) → Φ z w → Has (left-by lendings Y c w) → Is An.the-row z (v ∷ [])
+        → Sq W (OpenAt H κc qc γc c (left-by lendings Y c w) bc oc (T ∷ ‵ (Leaves (w .1 .1 .1 .1)) ∷ locals E (held (holds v) 6) [])) (runs C′ Λ E f.Code.Mir.t-8 (atRet E Post))
     ends z v w φ g is =
-        closes-ctl ! tt c (left-by ways Y c w) g bc oc $ move ! (4 ∷ []) $ fsplit ! $ drop ! $ fsplit ! $ drop ! $ fsplit ! $ drop ! $ fsplit ! $ fsplit ! $ move ! (1 ∷ []) $ feqL ! (λ e.
+        closes-ctl ! tt c (left-by lendings Y c w) g bc oc $ move ! (4 ∷ []) $ fsplit ! $ drop ! $ fsplit ! $ drop ! $ fsplit ! $ drop ! $ fsplit ! $ fsplit ! $ move ! (1 ∷ []) $ feqL ! (λ e.
         -- [the last bytes; true; obs; the borrow; the token; T; the locals]
         move ! (5 ∷ []) $ split ! $ move ! (4 ∷ 5 ∷ 6 ∷ 0 ∷ 2 ∷ 1 ∷ 3 ∷ []) $ move ! (5 ∷ []) $ drop ! $ move ! (5 ∷ []) $ drop ! $
-        returns ! (look ! 5 refl) $ ends-with ! (Rest (left-by ways Y c w) (last w)) E (held (holds v) 6) $ by ! (exits (left-by ways Y c w) (last w) z v (take-promises subclasses external mcheck c _ _ _ bytes (last w) z φ) e is))
+        returns ! (look ! 5 refl) $ ends-with ! (Rest (left-by lendings Y c w) (last w)) E (held (holds v) 6) $ by ! (exits (left-by lendings Y c w) (last w) z v (take-promises subclasses external mcheck c _ _ _ bytes (last w) z φ) e is))
 
     calls-it : Has c → Sq W (OpenAt H κc qc γc c c bc oc (‵ OwnO ∷ ‵ (flft κo qo) ∷ locals E (held blank 6) [])) (runs C′ Λ E f.Code.Mir.t-7 (atRet E Post))
     calls-it g =
         nothing ! $ move ! (10 ∷ 0 ∷ []) $ fjoin ! $ owned ! bool (Is bool) (bool-makes 𝓤 H A W) mcheck _ refl $ fjoin ! $ owned ! bool (Is bool) (bool-makes 𝓤 H A W) external _ refl $ fjoin ! $ owned ! u8 (Is u8) (uint-makes 𝓤 H A W w8) subclasses _ (refl, fits) $ fjoin ! $
         nothing ! $ move ! (11 ∷ 0 ∷ []) $ join ! $ move ! (2 ∷ 3 ∷ 4 ∷ 5 ∷ 0 ∷ 1 ∷ []) $
-        calls-four ways ! fm (Take 𝓤 H A mem′ run) known to-take c g bc oc An.the-row Leaves Φ (λ n. asks-that 𝓤 H A W _ ready) (λ n v. id⊢ 𝓤 _) (λ n i.
+        calls-four lendings ! fm (Take 𝓤 H A mem′ run) known to-take c g bc oc An.the-row Leaves Φ (λ n. asks-that 𝓤 H A W _ ready) (λ n v. id⊢ 𝓤 _) (λ n i.
         (and-then ! (load ! (from ! (stop !)) (look ! 22 refl)) (and-then ! (load ! (from ! (stop !)) (look ! 24 refl)) (and-then ! (load ! (from ! (stop !)) (look ! 26 refl)) (and-then ! (load ! (from ! (stop !)) (look ! 28 refl)) (and-then ! (load ! (from ! (stop !)) (look ! 14 refl)) (and-then ! (load ! (from ! (stop !)) (look ! 16 refl)) (and-then ! (load ! (from ! (stop !)) (look ! 18 refl)) (and-then ! (load ! (from ! (stop !)) (look ! 32 refl)) (no-more !)))))))))) (λ z v w φ g′ is.
         land ! (from ! (stop !)) (init ! 11 refl (LL.lawful An.the-type An.Laws.the-laws 𝓤 H A W .typed z _ is .0)) $ move ! (0 ∷ 1 ∷ 2 ∷ 3 ∷ 6 ∷ 7 ∷ 8 ∷ 9 ∷ 10 ∷ []) $ ends z v w φ g′ is)
 

@@ -1,7 +1,7 @@
 -- The call of a covered function that takes some of the controller's four arrays by reference, then whatever else: the cells of these arrays are lent at the same
 -- time, each for a lifetime of the call, and come back.
---     Lending              how an array is lent: by `&mut`, for which its whole cell is held; by `&`, of which a share is held; or not at all
---     Lendings             the lendings of the four arrays
+--     Lending          how an array is lent: by `&mut`, for which its whole cell is held; by `&`, of which a share is held; or not at all
+--     Lendings         how each of the four arrays is lent
 --     lends-array, array-back      one array's cell: its token and its reference are put before the tokens T and the formula O of what is passed after it
 --     calls-four       the cells of c ∷ T ∷ O ∷ Γ  ⟶  the cells of the controller that the callee leaves ∷ T ∷ what it says of the rest ∷ Γ
 use Rattle.flic.proofs.Walk.{ℕ, [], _∷_, List, URA, fullShare, named, w8, w64, Val, vptr, ent, flent, GName, Lft, Share, Fml, ftrue, fsep, flft, fres, Heap, Env, Calls, Loops, Atoms, Soaks, Goal, Given, Item, mean, Seq, runs, lands, ‵, ⋆, _⊛_, _$_, move, drop, split, join, fsplit, fjoin, Opds, Body, FmC, RattleType, Is, shows, mem, partAt, cellAt, RefT, ShrRef, MutRef, owned, peeks, spelt, Contract, Triple, _+_}

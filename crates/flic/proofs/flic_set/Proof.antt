@@ -45,14 +45,14 @@ use Rattle.flic.proofs.Four.{Lendings, all, mutably, shared, apart, at-
 use Rattle.flic.proofs.flic_set as f
 
 -- how the arrays are lent: to ENQUEUE all, to CLEAR_IRQS all but the slots, to CLEAR_IO_IRQ and to an injection all but the two single records
-abbrev clear-ways : Lendings
-clear-ways = record { slots = apart fullShare; order = mutably; counts = mutably; singles = mutably }
+abbrev clear-lendings : Lendings
+clear-lendings = record { slots = apart fullShare; order = mutably; counts = mutably; singles = mutably }
 
-abbrev io-ways : Lendings
-io-ways = record { slots = shared fullShare; order = mutably; counts = mutably; singles = apart fullShare }
+abbrev io-lendings : Lendings
+io-lendings = record { slots = shared fullShare; order = mutably; counts = mutably; singles = apart fullShare }
 
-abbrev inject-ways : Lendings
-inject-ways = record { slots = mutably; order = mutably; counts = mutably; singles = apart fullShare }
+abbrev inject-lendings : Lendings
+inject-lendings = record { slots = mutably; order = mutably; counts = mutably; singles = apart fullShare }
 
 abbrev stayed : Stays (f.ended .signature .params) (f.ended .kept)
 stayed = (stay-ref (0 ∷ []) tt (plain (λ _. C.the-row)), (stay-ref (1 ∷ []) tt (plain (λ _. D.the-row)), (stay-slice (2 ∷ []) tt (plain (λ _. P.the-row)), (stay-dropped (plain (λ _. u32)) yes, (stay-dropped (plain (λ _. u64)) yes, (stay-dropped (shrSliceOf (3 ∷ []) tt (plain (λ _. u8))) yes, tt))))))
@@ -208,17 +208,17 @@ module _ {M : Type 1} (𝓤 : URA M) (H : Heap 𝓤) (A : Atoms 𝓤) (W : Given
         Y₂ = Unit {0} × Unit {0}
 
         abbrev to-clear : Loan → Clear 𝓤 H A mem′ run .Ghost
-        to-clear n = ((lent-lfts clear-ways n tt, lent-shares clear-ways tt, tt, lent-args clear-ways n c (a .bc) (a .oc) (attr, tt), lent-vals clear-ways (a .bc) (a .oc) (vint w64 attr ∷ [], tt)), tt)
+        to-clear n = ((lent-lfts clear-lendings n tt, lent-shares clear-lendings tt, tt, lent-args clear-lendings n c (a .bc) (a .oc) (attr, tt), lent-vals clear-lendings (a .bc) (a .oc) (vint w64 attr ∷ [], tt)), tt)
 
         takes-clear : Sq W (At ys d c (tested (eqb group 3))) (runs C′ Λ E (taken f.Code.Mir.s-7) (Then f.Code.Mir.t-8))
         takes-clear =
             refers ! 21 57 refl refl refl (tt, tt) $ refers ! 21 59 refl refl refl (tt, tt) $ refers ! 21 61 refl refl refl (tt, tt) $
             nothing ! $ owned ! u64 (Is u64) (uint-makes 𝓤 H A W w64) attr _ (refl, attr-fits) $ fjoin ! $ nothing ! $ move ! (10 ∷ 11 ∷ 12 ∷ 13 ∷ 0 ∷ 1 ∷ []) $
-            calls-four clear-ways ! fm (Clear 𝓤 H A mem′ run) (known .clear) to-clear c gc (a .bc) (a .oc) An.the-row {Y = Y₂} (λ y. fsep ftrue ftrue) (λ z w. Cleared c (c .slots) (w .0) (w .1 .0) (w .1 .1 .0) attr ps z) (λ n. asks-that 𝓤 H A W _ (valid right .ready)) (λ n v. id⊢ 𝓤 _)
+            calls-four clear-lendings ! fm (Clear 𝓤 H A mem′ run) (known .clear) to-clear c gc (a .bc) (a .oc) An.the-row {Y = Y₂} (λ y. fsep ftrue ftrue) (λ z w. Cleared c (c .slots) (w .0) (w .1 .0) (w .1 .1 .0) attr ps z) (λ n. asks-that 𝓤 H A W _ (valid right .ready)) (λ n v. id⊢ 𝓤 _)
             (λ n i. (and-then ! (load ! (from ! (stop !)) (look ! 58 refl)) (and-then ! (load ! (from ! (stop !)) (look ! 60 refl)) (and-then ! (load ! (from ! (stop !)) (look ! 62 refl)) (and-then ! (load ! (from ! (stop !)) (look ! 30 refl)) (no-more !)))))) (λ z v w φ g′ is.
             land ! (from ! (stop !)) (init ! 21 refl (LL.lawful An.the-type An.Laws.the-laws 𝓤 H A W .typed z _ is .0)) $ rewrite ! 21 (λ (u : Val). ‵ (fat fullShare An.Laws.mir l₀ 0 u)) (ap only (An.Laws.lowers .val-is z (v ∷ []) is)) refl $
             move ! (5 ∷ []) $ drop ! $ move ! (4 ∷ []) $ drop ! $ move ! (4 ∷ 5 ∷ 6 ∷ 7 ∷ 8 ∷ 9 ∷ 10 ∷ 11 ∷ 0 ∷ 1 ∷ 2 ∷ 3 ∷ []) $
-            ends refl (left-by clear-ways Y₂ c w) d ys z refl g′ gd (subst (Is An.the-row z) (An.Laws.lowers .val-is z (v ∷ []) is) is) (promised-records 3 e z (left-by clear-ways Y₂ c w) refl (cleared c (c .slots) _ _ _ attr ps z φ)) (plainly (eqb group 3) 0 3 0 blank 0 blank))
+            ends refl (left-by clear-lendings Y₂ c w) d ys z refl g′ gd (subst (Is An.the-row z) (An.Laws.lowers .val-is z (v ∷ []) is) is) (promised-records 3 e z (left-by clear-lendings Y₂ c w) refl (cleared c (c .slots) _ _ _ attr ps z φ)) (plainly (eqb group 3) 0 3 0 blank 0 blank))
 
       -- CLEAR_IO_IRQ: after the arrays it takes the attribute and the payload
       module _ (e : eqb group 8 ≡ true) where
@@ -226,18 +226,18 @@ module _ {M : Type 1} (𝓤 : URA M) (H : Heap 𝓤) (A : Atoms 𝓤) (W : Given
         Y₃ = Unit {0} × (Unit {0} × Unit {0})
 
         abbrev to-clear-io : Loan → ClearIo 𝓤 H A mem′ run .Ghost
-        to-clear-io n = ((lent-lfts io-ways n (κp, tt), lent-shares io-ways (qp, tt), tt, lent-args io-ways n c (a .bc) (a .oc) (attr, (at-array bp op γp ps, tt)), lent-vals io-ways (a .bc) (a .oc) (vint w64 attr ∷ [], (sp ∷ [], tt))), tt)
+        to-clear-io n = ((lent-lfts io-lendings n (κp, tt), lent-shares io-lendings (qp, tt), tt, lent-args io-lendings n c (a .bc) (a .oc) (attr, (at-array bp op γp ps, tt)), lent-vals io-lendings (a .bc) (a .oc) (vint w64 attr ∷ [], (sp ∷ [], tt))), tt)
 
         takes-clear-io : Sq W (At ys d c (tested (eqb group 8))) (runs C′ Λ E (taken f.Code.Mir.s-9) (Then f.Code.Mir.t-10))
         takes-clear-io =
             refers ! 21 63 refl refl refl (tt, tt) $ refers ! 21 65 refl refl refl (tt, tt) $ refers ! 21 67 refl refl refl (tt, tt) $
             nothing ! $ move ! (19 ∷ 0 ∷ []) $ fjoin ! $ owned ! u64 (Is u64) (uint-makes 𝓤 H A W w64) attr _ (refl, attr-fits) $ fjoin ! $
             nothing ! $ move ! (19 ∷ 0 ∷ []) $ join ! $ move ! (10 ∷ 11 ∷ 12 ∷ 13 ∷ 0 ∷ 1 ∷ []) $
-            calls-four io-ways ! fm (ClearIo 𝓤 H A mem′ run) (known .clear-io) to-clear-io c gc (a .bc) (a .oc) An.the-row {Y = Y₃} (λ y. fsep ftrue (fsep ftrue ftrue)) (λ z w. ClearedIo c (c .slots) (w .1 .0) (w .1 .1 .0) (c .singles) attr ps z) (λ n. asks-that 𝓤 H A W _ (valid right .ready)) (λ n v. id⊢ 𝓤 _)
+            calls-four io-lendings ! fm (ClearIo 𝓤 H A mem′ run) (known .clear-io) to-clear-io c gc (a .bc) (a .oc) An.the-row {Y = Y₃} (λ y. fsep ftrue (fsep ftrue ftrue)) (λ z w. ClearedIo c (c .slots) (w .1 .0) (w .1 .1 .0) (c .singles) attr ps z) (λ n. asks-that 𝓤 H A W _ (valid right .ready)) (λ n v. id⊢ 𝓤 _)
             (λ n i. (and-then ! (load ! (from ! (stop !)) (look ! 62 refl)) (and-then ! (load ! (from ! (stop !)) (look ! 64 refl)) (and-then ! (load ! (from ! (stop !)) (look ! 66 refl)) (and-then ! (load ! (from ! (stop !)) (look ! 28 refl)) (and-then ! (load ! (from ! (stop !)) (look ! 30 refl)) (no-more !))))))) (λ z v w φ g′ is.
             land ! (from ! (stop !)) (init ! 19 refl (LL.lawful An.the-type An.Laws.the-laws 𝓤 H A W .typed z _ is .0)) $ rewrite ! 19 (λ (u : Val). ‵ (fat fullShare An.Laws.mir l₀ 0 u)) (ap only (An.Laws.lowers .val-is z (v ∷ []) is)) refl $
             move ! (5 ∷ []) $ drop ! $ move ! (4 ∷ []) $ split ! $ move ! (1 ∷ []) $ drop ! $ move ! (5 ∷ 6 ∷ 7 ∷ 8 ∷ 9 ∷ 10 ∷ 11 ∷ 12 ∷ 1 ∷ 2 ∷ 3 ∷ 4 ∷ 13 ∷ 14 ∷ 15 ∷ 16 ∷ 17 ∷ 0 ∷ []) $
-            leaves refl (left-by io-ways Y₃ c w) d ys z refl g′ gd (subst (Is An.the-row z) (An.Laws.lowers .val-is z (v ∷ []) is) is) (promised-records 8 e z (left-by io-ways Y₃ c w) refl (cleared-io c (c .slots) _ _ (c .singles) attr ps z φ)) (plainly (eqb group 8) 0 0 3 blank 0 blank))
+            leaves refl (left-by io-lendings Y₃ c w) d ys z refl g′ gd (subst (Is An.the-row z) (An.Laws.lowers .val-is z (v ∷ []) is) is) (promised-records 8 e z (left-by io-lendings Y₃ c w) refl (cleared-io c (c .slots) _ _ (c .singles) attr ps z φ)) (plainly (eqb group 8) 0 0 3 blank 0 blank))
 
       -- ---- an injection: after the arrays `answer_inject` takes the limits and four values
       module _ (is-inject : eqb group 10 ≡ true) where
@@ -258,7 +258,7 @@ module _ {M : Type 1} (𝓤 : URA M) (H : Heap 𝓤) (A : Atoms 𝓤) (W : Given
         injected v₀ c₈ c₉ c₁₀ n c₃₀ c₃₁ c₃₂ = v₀ ∷ held blank blank (holds (I.Laws.lowered id)) c₈ c₉ c₁₀ (eqb group 10) 0 0 0 n c₃₀ c₃₁ c₃₂ blank 0 blank
 
         abbrev to-inject : Loan → AnswerInject 𝓤 H A mem′ run .Ghost
-        to-inject n = ((lent-lfts inject-ways n tt, lent-shares inject-ways tt, tt, lent-args inject-ways n c (a .bc) (a .oc) (imageSize, (256, (c .ais, (d, (place, (id, tt)))))), lent-vals inject-ways (a .bc) (a .oc) (vint w64 imageSize ∷ [], (vint w64 256 ∷ [], (vbool (c .ais) ∷ [], (D.Laws.lowered d ∷ [], (P.Laws.lowered place ∷ [], (I.Laws.lowered id ∷ [], tt))))))), tt)
+        to-inject n = ((lent-lfts inject-lendings n tt, lent-shares inject-lendings tt, tt, lent-args inject-lendings n c (a .bc) (a .oc) (imageSize, (256, (c .ais, (d, (place, (id, tt)))))), lent-vals inject-lendings (a .bc) (a .oc) (vint w64 imageSize ∷ [], (vint w64 256 ∷ [], (vbool (c .ais) ∷ [], (D.Laws.lowered d ∷ [], (P.Laws.lowered place ∷ [], (I.Laws.lowered id ∷ [], tt))))))), tt)
 
         module _ (gp : Is P.the-row place (P.Laws.lowered place ∷ [])) (r : Answer) (gr : FitsAnswer r) (slots order counts : List ℕ) (gc′ : Has (controller slots order counts (c .singles) (c .ais))) (φ : InjectedTo attr c slots order counts d place r) where
           abbrev c′ : Controller
@@ -297,7 +297,7 @@ module _ {M : Type 1} (𝓤 : URA M) (H : Heap 𝓤) (A : Atoms 𝓤) (W : Given
             nothing ! $ owned ! I.the-row (Is I.the-row) (makes-id 𝓤 H A W) id _ fits-id $ fjoin ! $ owned ! P.the-row (Is P.the-row) (LL.makes P.the-type P.Laws.the-plain 𝓤 H A) place _ gp $ fjoin ! $ owned ! D.the-row (Is D.the-row) (LL.makes D.the-type D.Laws.the-plain 𝓤 H A) d _ gd $ fjoin ! $
             owned ! bool (Is bool) (bool-makes 𝓤 H A W) (c .ais) _ refl $ fjoin ! $ owned ! u64 (Is u64) (uint-makes 𝓤 H A W w64) 256 _ (refl, omega arith) $ fjoin ! $ owned ! u64 (Is u64) (uint-makes 𝓤 H A W w64) imageSize _ (refl, omega arith) $ fjoin ! $
             nothing ! $ move ! (10 ∷ 11 ∷ 12 ∷ 13 ∷ 0 ∷ 1 ∷ []) $
-            calls-four inject-ways ! fm (AnswerInject 𝓤 H A mem′ run) (known .inject) to-inject c gc (a .bc) (a .oc) An.the-row {Y = Unit {0} × (Unit {0} × (Unit {0} × (Unit {0} × (Unit {0} × (Unit {0} × Unit {0})))))} (λ y. fsep ftrue (fsep ftrue (fsep ftrue (fsep ftrue (fsep ftrue (fsep ftrue ftrue))))))
+            calls-four inject-lendings ! fm (AnswerInject 𝓤 H A mem′ run) (known .inject) to-inject c gc (a .bc) (a .oc) An.the-row {Y = Unit {0} × (Unit {0} × (Unit {0} × (Unit {0} × (Unit {0} × (Unit {0} × Unit {0})))))} (λ y. fsep ftrue (fsep ftrue (fsep ftrue (fsep ftrue (fsep ftrue (fsep ftrue ftrue))))))
             (λ z w. InjectedTo attr c (w .0) (w .1 .0) (w .1 .1 .0) d place z) (λ n. asks-that 𝓤 H A W _ (omega arith, valid right .ready, canonical)) (λ n v. id⊢ 𝓤 _)
             (λ n i. (and-then ! (load ! (from ! (stop !)) (look ! 76 refl)) (and-then ! (load ! (from ! (stop !)) (look ! 78 refl)) (and-then ! (load ! (from ! (stop !)) (look ! 80 refl)) (and-then ! (lit ! tt) (and-then ! (lit ! tt) (and-then ! (load ! (from ! (stop !)) (look ! 82 refl)) (and-then ! (load ! (from ! (stop !)) (look ! 42 refl)) (and-then ! (load ! (from ! (stop !)) (look ! 40 refl)) (and-then ! (load ! (from ! (stop !)) (look ! 38 refl)) (no-more !))))))))))) (λ z v w φ g′ is.
             land ! (from ! (stop !)) (init ! 45 refl (LL.lawful An.the-type An.Laws.the-laws 𝓤 H A W .typed z _ is .0)) $ rewrite ! 45 (λ (u : Val). ‵ (fat fullShare An.Laws.mir (cs .1 .1 .1 .1 .1 .0) 0 u)) (ap only (An.Laws.lowers .val-is z (v ∷ []) is)) refl $

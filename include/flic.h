@@ -1,7 +1,8 @@
 /*
  * The floating interrupt controller of one s390 guest: floating interrupts, I/O adapters and
- * adapter-interruption suppression (AIS), as in Linux's KVM FLIC device. Link libflic.a (x86-64).
- * What each request means is in paper 01; this file says how it is called. C11 or C++11.
+ * adapter-interruption suppression (AIS), as in Linux's KVM FLIC device. Link libflic.a (x86-64),
+ * which needs memset of the C library and nothing else. What each request means is in paper 01; this
+ * file says how it is called. C11 or C++11.
  *
  * Memory
  *   All memory is the caller's: the library has none of its own, allocates nothing and keeps no

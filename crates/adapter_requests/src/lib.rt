@@ -1,4 +1,6 @@
 // Inner crate: the requests that touch no pending record, on a device record and one adapter place by value.
+#![tactic(auto)]
+
 ghost use Rattle.std.specs.Prelude.{◌≡◌, true, false, List, ℕ, ◌≤◌, eqb, length};
 ghost use Rattle.rules.specs.State.{Limits, State, with_device};
 ghost use Rattle.rules.specs.Bytes.{byte, field};

@@ -1,4 +1,6 @@
 // Inner crate: adapters, the device record's masks and flag, and what an injection comes to, all by value.
+#![tactic(auto)]
+
 ghost use Rattle.std.specs.Prelude.{◌≡◌, true, false, ◌<◌, ◌≤◌};
 ghost use Rattle.rules.specs.State.{holds, bit, has_bit, with_bit, without_bit};
 ghost use Rattle.adapters.specs.Values.{place_of, device_of, unused, Canonical, masked_as, with_masked, mode_set};
@@ -8,7 +10,7 @@ use numbers::Subclass;
 
 // The masks and the page-fault flag.
 #[repr(C)]
-#[derive(Drop)]
+#[derive(Clone, Copy)]
 pub struct Device {
     pub simm: u8,
     pub nimm: u8,
@@ -17,7 +19,7 @@ pub struct Device {
 
 // An adapter place. Where it is not used the other fields are 0 and false.
 #[repr(C)]
-#[derive(Drop)]
+#[derive(Clone, Copy)]
 pub struct Place {
     pub used: bool,
     pub isc: Subclass,

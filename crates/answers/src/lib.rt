@@ -1,4 +1,6 @@
 // Inner crate: the codes of refusals, an answer, and how it is held to the rules.
+#![tactic(auto)]
+
 ghost use Rattle.std.specs.Prelude.{◌≡◌};
 ghost use Rattle.answers.specs.Answers.{answered};
 

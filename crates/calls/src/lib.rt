@@ -1,5 +1,7 @@
 // Inner crate: a controller, and requests on its arrays, with the device record by value: INJECT of one adapter's
 // place, requests that get, and set requests of any group, for which the adapter table is given as an image.
+#![tactic(auto)]
+
 ghost use Rattle.std.specs.Prelude.{◌≡◌, Bool, true, false, List, ℕ, ◌≤◌};
 ghost use Rattle.rules.specs.State.{Pending};
 ghost use Rattle.store_queues.specs.Slots.{slot_count};

@@ -1,5 +1,7 @@
 // The public calls. A caller uses this crate, lends the records `calls::Controller`, `adapters::Device` and
 // `adapters::Place`, and gets an `answers::Answer`.
+#![tactic(auto)]
+
 ghost use Rattle.rules.specs.State.{paper_limits};
 ghost use Rattle.rules.specs.Machine.{set_attr, get_attr, write_list, play_list};
 ghost use Rattle.answers.specs.Answers.{saw};

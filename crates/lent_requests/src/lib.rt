@@ -1,5 +1,7 @@
 // Inner crate: the requests about an adapter's place and about the device record, on the lent table and record.
 // Proved by hand.
+#![tactic(auto)]
+
 ghost use Rattle.std.specs.Prelude.{◌≡◌, true, false, get_or, set};
 ghost use Rattle.adapters.specs.Values.{device_of, device_from, unused};
 ghost use Rattle.adapter_requests.specs.States.{on_place, stored_by, modes_after, ModesAsked};

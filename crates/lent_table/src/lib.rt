@@ -1,5 +1,7 @@
 // Inner crate: the adapter table as a lent slice of places, and the device record behind a reference.
 // Few and thin functions, proved by hand.
+#![tactic(auto)]
+
 ghost use Rattle.std.specs.Prelude.{◌≡◌, ◌≤◌, get_or, set, replicate};
 ghost use Rattle.adapters.specs.Values.{device_of, device_from, unused, with_masked, mode_set, injected_device};
 ghost use Rattle.list_image.specs.Image.{image_size};

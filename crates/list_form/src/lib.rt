@@ -1,4 +1,6 @@
 // Inner crate: the form of a move list that is to be played.
+#![tactic(auto)]
+
 ghost use Rattle.std.specs.Prelude.{◌≡◌, ◌&&◌, ◌+◌, ◌*◌, ◌≤◌, ◌<◌, length, drop, leb, eqb};
 ghost use Rattle.rules.specs.MoveList.{one_if, header_bytes, table_entry_bytes, table_offset_in, payload_offset_in};
 ghost use Rattle.rules.specs.MoveList.{payload_offset, table_entries_in, movable, formed, most_requests};

@@ -1,4 +1,6 @@
 // Inner crate: a move list that is played on a fresh controller of its own flag.
+#![tactic(auto)]
+
 ghost use Rattle.std.specs.Prelude.{◌≡◌, ◌≤◌, length, eqb};
 ghost use Rattle.rules.specs.MoveList.{header_bytes, ais_flag_in};
 ghost use Rattle.list_fresh.specs.Fresh.{PlayedFresh};

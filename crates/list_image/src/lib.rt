@@ -1,4 +1,6 @@
 // Inner crate: an adapter place as one number, and a table as an array of them.
+#![tactic(auto)]
+
 ghost use Rattle.std.specs.Prelude.{◌≡◌, ◌≤◌, ◌<◌, get_or, set, take, replicate};
 ghost use Rattle.rules.specs.State.{free};
 ghost use Rattle.adapters.specs.Values.{place_of, Canonical};

@@ -1,4 +1,6 @@
 // Inner crate: playing a move list on lent memory, with the adapter places in an image of the table.
+#![tactic(auto)]
+
 ghost use Rattle.std.specs.Prelude.{◌≡◌, false, ◌≤◌, ◌<◌, replicate};
 ghost use Rattle.rules.specs.MoveList.{count_in};
 ghost use Rattle.store_queues.specs.Slots.{slot_count};

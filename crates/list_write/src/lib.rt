@@ -1,4 +1,6 @@
 // Inner crate: writing a move list from lent memory, with the adapter places in an image of the table.
+#![tactic(auto)]
+
 ghost use Rattle.std.specs.Prelude.{◌≡◌, ◌+◌, ◌*◌, ◌≤◌, ℕ, length, ◌&&◌, ◌||◌};
 ghost use mathlib.Core.List.{[], List, ◌∷◌, flatten};
 ghost use Rattle.rules.specs.Bytes.{choose};
@@ -151,7 +153,7 @@ pub fn put_adapter_payloads(out: &mut [u8], at: usize, image: &[u64; PLACES], mo
 }
 
 // How many REGISTER, MODIFY and pending records a list has, and whether it has AISM_ALL and APF_ENABLE.
-#[derive(Drop)]
+#[derive(Clone, Copy)]
 pub struct Parts {
     pub registers: usize,
     pub modifies: usize,

@@ -1,4 +1,6 @@
 // Reads a move list on standard input, plays it on a fresh controller of its flag and prints the listing.
+#![tactic(auto)]
+
 use libc::{STDIN_FILENO, STDOUT_FILENO};
 use listing_text::{MOST_BYTES, TEXT_BYTES};
 

@@ -1,5 +1,7 @@
 // Inner crate: group numbers, the limits, kinds of small numbers that must not be confused, big-endian numbers, and
 // records of 72 bytes.
+#![tactic(auto)]
+
 ghost use Rattle.std.specs.Prelude.{◌≡◌, ◌+◌, ◌*◌, ◌^◌, ◌≤◌, ◌<◌, length};
 ghost use Rattle.std.proofs.Math.Seq.{paste};
 ghost use Rattle.rules.specs.Bytes.{bytes, part, field};
@@ -58,7 +60,7 @@ pub const COUNTS: usize = QUEUES + 2;
 pub const SINGLES_BYTES: usize = 2 * 72 + 2;
 
 // An adapter's id: a place in the adapter table, and nothing else.
-#[derive(Drop)]
+#[derive(Clone, Copy)]
 pub struct AdapterId(pub u64);
 
 // 2^32: an id that no table has. A request that is about no adapter is looked up under it.
@@ -66,15 +68,15 @@ pub const NO_ADAPTER: u64 = 4294967296;
 
 // An interruption subclass, 0 to 7: it alone names an I/O queue or a bit of a mask.
 #[repr(C)]
-#[derive(Drop)]
+#[derive(Clone, Copy)]
 pub struct Subclass(pub u8);
 
 // One of the nine queues: 0 to 7 are those of the subclasses, 8 has the finished page faults.
-#[derive(Drop)]
+#[derive(Clone, Copy)]
 pub struct Queue(pub usize);
 
 // A subchannel: its id and its number as one word, the id in front.
-#[derive(Drop)]
+#[derive(Clone, Copy)]
 pub struct Subchannel(pub u64);
 
 pub fn wide(x: u8) -> u64

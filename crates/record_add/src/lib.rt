@@ -1,4 +1,6 @@
 // Inner crate: records that come into lent memory: ENQUEUE, and the record of an adapter interrupt.
+#![tactic(auto)]
+
 ghost use Rattle.std.specs.Prelude.{◌≡◌, List, ℕ, ◌+◌, ◌*◌, ◌≤◌, ◌<◌, length};
 ghost use Rattle.rules.specs.Bytes.{part};
 ghost use Rattle.rules.specs.State.{Limits, State, with_pending, subclass, kind, add_io, add, add_all};

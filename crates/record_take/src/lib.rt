@@ -1,5 +1,7 @@
 // Inner crate: records that are counted, listed, removed or handed out: CLEAR_IRQS, GET_ALL_IRQS, CLEAR_IO_IRQ and the
 // guest take.
+#![tactic(auto)]
+
 ghost use Rattle.std.specs.Prelude.{◌≡◌, ℕ, ◌*◌, ◌≤◌, length, drop};
 ghost use mathlib.Core.List.{List, ◌++◌, flatten};
 ghost use Rattle.rules.specs.State.{Limits, State, with_pending, listing};

@@ -1,6 +1,8 @@
 // Makes P9 by the requests themselves, on the covered core: with AIS, adapter 5 of subclass 3 (maskable, no swap,
 // suppressible) is registered, SINGLE is set for its subclass, and it injects once. Writes the move list of that
 // controller to standard output, if the list has the paper's length.
+#![tactic(auto)]
+
 ghost use Rattle.store_queues.specs.Queues.{Held};
 ghost use Rattle.store.specs.Lent.{HeldAfter};
 ghost use Rattle.list_image.specs.Places.{Imaged};

@@ -1,4 +1,6 @@
 // Inner crate: the lent memory of a fresh controller.
+#![tactic(auto)]
+
 ghost use Rattle.std.specs.Prelude.{◌≡◌, List, ℕ};
 ghost use Rattle.rules.specs.State.{nothing};
 ghost use Rattle.store.specs.Memory.{pending_of};

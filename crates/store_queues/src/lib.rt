@@ -1,4 +1,6 @@
 // Inner crate: nine queues. Each is a row of slot numbers, oldest first, with a count. One more row has the free slots.
+#![tactic(auto)]
+
 ghost use Rattle.std.specs.Prelude.{◌≡◌, ◌+◌, ◌-◌, ◌≤◌, ◌*◌, ◌<◌, length, drop, get_or};
 ghost use Rattle.std.proofs.Math.Seq.{paste};
 ghost use Rattle.store_queues.specs.Slots.{slot, Stored, slot_count};

@@ -1,4 +1,6 @@
 // Inner crate: the search over subclasses and records.
+#![tactic(auto)]
+
 ghost use Rattle.std.specs.Prelude.{◌≡◌, true, false, take};
 ghost use Rattle.rules.specs.Requests.{without_first};
 ghost use Rattle.rules.specs.Take.{first_allowed};

@@ -1,5 +1,7 @@
 // Inner crate: the service record and the machine check, at most one of each, in lent bytes. The service record stands
 // from byte 0, the machine check from byte 72. Bytes 144 and 145 say whether each is there: 0 if not.
+#![tactic(auto)]
+
 ghost use Rattle.std.specs.Prelude.{◌≡◌, not, take, drop, eqb};
 ghost use Rattle.std.proofs.Math.Option.{none, some};
 ghost use mathlib.Core.List.{◌++◌, zip_with};

@@ -1,5 +1,7 @@
 // The public calls of the POWER9 sources. A caller may use only this crate, with the array of stored numbers that the
 // caller lends and the `answers::Answer` or `xive_sources::Reading` that a call returns.
+#![tactic(auto)]
+
 ghost use Rattle.std.specs.Prelude.{◌≡◌, []};
 ghost use Rattle.xive_rules.specs.Sources.{ticket_limits, fresh, initialise, target, sync};
 ghost use Rattle.xive_sources.specs.Stored.{sources_of};

@@ -1,5 +1,7 @@
 // Inner crate: POWER9 sources as stored numbers, by value and in the lent array, and types of their own for numbers
 // that must not be confused. Which bit of a stored number says what is drawn in specs/Stored.antt.
+#![tactic(auto)]
+
 ghost use Rattle.std.specs.Prelude.{◌≡◌, false, ◌<◌, ltb, set};
 ghost use Rattle.std.proofs.Math.Option.{some};
 ghost use Rattle.xive_rules.specs.Words.{server_in, targeting_word, bits};

@@ -1,0 +1,32 @@
+use Rattle.numbers.proofs.Basics.{◌≡◌, refl, sym, ◌∙◌, [], flatten, ◌-◌, arith, length, get_or}
+use Rattle.numbers.proofs.Basics.{paste-zero, take_all, rules}
+use Rattle.store_queues.specs.Queues.{row, listed}
+use Rattle.store_queues.proofs.{Laws.length-named, Laws.named-at, Laws.list-turn}
+use Rattle.store_queues.proofs.list_queue.Goals as goal
+
+pub loop-k-preserved : goal.loop-k-preserved
+loop-k-preserved c =
+    let r = c in
+    let l = r.loop-k in
+    let f = r in
+    let a = f.args in
+    let L = listed a.b.now (row a.o.now a.q.0 a.n) in
+    let n = length-named a.b.now a.o.now a.q.0 (omega arith) a.n f.requires.1 in
+    let at : r.read_slot.result ≡ get_or L l.k [] =
+    rw r.slot_of.ensures at r.read_slot.ensures ∙ sym (named-at a.b.now a.o.now a.q.0 (omega arith) a.n f.requires.1 l.k (omega arith)) in
+    let lr : length r.read_slot.result ≡ 72 = search rules in
+    let t = list-turn L a.out-1.now l.out-1 a.at l.k (omega arith) (rw at at lr) l.invariant.2 (omega arith) l.invariant.3 in
+    (omega arith, search rules, t.0, rw (at, t.1) at c.save.ensures)
+
+pub returns : goal.returns
+returns c =
+    let l = c.loop-k in
+    let f = c in
+    let a = f.args in
+    let n = length-named a.b.now a.o.now a.q.0 (omega arith) a.n f.requires.1 in
+    let e : l.k ≡ a.n = omega arith in
+    let z = take_all a.n (listed a.b.now (row a.o.now a.q.0 a.n)) (omega arith) in
+    (rw (e, z) at l.invariant.3, rw (e, z) at l.invariant.2)
+
+pub loop-k-init : goal.loop-k-init
+loop-k-init c = unfold flatten in (omega arith, refl, refl, paste-zero c.args.out-1.now c.args.at [])

@@ -48,7 +48,7 @@ pub fn answer_inject(
     ensures { Injected places room id.0 (total counts.old) ais device place
         (pending_of order.old counts.old slots.old)
         (pending_of order.new counts.new slots.new) result
-        × (HeldAfter order counts × ((result.code ≡ 0 → ⊥) → Stays slots × Stays order × Stays counts)) }
+        × (HeldAfter order.new counts.new × ((result.code ≡ 0 → ⊥) → Stays slots.old slots.new × Stays order.old order.new × Stays counts.old counts.new)) }
 {
     if places <= id.0 {
         return answers::refuse(EINVAL);
@@ -114,8 +114,8 @@ fn inject_in(
     ensures by_index { (singles b : List ℕ) → SetTo places room ais 10 id.0 b image.now
         (pending_of order.old counts.old slots.old singles) device image.now
         (pending_of order.new counts.new slots.new singles) result }
-    ensures held { HeldAfter order counts
-        × ((result.answer.code ≡ 0 → ⊥) → Stays slots × Stays order × Stays counts × (result.device ≡ device)) }
+    ensures held { HeldAfter order.new counts.new
+        × ((result.answer.code ≡ 0 → ⊥) → Stays slots.old slots.new × Stays order.old order.new × Stays counts.old counts.new × (result.device ≡ device)) }
 {
     let place = list_image::look_up(image, places, id);
     let answer = answer_inject(slots, order, counts, places, room, ais, device, place, id);
@@ -141,7 +141,7 @@ fn set_place(
     ensures by_index { (room : ℕ) (ais : Bool) (p : Pending) (d : Device)
         → SetTo places room ais group attr payload.now image.old p d
         image.new p (record { answer = result; device = d }) }
-    ensures held { Imaged image.new × ((result.code ≡ 0 → ⊥) → Stays image) }
+    ensures held { Imaged image.new × ((result.code ≡ 0 → ⊥) → Stays image.old image.new) }
 {
     let id = adapter_requests::payload_id(payload);
     let place = list_image::look_up(image, places, id);
@@ -192,10 +192,10 @@ pub fn set_listed(
     requires { (room ≤ slot_count) × (places ≤ image_size) × Held order.old counts.old × Imaged image.old
         × (group ≡ 3 → ⊥) × (group ≡ 8 → ⊥) × (group ≡ 10 → ⊥) }
     ensures set_to { SetTo places room ais group attr payload.now image.old
-        (before order counts slots singles) device image.new (after order counts slots singles) result }
-    ensures held { HeldAfter order counts × Imaged image.new }
+        (before order.old counts.old slots.old singles.old) device image.new (after order.new counts.new slots.new singles.new) result }
+    ensures held { HeldAfter order.new counts.new × Imaged image.new }
     ensures kept { (result.answer.code ≡ 0 → ⊥) →
-        Stays slots × Stays order × Stays counts × Stays singles × Stays image × (result.device ≡ device) }
+        Stays slots.old slots.new × Stays order.old order.new × Stays counts.old counts.new × Stays singles.old singles.new × Stays image.old image.new × (result.device ≡ device) }
 {
     if group == ENQUEUE {
         let answer = record_add::enqueue_irqs(slots, order, counts, singles, room, attr, payload);
@@ -225,10 +225,10 @@ pub fn set_any(
 ) -> Ran
     requires { (room ≤ slot_count) × (places ≤ image_size) × Held order.old counts.old × Imaged image.old }
     ensures set_to { SetTo places room ais group attr payload.now image.old
-        (before order counts slots singles) device image.new (after order counts slots singles) result }
-    ensures held { HeldAfter order counts × Imaged image.new }
+        (before order.old counts.old slots.old singles.old) device image.new (after order.new counts.new slots.new singles.new) result }
+    ensures held { HeldAfter order.new counts.new × Imaged image.new }
     ensures kept { (result.answer.code ≡ 0 → ⊥) →
-        Stays slots × Stays order × Stays counts × Stays singles × Stays image × (result.device ≡ device) }
+        Stays slots.old slots.new × Stays order.old order.new × Stays counts.old counts.new × Stays singles.old singles.new × Stays image.old image.new × (result.device ≡ device) }
 {
     if group == CLEAR_IRQS {
         let answer = record_take::clear_irqs(order, counts, singles, attr);

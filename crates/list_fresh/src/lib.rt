@@ -27,8 +27,8 @@ pub fn play_fresh(
     singles: &mut [u8; SINGLES_BYTES],
     list: &[u8],
 ) -> Answer
-    ensures held { HeldAfter order counts }
-    ensures answer { PlayedFresh list.now (after order counts slots singles) result }
+    ensures held { HeldAfter order.new counts.new }
+    ensures answer { PlayedFresh list.now (after order.new counts.new slots.new singles.new) result }
 {
     store::fresh(order, counts, singles);
     let mut image = list_image::empty();

@@ -33,9 +33,9 @@ fn apply_at(
     requires { (room ≤ slot_count) × (places ≤ image_size) × Held order.old counts.old × Imaged image.old
         × Formed list.now × (place < count_in list.now) }
     ensures set_by_entry { SetByEntry places room ais list.now (slot_at place list.now)
-        image.old (before order counts slots singles) device
-        image.new (after order counts slots singles) result }
-    ensures held { HeldAfter order counts × Imaged image.new }
+        image.old (before order.old counts.old slots.old singles.old) device
+        image.new (after order.new counts.new slots.new singles.new) result }
+    ensures held { HeldAfter order.new counts.new × Imaged image.new }
 {
     let e = 20 + 24 * place;
     let at = numbers::read_be(list, e, 4) as usize;
@@ -75,8 +75,8 @@ fn apply_all(
     requires { (room ≤ slot_count) × (places ≤ image_size) × Held order.old counts.old × Imaged image.old
         × Formed list.now × (count ≡ count_in list.now) }
     ensures set_by_entries { SetByEntries places room ais list.now image.old
-        (before order counts slots singles) device image.new (after order counts slots singles) result }
-    ensures held { HeldAfter order counts × Imaged image.new }
+        (before order.old counts.old slots.old singles.old) device image.new (after order.new counts.new slots.new singles.new) result }
+    ensures held { HeldAfter order.new counts.new × Imaged image.new }
 {
     let mut d = device;
     let mut i = 0;
@@ -124,8 +124,8 @@ pub fn play_list(
     requires { (room ≤ slot_count) × (places ≤ image_size) × Held order.old counts.old
         × (image.old ≡ replicate image_size 0) }
     ensures { PlayedTo places room ais list.now image.new
-        (after order counts slots singles) result
-        × (HeldAfter order counts × (result.fresh ≡ false → Stays slots × Stays order × Stays counts × Stays singles)) }
+        (after order.new counts.new slots.new singles.new) result
+        × (HeldAfter order.new counts.new × (result.fresh ≡ false → Stays slots.old slots.new × Stays order.old order.new × Stays counts.old counts.new × Stays singles.old singles.new)) }
 {
     let code = list_form::form(list, ais);
     let device = adapters::fresh_device();

@@ -238,7 +238,7 @@ fn put_listing(
         × WholeListing (listing (pending_of order.now counts.now slots.now singles.now)) n
         × (at + record_bytes * n ≤ length out.old) }
     ensures { out.new ≡ put out.old at
-        (flatten (listing (before order counts slots singles))) }
+        (flatten (listing (before order.now counts.now slots.now singles.now))) }
 {
     record_take::list_all(slots, order, counts, singles, &mut out[at..]);
 }
@@ -269,7 +269,7 @@ fn put_payloads(
         × WholeListing (listing (pending_of order.now counts.now slots.now singles.now)) p.records
         × (start ≤ payload_offset most_entries) × (start + bytes_of p ≤ length out.old) }
     ensures { out.new ≡ put out.old start
-        (payloads (entries_from image.now (listing (before order counts slots singles))
+        (payloads (entries_from image.now (listing (before order.now counts.now slots.now singles.now))
         p.masks device.simm device.nimm p.apf)) }
 {
     put_adapter_payloads(out, start, image, false);
@@ -293,7 +293,7 @@ pub fn write_list(
     out: &mut [u8],
 ) -> Answer
     requires { Held order.now counts.now × (length image.now ≡ image_size) }
-    ensures { Written ais device image.now (before order counts slots singles) out.old
+    ensures { Written ais device image.now (before order.now counts.now slots.now singles.now) out.old
         out.new result }
 {
     let p = Parts {

@@ -171,7 +171,7 @@ pub fn write_pending(
 ) -> usize
     requires { Held order.now counts.now }
     ensures { Wrote out.old out.new 0
-        (shown (listing (before order counts slots singles))) result }
+        (shown (listing (before order.now counts.now slots.now singles.now))) result }
 {
     let mut records = [0u8; LISTING_BYTES];
     let n = record_take::pending_whole(slots, order, counts, singles);

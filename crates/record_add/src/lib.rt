@@ -111,9 +111,9 @@ fn add_one(
 ) -> usize
     requires { (at + 72 ≤ length b.now) × (queued ≡ total counts.old) × Held order.old counts.old
         × (total counts.old + wants (kind (part at 72 b.now)) ≤ slot_count) }
-    ensures pending { after order counts slots singles
-        ≡ add (part at 72 b.now) (before order counts slots singles) }
-    ensures held { HeldAfter order counts × (result ≡ total counts.new)
+    ensures pending { after order.new counts.new slots.new singles.new
+        ≡ add (part at 72 b.now) (before order.old counts.old slots.old singles.old) }
+    ensures held { HeldAfter order.new counts.new × (result ≡ total counts.new)
         × (result ≡ queued + wants (kind (part at 72 b.now))) }
 {
     // The record is loaded in each case. If it were loaded before the match, the merge of a machine check would split
@@ -165,10 +165,10 @@ fn add_all(
 )
     requires { (n * 72 ≤ enqueue_bytes) × (n * 72 ≤ length b.now) × (queued ≡ total counts.old)
         × Held order.old counts.old × (total counts.old + all_want (records_in n b.now) ≤ slot_count) }
-    ensures pending { after order counts slots singles
-        ≡ add_all (records_in n b.now) (before order counts slots singles) }
-    ensures held { HeldAfter order counts }
-    ensures kept { n ≡ 0 → Stays slots × Stays order × Stays counts × Stays singles }
+    ensures pending { after order.new counts.new slots.new singles.new
+        ≡ add_all (records_in n b.now) (before order.old counts.old slots.old singles.old) }
+    ensures held { HeldAfter order.new counts.new }
+    ensures kept { n ≡ 0 → Stays slots.old slots.new × Stays order.old order.new × Stays counts.old counts.new × Stays singles.old singles.new }
 {
     let mut held = queued;
     let mut i = 0;
@@ -189,11 +189,11 @@ pub fn enqueue_irqs(
     payload: &[u8],
 ) -> Answer
     requires { (room ≤ slot_count) × Held order.old counts.old }
-    ensures { ((L : Limits) (s : State) → L.room ≡ room → s.pending ≡ before order counts slots singles
+    ensures { ((L : Limits) (s : State) → L.room ≡ room → s.pending ≡ before order.old counts.old slots.old singles.old
         → Answers L s payload.now (request L s enqueue attr payload.now) result
-        (with_pending (after order counts slots singles) s) payload.now)
-        × (HeldAfter order counts
-        × ((result.code ≡ 0 → ⊥) → Stays slots × Stays order × Stays counts × Stays singles)) }
+        (with_pending (after order.new counts.new slots.new singles.new) s) payload.now)
+        × (HeldAfter order.new counts.new
+        × ((result.code ≡ 0 → ⊥) → Stays slots.old slots.new × Stays order.old order.new × Stays counts.old counts.new × Stays singles.old singles.new)) }
 {
     if attr == 0 {
         return answers::refuse(EINVAL);
@@ -241,7 +241,7 @@ pub fn append_interrupt(
         → pending_of order.new counts.new slots.new singles
         ≡ add_io isc.0 (adapter_interrupt isc.0)
         (pending_of order.old counts.old slots.old singles) }
-    ensures held { HeldAfter order counts }
+    ensures held { HeldAfter order.new counts.new }
 {
     store_queues::append(
         slots,

@@ -48,8 +48,8 @@ pub fn pending_whole(
     singles: &[u8; SINGLES_BYTES],
 ) -> usize
     requires { Held order.now counts.now × (length slots.now ≡ slot_count * 72) }
-    ensures { (result ≡ length (listing (before order counts slots singles)))
-        × All Whole (listing (before order counts slots singles)) × (result ≤ most_pending) }
+    ensures { (result ≡ length (listing (before order.now counts.now slots.now singles.now)))
+        × All Whole (listing (before order.now counts.now slots.now singles.now)) × (result ≤ most_pending) }
 {
     // Borrowed as a slice: the proof learns the array's length from the borrow.
     let _g: &[u8] = singles;
@@ -68,7 +68,7 @@ pub fn clear_irqs(
         → s.pending ≡ pending_of order.old counts.old slots singles.old
         → Answers L s b (request L s clear_irqs attr b) result
         (with_pending (pending_of order.new counts.new slots singles.new) s) b)
-        × (HeldAfter order counts × ((result.code ≡ 0 → ⊥) → Stays order × Stays counts × Stays singles)) }
+        × (HeldAfter order.new counts.new × ((result.code ≡ 0 → ⊥) → Stays order.old order.new × Stays counts.old counts.new × Stays singles.old singles.new)) }
 {
     if attr != 0 {
         return answers::refuse(EINVAL);
@@ -90,8 +90,8 @@ pub fn list_all(
 )
     requires { Held order.now counts.now
         × (72 * length (listing (pending_of order.now counts.now slots.now singles.now)) ≤ length out.old) }
-    ensures { out.new ≡ flatten (listing (before order counts slots singles))
-        ++ drop (72 * length (listing (before order counts slots singles))) out.old }
+    ensures { out.new ≡ flatten (listing (before order.now counts.now slots.now singles.now))
+        ++ drop (72 * length (listing (before order.now counts.now slots.now singles.now))) out.old }
 {
     store_queues::list(slots, order, counts, out);
     let mut at = store_queues::queued(counts) * 72;
@@ -114,9 +114,9 @@ pub fn get_all(
     out: &mut [u8],
 ) -> Answer
     requires { Held order.now counts.now }
-    ensures answer { (L : Limits) (s : State) → s.pending ≡ before order counts slots singles
+    ensures answer { (L : Limits) (s : State) → s.pending ≡ before order.now counts.now slots.now singles.now
         → Answers L s out.old (request L s get_all_irqs attr out.old) result s out.new }
-    ensures kept { (result.code ≡ 0 → ⊥) → Stays out }
+    ensures kept { (result.code ≡ 0 → ⊥) → Stays out.old out.new }
 {
     if attr == 0 {
         return answers::refuse(EINVAL);
@@ -147,7 +147,7 @@ pub fn clear_io(
         → Answers L s payload.now (request L s clear_io_irq attr payload.now) result
         (with_pending (pending_of order.new counts.new slots.now singles) s)
         payload.now)
-        × (HeldAfter order counts × ((result.code ≡ 0 → ⊥) → Stays order × Stays counts)) }
+        × (HeldAfter order.new counts.new × ((result.code ≡ 0 → ⊥) → Stays order.old order.new × Stays counts.old counts.new)) }
 {
     if attr < 4 {
         return answers::refuse(EINVAL);
@@ -222,12 +222,12 @@ pub fn take(
     out: &mut [u8],
 ) -> Answer
     requires { Held order.old counts.old }
-    ensures { ((L : Limits) (s : State) → s.pending ≡ before order counts slots singles
+    ensures { ((L : Limits) (s : State) → s.pending ≡ before order.old counts.old slots.now singles.old
         → Answers L s out.old (takes s subclasses external mcheck out.old) result
         (with_pending (pending_of order.new counts.new slots.now singles.new) s)
         out.new)
-        × (HeldAfter order counts
-        × ((result.code ≡ 0 → ⊥) → Stays order × Stays counts × Stays singles × Stays out)) }
+        × (HeldAfter order.new counts.new
+        × ((result.code ≡ 0 → ⊥) → Stays order.old order.new × Stays counts.old counts.new × Stays singles.old singles.new × Stays out.old out.new)) }
 {
     if out.len() < 72 {
         return answers::refuse(EFAULT);

@@ -27,7 +27,7 @@ fn set(
     payload: &[u8],
 ) -> Device
     requires { Held order.old counts.old × Imaged image.old }
-    ensures { HeldAfter order counts × Imaged image.new }
+    ensures { HeldAfter order.new counts.new × Imaged image.new }
 {
     let ran = calls::set_any(
         slots, order, counts, singles, image, IDS, ROOM, true, device, group, attr, payload,
@@ -44,7 +44,7 @@ fn make(
     image: &mut [u64; PLACES],
 ) -> Device
     requires { Held order.old counts.old × Imaged image.old }
-    ensures { HeldAfter order counts × Imaged image.new }
+    ensures { HeldAfter order.new counts.new × Imaged image.new }
 {
     let adapter = [0, 0, 0, 5, 3, 1, 0, 1];
     let mode = [3, 0, 0, 1];

@@ -14,7 +14,7 @@ pub fn fresh(
     counts: &mut [usize; COUNTS],
     singles: &mut [u8; SINGLES_BYTES],
 )
-    ensures { HeldAfter order counts × ((slots : List ℕ) →
+    ensures { HeldAfter order.new counts.new × ((slots : List ℕ) →
         pending_of order.new counts.new slots singles.new ≡ nothing) }
 {
     store_queues::reset(order, counts);

@@ -48,7 +48,8 @@ pub fn answer_inject(
     ensures { Injected places room id.0 (total counts.old) ais device place
         (pending_of order.old counts.old slots.old)
         (pending_of order.new counts.new slots.new) result
-        × (HeldAfter order.new counts.new × ((result.code ≡ 0 → ⊥) → Stays slots.old slots.new × Stays order.old order.new × Stays counts.old counts.new)) }
+        × (HeldAfter order.new counts.new × ((result.code ≡ 0 → ⊥) → Stays slots.old slots.new
+        × Stays order.old order.new × Stays counts.old counts.new)) }
 {
     if places <= id.0 {
         return answers::refuse(EINVAL);
@@ -115,7 +116,8 @@ fn inject_in(
         (pending_of order.old counts.old slots.old singles) device image.now
         (pending_of order.new counts.new slots.new singles) result }
     ensures held { HeldAfter order.new counts.new
-        × ((result.answer.code ≡ 0 → ⊥) → Stays slots.old slots.new × Stays order.old order.new × Stays counts.old counts.new × (result.device ≡ device)) }
+        × ((result.answer.code ≡ 0 → ⊥) → Stays slots.old slots.new × Stays order.old order.new
+        × Stays counts.old counts.new × (result.device ≡ device)) }
 {
     let place = list_image::look_up(image, places, id);
     let answer = answer_inject(slots, order, counts, places, room, ais, device, place, id);
@@ -156,7 +158,8 @@ fn set_place(
 
 // Requests about the modes and the page-fault flag. A group that is no request is refused here.
 fn set_modes(ais: bool, device: Device, group: u32, attr: u64, payload: &[u8]) -> Ran
-    requires { (group ≡ 2 → ⊥) × (group ≡ 3 → ⊥) × (group ≡ 8 → ⊥) × (group ≡ 10 → ⊥) × (on_place group ≡ false) }
+    requires { (group ≡ 2 → ⊥) × (group ≡ 3 → ⊥) × (group ≡ 8 → ⊥) × (group ≡ 10 → ⊥)
+        × (on_place group ≡ false) }
     ensures by_index { (places room : ℕ) (image : List ℕ) (p : Pending) →
         SetTo places room ais group attr payload.now image p device image p result }
     ensures kept { (result.answer.code ≡ 0 → ⊥) → result.device ≡ device }
@@ -192,10 +195,12 @@ pub fn set_listed(
     requires { (room ≤ slot_count) × (places ≤ image_size) × Held order.old counts.old × Imaged image.old
         × (group ≡ 3 → ⊥) × (group ≡ 8 → ⊥) × (group ≡ 10 → ⊥) }
     ensures set_to { SetTo places room ais group attr payload.now image.old
-        (before order.old counts.old slots.old singles.old) device image.new (after order.new counts.new slots.new singles.new) result }
+        (before order.old counts.old slots.old singles.old) device image.new
+        (after order.new counts.new slots.new singles.new) result }
     ensures held { HeldAfter order.new counts.new × Imaged image.new }
     ensures kept { (result.answer.code ≡ 0 → ⊥) →
-        Stays slots.old slots.new × Stays order.old order.new × Stays counts.old counts.new × Stays singles.old singles.new × Stays image.old image.new × (result.device ≡ device) }
+        Stays slots.old slots.new × Stays order.old order.new × Stays counts.old counts.new
+        × Stays singles.old singles.new × Stays image.old image.new × (result.device ≡ device) }
 {
     if group == ENQUEUE {
         let answer = record_add::enqueue_irqs(slots, order, counts, singles, room, attr, payload);
@@ -225,10 +230,12 @@ pub fn set_any(
 ) -> Ran
     requires { (room ≤ slot_count) × (places ≤ image_size) × Held order.old counts.old × Imaged image.old }
     ensures set_to { SetTo places room ais group attr payload.now image.old
-        (before order.old counts.old slots.old singles.old) device image.new (after order.new counts.new slots.new singles.new) result }
+        (before order.old counts.old slots.old singles.old) device image.new
+        (after order.new counts.new slots.new singles.new) result }
     ensures held { HeldAfter order.new counts.new × Imaged image.new }
     ensures kept { (result.answer.code ≡ 0 → ⊥) →
-        Stays slots.old slots.new × Stays order.old order.new × Stays counts.old counts.new × Stays singles.old singles.new × Stays image.old image.new × (result.device ≡ device) }
+        Stays slots.old slots.new × Stays order.old order.new × Stays counts.old counts.new
+        × Stays singles.old singles.new × Stays image.old image.new × (result.device ≡ device) }
 {
     if group == CLEAR_IRQS {
         let answer = record_take::clear_irqs(order, counts, singles, attr);

@@ -75,7 +75,8 @@ fn apply_all(
     requires { (room ≤ slot_count) × (places ≤ image_size) × Held order.old counts.old × Imaged image.old
         × Formed list.now × (count ≡ count_in list.now) }
     ensures set_by_entries { SetByEntries places room ais list.now image.old
-        (before order.old counts.old slots.old singles.old) device image.new (after order.new counts.new slots.new singles.new) result }
+        (before order.old counts.old slots.old singles.old) device image.new
+        (after order.new counts.new slots.new singles.new) result }
     ensures held { HeldAfter order.new counts.new × Imaged image.new }
 {
     let mut d = device;
@@ -125,7 +126,8 @@ pub fn play_list(
         × (image.old ≡ replicate image_size 0) }
     ensures { PlayedTo places room ais list.now image.new
         (after order.new counts.new slots.new singles.new) result
-        × (HeldAfter order.new counts.new × (result.fresh ≡ false → Stays slots.old slots.new × Stays order.old order.new × Stays counts.old counts.new × Stays singles.old singles.new)) }
+        × (HeldAfter order.new counts.new × (result.fresh ≡ false → Stays slots.old slots.new
+        × Stays order.old order.new × Stays counts.old counts.new × Stays singles.old singles.new)) }
 {
     let code = list_form::form(list, ais);
     let device = adapters::fresh_device();

@@ -3,7 +3,6 @@ use Rattle.numbers.proofs.Basics.{◌≡◌, refl, sym, ap, ◌∙◌, Bool, tru
 use Rattle.numbers.proofs.Basics.{◌++◌, flatten, ℕ, zero, suc, ◌+◌, ◌-◌, ◌*◌, ◌/◌, ◌%◌, ◌^◌, ◌≤◌, ◌<◌, add-zero}
 use Rattle.numbers.proofs.Basics.{add-one, arith, length, take, drop, get_or, set, replicate, length-append, drop-drop}
 use Rattle.numbers.proofs.{Basics.take-set-lt, Basics.take-set-le, Basics.get_or-set_same, Basics.get_or-set_other, Basics.get_or-take, Basics.leb, Basics.eq-eqb, Basics.ne_eqb, Basics.le-leb, Basics.lt-leb, Basics.leb-true, Basics.leb-false, Laws.field-part}
-use denote.Enum.Declared.{tag_of}
 use Rattle.rules.specs.{Bytes.choose, Bytes.bytes, Bytes.part, Bytes.field, Outcome.refuse, Outcome.need◌else◌⨾◌}
 use Rattle.rules.specs.State as rules
 use Rattle.rules.specs.State.{Limits, State, Record, Pending, with_pending, kind, subclass, add_io, add_as, add, add_all, first_or, merged_or, queued}
@@ -16,7 +15,6 @@ use Rattle.numbers.specs.declared.Subclass.{Subclass}
 use Rattle.answers.specs.{declared.Answer.Answer, Answers.Answers, Answers.answered}
 use Rattle.answers.proofs.Laws.{refused, accepted}
 use Rattle.record_add.specs.{declared.Kind.Kind, declared.Kind.TheVariants.Io, declared.Kind.TheVariants.Done, declared.Kind.TheVariants.Service, declared.Kind.TheVariants.MachineCheck, declared.Kind.TheVariants.Other, declared.Checked.Checked, declared.Checked.TheVariants.Good, declared.Checked.TheVariants.BadAt, Cases.as_case, Cases.kind_case, Cases.check_from, Cases.answer_to}
-use Rattle.record_add.specs.contracts.Kind.{the_type}
 use Rattle.store.specs.Memory.{pending_of}
 
 -- ---- a record within bytes
@@ -49,16 +47,20 @@ io-told r k s e f =
     let h : s.0 ≡ subclass r = ap (λ (x : Subclass). x.0) (cc) in
     (g, h, omega arith)
 
--- a case's tag tells what a record of its kind wants
-pub tag-wants : (k : rules.Kind) (isc t : ℕ) → t ≡ tag_of the_type (as_case k isc)
-    → ((t ≡ 0) ⊎ (t ≡ 1) → (kind_accepted k ≡ true) × (wants k ≡ 1)) × ((t ≡ 2) ⊎ (t ≡ 3) → (kind_accepted k ≡ true) × (wants k ≡ 0))
-unfolding as_case kind_accepted wants
-tag-wants rules.Kind.io isc t e = (λ h. (refl, refl), λ h. absurd (⊎_elim (λ f. omega arith) (λ f. omega arith) h))
-tag-wants rules.Kind.done isc t e = (λ h. (refl, refl), λ h. absurd (⊎_elim (λ f. omega arith) (λ f. omega arith) h))
-tag-wants rules.Kind.service isc t e = (λ h. absurd (⊎_elim (λ f. omega arith) (λ f. omega arith) h), λ h. (refl, refl))
-tag-wants rules.Kind.mchk isc t e = (λ h. absurd (⊎_elim (λ f. omega arith) (λ f. omega arith) h), λ h. (refl, refl))
-tag-wants rules.Kind.other isc t e =
-    (λ h. absurd (⊎_elim (λ f. omega arith) (λ f. omega arith) h), λ h. absurd (⊎_elim (λ f. omega arith) (λ f. omega arith) h))
+-- a case tells what a record of its kind wants: a place in a queue, or none
+pub queue-wants : (k : rules.Kind) (isc : ℕ) (r : Kind) → r ≡ as_case k isc → ((x : Subclass) × (r ≡ Io x)) ⊎ (r ≡ Done)
+    → (kind_accepted k ≡ true) × (wants k ≡ 1)
+unfolding kind_accepted wants
+queue-wants k isc r e h =
+    ⊎_elim (λ (p : (x : Subclass) × (r ≡ Io x)). let f : k ≡ kind_for (Io p.0) = kind-known k isc r e ∙ ap kind_for p.1 in (rw f, rw f))
+    (λ d. let f : k ≡ kind_for Done = kind-known k isc r e ∙ ap kind_for d in (rw f, rw f)) h
+
+pub single-wants : (k : rules.Kind) (isc : ℕ) (r : Kind) → r ≡ as_case k isc → (r ≡ Service) ⊎ (r ≡ MachineCheck)
+    → (kind_accepted k ≡ true) × (wants k ≡ 0)
+unfolding kind_accepted wants
+single-wants k isc r e h =
+    ⊎_elim (λ d. let f : k ≡ kind_for Service = kind-known k isc r e ∙ ap kind_for d in (rw f, rw f))
+    (λ d. let f : k ≡ kind_for MachineCheck = kind-known k isc r e ∙ ap kind_for d in (rw f, rw f)) h
 
 -- ---- the records in given bytes: those from place i on
 abbrev pub records_from : ℕ → ℕ → List ℕ → List Record

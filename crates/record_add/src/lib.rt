@@ -168,7 +168,8 @@ fn add_all(
     ensures pending { after order.new counts.new slots.new singles.new
         ≡ add_all (records_in n b.now) (before order.old counts.old slots.old singles.old) }
     ensures held { HeldAfter order.new counts.new }
-    ensures kept { n ≡ 0 → Stays slots.old slots.new × Stays order.old order.new × Stays counts.old counts.new × Stays singles.old singles.new }
+    ensures kept { n ≡ 0 → Stays slots.old slots.new × Stays order.old order.new
+        × Stays counts.old counts.new × Stays singles.old singles.new }
 {
     let mut held = queued;
     let mut i = 0;
@@ -189,11 +190,13 @@ pub fn enqueue_irqs(
     payload: &[u8],
 ) -> Answer
     requires { (room ≤ slot_count) × Held order.old counts.old }
-    ensures { ((L : Limits) (s : State) → L.room ≡ room → s.pending ≡ before order.old counts.old slots.old singles.old
+    ensures { ((L : Limits) (s : State) → L.room ≡ room
+        → s.pending ≡ before order.old counts.old slots.old singles.old
         → Answers L s payload.now (request L s enqueue attr payload.now) result
         (with_pending (after order.new counts.new slots.new singles.new) s) payload.now)
         × (HeldAfter order.new counts.new
-        × ((result.code ≡ 0 → ⊥) → Stays slots.old slots.new × Stays order.old order.new × Stays counts.old counts.new × Stays singles.old singles.new)) }
+        × ((result.code ≡ 0 → ⊥) → Stays slots.old slots.new × Stays order.old order.new
+        × Stays counts.old counts.new × Stays singles.old singles.new)) }
 {
     if attr == 0 {
         return answers::refuse(EINVAL);

@@ -68,7 +68,8 @@ pub fn clear_irqs(
         → s.pending ≡ pending_of order.old counts.old slots singles.old
         → Answers L s b (request L s clear_irqs attr b) result
         (with_pending (pending_of order.new counts.new slots singles.new) s) b)
-        × (HeldAfter order.new counts.new × ((result.code ≡ 0 → ⊥) → Stays order.old order.new × Stays counts.old counts.new × Stays singles.old singles.new)) }
+        × (HeldAfter order.new counts.new × ((result.code ≡ 0 → ⊥) → Stays order.old order.new
+        × Stays counts.old counts.new × Stays singles.old singles.new)) }
 {
     if attr != 0 {
         return answers::refuse(EINVAL);
@@ -147,7 +148,8 @@ pub fn clear_io(
         → Answers L s payload.now (request L s clear_io_irq attr payload.now) result
         (with_pending (pending_of order.new counts.new slots.now singles) s)
         payload.now)
-        × (HeldAfter order.new counts.new × ((result.code ≡ 0 → ⊥) → Stays order.old order.new × Stays counts.old counts.new)) }
+        × (HeldAfter order.new counts.new × ((result.code ≡ 0 → ⊥) → Stays order.old order.new
+        × Stays counts.old counts.new)) }
 {
     if attr < 4 {
         return answers::refuse(EINVAL);
@@ -227,7 +229,8 @@ pub fn take(
         (with_pending (pending_of order.new counts.new slots.now singles.new) s)
         out.new)
         × (HeldAfter order.new counts.new
-        × ((result.code ≡ 0 → ⊥) → Stays order.old order.new × Stays counts.old counts.new × Stays singles.old singles.new × Stays out.old out.new)) }
+        × ((result.code ≡ 0 → ⊥) → Stays order.old order.new × Stays counts.old counts.new
+        × Stays singles.old singles.new × Stays out.old out.new)) }
 {
     if out.len() < 72 {
         return answers::refuse(EFAULT);

@@ -5,7 +5,7 @@ use Rattle.adapters.specs.Values.{injected_device}
 use Rattle.adapters.proofs.after_injection.Goals as goal
 
 pub returns-then-under_ais : goal.returns-then-under_ais
-returns-then-under_ais c = let t = c in unfold injected_device choose in rw (sym t.under_ais.ensures ∙ t.if-under_ais.true, c.with_bit.ensures)
+returns-then-under_ais c = unfold injected_device choose in rw (sym c.under_ais.ensures ∙ c.if-under_ais.true, c.with_bit.ensures)
 
 pub returns : goal.returns
 returns c = unfold injected_device choose in rw (sym c.under_ais.ensures ∙ c.if-under_ais.false)

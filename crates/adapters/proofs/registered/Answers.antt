@@ -6,4 +6,7 @@ use Rattle.adapters.proofs.registered.Goals as goal
 
 pub returns : goal.returns
 returns c = unfold place_of choose in
-    (refl, λ h. record { unused_one = λ e. absurd (true≢false e); isc_small = h; masked_maskable = λ e. absurd (false≢true e) })
+    record {
+      result_value = refl;
+      canonical = λ h. record { unused_one = λ e. absurd (true≢false e); isc_small = h; masked_maskable = λ e. absurd (false≢true e) };
+    }

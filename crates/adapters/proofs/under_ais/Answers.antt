@@ -6,7 +6,7 @@ pub has_bit-requires : goal.has_bit-requires
 has_bit-requires c = search rules
 
 pub returns-then-p : goal.returns-then-p
-returns-then-p c = let t = c in rw (t.if-ais.true, t.if-p.true) c.has_bit.ensures
+returns-then-p c = rw (c.if-ais.true, c.if-p.true) c.has_bit.ensures
 
 pub returns-else-p : goal.returns-else-p
 returns-else-p c = rw (c.if-ais.true, c.if-p.false)

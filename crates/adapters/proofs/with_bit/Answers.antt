@@ -8,7 +8,7 @@ pub returns-then-has_bit : goal.returns-then-has_bit
 returns-then-has_bit c = unfold with_bit choose in rw (sym c.has_bit.ensures ∙ c.if-has_bit.true)
 
 pub overflow_add-result : goal.overflow_add-result
-overflow_add-result c = let h = c in omega (arith, (bit-room _ h.args.mask h.requires (search rules)).0 (sym h.has_bit.ensures ∙ c.if-has_bit.false))
+overflow_add-result c = omega (arith, (bit-room _ c.args.mask c.requires (search rules)).0 (sym c.has_bit.ensures ∙ c.if-has_bit.false))
 
 pub returns : goal.returns
 returns c = unfold with_bit choose in rw (sym c.has_bit.ensures ∙ c.if-has_bit.false, c.bit_of.ensures.0)

@@ -1,4 +1,4 @@
-use Rattle.numbers.proofs.Basics.{◌≡◌, sym, ◌∙◌, ◌+◌, ◌-◌, ◌*◌, arith, length, not-true, not-false}
+use Rattle.numbers.proofs.Basics.{◌≡◌, sym, ◌∙◌, ◌+◌, ◌*◌, arith, length}
 use Rattle.list_form.specs.Form.{slot_at}
 use Rattle.list_form.proofs.{Laws.inside, Laws.slots-all, Laws.formed-next, Laws.formed-stops, Laws.formed-ends}
 use Rattle.list_form.proofs.slots_formed.Goals as goal
@@ -12,7 +12,7 @@ loop-i-preserved c =
       omega arith,
       omega (arith, c.read_be-at.ensures.1),
       rw size
-          (l.invariant.2 ∙ formed-next (length a.list.now) l.at l.i a.count a.list.now c.loop-i-test.true (sym c.slot_formed.ensures ∙ not-false _ c.if-not-slot_formed.false)),
+          (l.invariant.2 ∙ formed-next (length a.list.now) l.at l.i a.count a.list.now c.loop-i-test.true (sym c.slot_formed.ensures ∙ c.if-not-slot_formed.false)),
     )
 
 pub loop-i-init : goal.loop-i-init
@@ -24,7 +24,7 @@ slot_formed-requires c = (omega arith, omega arith)
 pub returns-then-not-slot_formed : goal.returns-then-not-slot_formed
 returns-then-not-slot_formed c = let a = c.args in
     let l = c.loop-i in
-    sym (l.invariant.2 ∙ formed-stops (length a.list.now) l.at l.i a.count a.list.now c.loop-i-test.true (sym c.slot_formed.ensures ∙ not-true _ c.if-not-slot_formed.true))
+    sym (l.invariant.2 ∙ formed-stops (length a.list.now) l.at l.i a.count a.list.now c.loop-i-test.true (sym c.slot_formed.ensures ∙ c.if-not-slot_formed.true))
 
 pub read_be-at-requires : goal.read_be-at-requires
 read_be-at-requires c = (omega arith, omega arith)

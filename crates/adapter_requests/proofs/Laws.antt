@@ -6,7 +6,7 @@ use lib.Seq.{set-get_or}
 use Rattle.rules.specs.{Bytes.choose, Bytes.byte, Bytes.field, Requests.set_request, Requests.no_request, Requests.with_mask, State.Limits, State.State, Outcome.Outcome, Outcome.refuse, Outcome.accept, Outcome.need◌else◌⨾◌}
 use Rattle.rules.proofs.Checks.{passes, fails, chosen, passed}
 use Rattle.rules.specs.State as rules
-use Rattle.adapters.specs.{declared.Device.Device, declared.Place.Place, Values.masked_as, Values.mode_set}
+use Rattle.adapters.specs.{Values.masked_as, Values.mode_set}
 use Rattle.adapter_requests.specs.States.{payload_id, on_place, decided, with_place, modes_after}
 
 -- ---- a code that is not 0, and 0

@@ -5,7 +5,6 @@ use Rattle.rules.specs.State as rules
 use Rattle.rules.specs.State.{Limits, State}
 use Rattle.rules.specs.Outcome.{Outcome, refuse, accept}
 use Rattle.rules.specs.Requests.{adapter_in, non_zero, set_request, request}
-use Rattle.adapters.specs.declared.Device.{Device}
 use Rattle.adapters.specs.declared.Place.{Place}
 use Rattle.adapters.specs.Values.{place_of, with_masked, masked_as, mode_set}
 

@@ -1,9 +1,5 @@
 -- `adapters::under_ais` meets its contract, by the tests.
-use borrow.Author.Rules.{rules}
 use Rattle.adapters.proofs.under_ais.Goals as goal
-
-pub has_bit-requires : goal.has_bit-requires
-has_bit-requires c = search rules
 
 pub returns-then-p : goal.returns-then-p
 returns-then-p c = rw (c.if-ais.true, c.if-p.true) c.has_bit.ensures

@@ -1,45 +1,28 @@
 -- `calls::answer_inject` meets its contract: the four cases of an injection, and an id past the last place.
-use Rattle.numbers.proofs.Basics.{ℕ, ◌<◌, ◌≡◌, refl, ap, sym, ◌∙◌, List, [], arith, leb, leb-true, leb-false}
+use Rattle.numbers.proofs.Basics.{Bool, ℕ, ◌<◌, ◌≡◌, refl, ap, sym, ◌∙◌, List, [], arith, leb, leb-true, leb-false}
 use Rattle.rules.specs.{Requests.adapter_interrupt, State.State, State.Pending, State.queued, State.add_io, State.with_pending, State.with_device, Outcome.accept}
 use Rattle.record_add.proofs.Laws.{queued-total}
 use Rattle.store.specs.Memory.{pending_of}
 use Rattle.store_queues.specs.Queues.{total}
-use Rattle.adapters.specs.{declared.Injection.Injection, Values.injection_of, Values.injected_device, Values.device_of}
+use Rattle.adapters.specs.{declared.Injection.Injection, declared.Device.Device, declared.Place.Place, Values.injection_of, Values.injected_device, Values.device_of}
 use Rattle.numbers.specs.declared.Subclass.{Subclass}
 use Rattle.answers.proofs.Laws.{refused_as, accepted, not-refused}
 use Rattle.calls.specs.Cases.{answer_for}
 use Rattle.calls.proofs.Requests.{as_it_was, none-there, dropped-there, full-there, appended-there, out_of_range, nobody-there, is-dropped, is-full, is-appended, injected-is, nothing-changes, is-noted}
 use Rattle.calls.proofs.answer_inject.Goals as goal
 
--- what is pending before, by the two single records
-abbrev was : goal.Start → List ℕ → Pending
-was f = let a = f.args in pending_of a.order.now a.counts.now a.slots.now
-
--- what is known once `adapters::inject` was called
-abbrev start : goal.After-inject-what → goal.Start
-start j = j
-
-in-range : (j : goal.After-inject-what) → (start j).args.id.0 < (start j).args.places
-in-range j = omega (arith, j.if-places-id.false)
-
-all-counted : (j : goal.After-inject-what) (singles : List ℕ) → queued (was (start j) singles) ≡ j.queued-n.result
-all-counted j singles =
-    let a = (start j).args in
-    queued-total a.order.now a.counts.now a.slots.now singles (start j).requires.1 ∙ sym j.queued-n.ensures
-
-case-told : (j : goal.After-inject-what) {x : Injection} → j.inject-what.result ≡ x → let a = (start j).args in
-    answer_for x ≡ answer_for (injection_of a.ais a.device a.place (leb a.room (total a.counts.now)))
-case-told j e =
-    let a = (start j).args in
-    ap answer_for (sym e ∙ j.inject-what.ensures ∙ (λ i. injection_of a.ais a.device a.place (leb a.room (j.queued-n.ensures i))))
+-- what is told of an injection by the code's own count of the queued records
+case-told : (ais : Bool) (d : Device) (p : Place) (room n m : ℕ) (w x : Injection) → w ≡ injection_of ais d p (leb room n) → n ≡ m → w ≡ x
+    → answer_for x ≡ answer_for (injection_of ais d p (leb room m))
+case-told ais d p room n m w x h k e = ap answer_for (sym e ∙ h ∙ (λ i. injection_of ais d p (leb room (k i))))
 
 pub append_interrupt-requires : goal.append_interrupt-requires
 unfolding injection_of
-append_interrupt-requires c κs =
+append_interrupt-requires c =
     let w = c in
     let j = w in
-    let f = start j in
-    let d = appended-there _ _ _ _ _ (sym j.inject-what.ensures ∙ w.what-1.given.1) in (
+    let f = j in
+    let d = appended-there _ _ _ _ _ (sym j.inject-what.ensures ∙ c.in-Appended.is) in (
       omega (arith, ap (λ (x : Subclass). x.0) d.3, f.requires.2.isc_small),
       j.queued-n.ensures,
       omega (arith, f.requires.0, leb-false f.args.room j.queued-n.result d.2, j.queued-n.ensures),
@@ -50,11 +33,11 @@ pub returns-in-NoAdapter : goal.returns-in-NoAdapter
 unfolding injection_of
 returns-in-NoAdapter c =
     let j = c in
-    let f = start j in
+    let f = j in
     let a = f.args in (
-      nothing-changes _ _ _ _ _ _ _ (was f) _ 22 c.refuse-in-NoAdapter.ensures (λ h. c.refuse-in-NoAdapter.ensures ∙ case-told j c.enum_told-1.given.1) (λ L s singles b e1 e2 e3 e4 e5 e6.
+      nothing-changes _ _ _ _ _ _ _ (pending_of a.order.now a.counts.now a.slots.now) _ 22 c.refuse-in-NoAdapter.ensures (λ h. c.refuse-in-NoAdapter.ensures ∙ case-told a.ais a.device a.place a.room c.queued-n.result _ c.inject-what.result _ c.inject-what.ensures c.queued-n.ensures c.in-NoAdapter.is) (λ L s singles b e1 e2 e3 e4 e5 e6.
           refused_as L s _ _ _ 22 _ (as_it_was s _ _ e4 e5)
-          (nobody-there L s a.ais a.device a.place a.id.0 b (omega (arith, e1, in-range j)) e6 (none-there _ _ _ _ (sym j.inject-what.ensures ∙ c.enum_told-1.given.1)))
+          (nobody-there L s a.ais a.device a.place a.id.0 b (omega (arith, e1, c.if-places-id.false)) e6 (none-there _ _ _ _ (sym j.inject-what.ensures ∙ c.in-NoAdapter.is)))
           c.refuse-in-NoAdapter.ensures),
       (f.requires.1, λ k. (refl, refl, refl)),
     )
@@ -63,12 +46,12 @@ pub returns-in-Dropped : goal.returns-in-Dropped
 unfolding injection_of
 returns-in-Dropped c =
     let j = c in
-    let f = start j in
+    let f = j in
     let a = f.args in
-    let d = dropped-there _ _ _ _ (sym j.inject-what.ensures ∙ c.enum_told-in-Dropped-1.given.1) in (
-      nothing-changes _ _ _ _ _ _ _ (was f) _ 0 c.accept.ensures (λ h. c.accept.ensures ∙ case-told j c.enum_told-in-Dropped-1.given.1) (λ L s singles b e1 e2 e3 e4 e5 e6.
+    let d = dropped-there _ _ _ _ (sym j.inject-what.ensures ∙ c.in-Dropped.is) in (
+      nothing-changes _ _ _ _ _ _ _ (pending_of a.order.now a.counts.now a.slots.now) _ 0 c.accept.ensures (λ h. c.accept.ensures ∙ case-told a.ais a.device a.place a.room c.queued-n.result _ c.inject-what.result _ c.inject-what.ensures c.queued-n.ensures c.in-Dropped.is) (λ L s singles b e1 e2 e3 e4 e5 e6.
           accepted L s _ _ _ 0 _ [] _
-          (is-dropped L s a.ais a.device a.place a.id.0 b (omega (arith, e1, in-range j)) e6 d.0 e3 e5 d.1 ∙ ap (λ (t : State). accept 0 t []) (as_it_was s _ _ e4 e5))
+          (is-dropped L s a.ais a.device a.place a.id.0 b (omega (arith, e1, c.if-places-id.false)) e6 d.0 e3 e5 d.1 ∙ ap (λ (t : State). accept 0 t []) (as_it_was s _ _ e4 e5))
           c.accept.ensures refl),
       (f.requires.1, λ k. (refl, refl, refl)),
     )
@@ -77,13 +60,13 @@ pub returns-in-Full : goal.returns-in-Full
 unfolding injection_of
 returns-in-Full c =
     let j = c in
-    let f = start j in
+    let f = j in
     let a = f.args in
-    let d = full-there _ _ _ _ (sym j.inject-what.ensures ∙ c.enum_told-in-Full-1.given.1) in (
-      nothing-changes _ _ _ _ _ _ _ (was f) _ 16 c.refuse-in-Full.ensures (λ h. c.refuse-in-Full.ensures ∙ case-told j c.enum_told-in-Full-1.given.1) (λ L s singles b e1 e2 e3 e4 e5 e6.
+    let d = full-there _ _ _ _ (sym j.inject-what.ensures ∙ c.in-Full.is) in (
+      nothing-changes _ _ _ _ _ _ _ (pending_of a.order.now a.counts.now a.slots.now) _ 16 c.refuse-in-Full.ensures (λ h. c.refuse-in-Full.ensures ∙ case-told a.ais a.device a.place a.room c.queued-n.result _ c.inject-what.result _ c.inject-what.ensures c.queued-n.ensures c.in-Full.is) (λ L s singles b e1 e2 e3 e4 e5 e6.
           refused_as L s _ _ _ 16 _ (as_it_was s _ _ e4 e5)
-          (is-full L s a.ais a.device a.place a.id.0 b (omega (arith, e1, in-range j)) e6 d.0 e3 e5 d.1
-          (omega (arith, e2, leb-true a.room j.queued-n.result d.2, ap queued e4, all-counted j singles)))
+          (is-full L s a.ais a.device a.place a.id.0 b (omega (arith, e1, c.if-places-id.false)) e6 d.0 e3 e5 d.1
+          (omega (arith, e2, leb-true a.room j.queued-n.result d.2, ap queued e4, queued-total a.order.now a.counts.now a.slots.now singles f.requires.1 ∙ sym c.queued-n.ensures)))
           c.refuse-in-Full.ensures),
       (f.requires.1, λ k. (refl, refl, refl)),
     )
@@ -93,25 +76,25 @@ unfolding injection_of
 returns-in-Appended c =
     let w = c in
     let j = w in
-    let f = start j in
+    let f = j in
     let a = f.args in
-    let d = appended-there _ _ _ _ _ (sym j.inject-what.ensures ∙ w.what-1.given.1) in
+    let d = appended-there _ _ _ _ _ (sym j.inject-what.ensures ∙ c.in-Appended.is) in
     let m = c.append_interrupt.ensures in (
-      is-noted _ _ _ _ _ _ _ (was f) _ _ c.accept-in-Appended.ensures (λ h. c.accept-in-Appended.ensures ∙ case-told j w.what-1.given.1) (λ L s singles b e1 e2 e3 e4 e5 e6.
-          let h : a.id.0 < L.places = omega (arith, e1, in-range j) in
+      is-noted _ _ _ _ _ _ _ (pending_of a.order.now a.counts.now a.slots.now) _ _ c.accept-in-Appended.ensures (λ h. c.accept-in-Appended.ensures ∙ case-told a.ais a.device a.place a.room c.queued-n.result _ c.inject-what.result _ c.inject-what.ensures c.queued-n.ensures c.in-Appended.is) (λ L s singles b e1 e2 e3 e4 e5 e6.
+          let h : a.id.0 < L.places = omega (arith, e1, c.if-places-id.false) in
           accepted L s _ _ _ 1 _ [] _
-          (is-appended L s a.ais a.device a.place a.id.0 b h e6 d.0 e3 e5 d.1 (omega (arith, e2, leb-false a.room j.queued-n.result d.2, ap queued e4, all-counted j singles))
+          (is-appended L s a.ais a.device a.place a.id.0 b h e6 d.0 e3 e5 d.1 (omega (arith, e2, leb-false a.room j.queued-n.result d.2, ap queued e4, queued-total a.order.now a.counts.now a.slots.now singles f.requires.1 ∙ sym c.queued-n.ensures))
           ∙ ap (λ (t : State). accept 1 t []) (injected-is L s a.ais a.device a.place a.id.0 b h e6 d.0 e3 e5 _ e4
           ∙ (λ i. with_device (device_of (injected_device a.ais a.device a.place)) (with_pending
-          (sym (m.0 singles ∙ ap (λ (x : Subclass). add_io x.0 (adapter_interrupt x.0) (was f singles)) d.3) i) s))))
+          (sym (m.pending singles ∙ ap (λ (x : Subclass). add_io x.0 (adapter_interrupt x.0) (pending_of a.order.now a.counts.now a.slots.now singles)) d.3) i) s))))
           c.accept-in-Appended.ensures refl),
-      (m.1, not-refused _ _ c.accept-in-Appended.ensures),
+      (m.held, not-refused _ _ c.accept-in-Appended.ensures),
     )
 
 pub returns-then-places-id : goal.returns-then-places-id
 returns-then-places-id c = let f = c in
     let a = f.args in (
-      nothing-changes _ _ _ _ _ _ _ (was f) _ 22 c.refuse.ensures (λ h. absurd (omega (arith, h, c.if-places-id.true))) (λ L s singles b e1 e2 e3 e4 e5 e6.
+      nothing-changes _ _ _ _ _ _ _ (pending_of a.order.now a.counts.now a.slots.now) _ 22 c.refuse.ensures (λ h. absurd (omega (arith, h, c.if-places-id.true))) (λ L s singles b e1 e2 e3 e4 e5 e6.
           refused_as L s _ _ _ 22 _ (as_it_was s _ _ e4 e5) (out_of_range L s a.ais a.device a.place a.id.0 b (omega (arith, e1, c.if-places-id.true))) c.refuse.ensures),
       (f.requires.1, λ k. (refl, refl, refl)),
     )

@@ -6,15 +6,15 @@ use Rattle.calls.proofs.inject_in.Goals as goal
 
 pub returns-then-answer-ne1 : goal.returns-then-answer-ne1
 returns-then-answer-ne1 c = let j = c in
-    let e = j.answer_inject-answer.ensures in (
-      set-injected e.0 _ j.look_up-place.ensures.0 _ (passed _ _ _ (ne_eqb _ 1 c.if-answer-ne1.true)),
-      (e.1.0, λ n. let k = e.1.1 n in (k.0, k.1, k.2, refl)),
-    )
+    let e = j.answer_inject-answer.ensures in record {
+      by_index = set-injected e.0 _ j.look_up-place.ensures.0 _ (passed _ _ _ (ne_eqb _ 1 c.if-answer-ne1.true));
+      held = (e.1.0, λ n. let k = e.1.1 n in (k.0, k.1, k.2, refl));
+    }
 
 pub returns : goal.returns
 returns c = let j = c in
     let e = j.answer_inject-answer.ensures in
-    let d = chosen _ _ _ (eq-eqb _ 1 c.if-answer-ne1.false) ∙ sym c.after_injection-noted.ensures in (
-      set-injected e.0 _ j.look_up-place.ensures.0 _ d,
-      (e.1.0, λ n. let k = e.1.1 n in (k.0, k.1, k.2, sym d ∙ e.0.unnoted n)),
-    )
+    let d = chosen _ _ _ (eq-eqb _ 1 c.if-answer-ne1.false) ∙ sym c.after_injection-noted.ensures in record {
+      by_index = set-injected e.0 _ j.look_up-place.ensures.0 _ d;
+      held = (e.1.0, λ n. let k = e.1.1 n in (k.0, k.1, k.2, sym d ∙ e.0.unnoted n));
+    }

@@ -6,10 +6,11 @@ use Rattle.calls.proofs.set_listed.Goals as goal
 
 pub returns-then-group-eq-ENQUEUE : goal.returns-then-group-eq-ENQUEUE
 returns-then-group-eq-ENQUEUE c = unfold request in let t = c in
-    let e = c.enqueue_irqs-answer.ensures in (
-      as-answer _ _ _ _ _ 2 t.if-group-eq-ENQUEUE.true refl (e.0 _ _ refl refl),
-      ((e.1.0, t.requires.3), λ n. let k = e.1.1 n in (k.0, k.1, k.2, k.3, refl, refl)),
-    )
+    let e = c.enqueue_irqs-answer.ensures in record {
+      set_to = as-answer _ _ _ _ _ 2 t.if-group-eq-ENQUEUE.true refl (e.0 _ _ refl refl);
+      held = (e.1.0, t.requires.3);
+      kept = λ n. let k = e.1.1 n in (k.0, k.1, k.2, k.3, refl, refl);
+    }
 
 pub set_place-answer-requires : goal.set_place-answer-requires
 set_place-answer-requires c = let t = c in
@@ -19,7 +20,7 @@ set_place-answer-requires c = let t = c in
 pub returns-then-on_place : goal.returns-then-on_place
 returns-then-on_place c = let f = c in
     let e = c.set_place-answer.ensures in
-    (e.0 _ _ _ _, ((f.requires.2, e.1.0), λ n. (refl, refl, refl, refl, e.1.1 n, refl)))
+    record { set_to = e.by_index _ _ _ _; held = (f.requires.2, e.held.0); kept = λ n. (refl, refl, refl, refl, e.held.1 n, refl) }
 
 pub set_modes-requires : goal.set_modes-requires
 set_modes-requires c = let l = c in
@@ -29,4 +30,4 @@ set_modes-requires c = let l = c in
 pub returns : goal.returns
 returns c = let f = c in
     let e = c.set_modes.ensures in
-    (e.0 _ _ _ _, ((f.requires.2, f.requires.3), λ n. (refl, refl, refl, refl, refl, e.1 n)))
+    record { set_to = e.by_index _ _ _ _; held = (f.requires.2, f.requires.3); kept = λ n. (refl, refl, refl, refl, refl, e.kept n) }

@@ -1,5 +1,6 @@
 -- `calls::set_place` meets its contract: the code decides, and an accepted request changes one place of the image.
-use Rattle.numbers.proofs.Basics.{ℕ, ◌≡◌, refl, sym, ap, ◌∙◌, [], get_or, set, take}
+use Rattle.numbers.proofs.Basics.{List, ℕ, ◌≡◌, refl, sym, ap, ◌∙◌, [], get_or, set, take}
+use Rattle.rules.specs.State as rules
 use Rattle.rules.specs.{State.free, Outcome.accept}
 use Rattle.answers.proofs.Laws.{refused_as, accepted, not-refused}
 use Rattle.adapters.specs.Values.{place_of, device_of}
@@ -10,11 +11,9 @@ use Rattle.calls.specs.Inner.{limits_from, image_state}
 use Rattle.calls.proofs.set_place.Goals as goal
 
 -- the place that was looked up is the one at the payload's id
-looked : (c : goal.After-look_up-place) → let a = c.args in
-    get_or (take a.places (places_of a.image.now)) (payload_id a.payload.now) free ≡ place_of c.look_up-place.result
-looked c =
-    let a = c.args in
-    sym (c.look_up-place.ensures.0 ∙ ap (λ (id : ℕ). get_or (take a.places (places_of a.image.now)) id free) c.payload_id-id.ensures)
+looked : (places : ℕ) (image payload : List ℕ) (id : ℕ) (p : rules.Place) → p ≡ get_or (take places (places_of image)) id free → id ≡ payload_id payload
+    → get_or (take places (places_of image)) (payload_id payload) free ≡ p
+looked places image payload id p h e = sym (h ∙ ap (λ (id : ℕ). get_or (take places (places_of image)) id free) e)
 
 pub returns : goal.returns
 returns c =
@@ -23,22 +22,22 @@ returns c =
     let l = k in
     let f = l in
     let a = f.args in
-    let t = c.put.ensures in (
-      λ room ais p d.
+    let t = c.put.ensures in record {
+      by_index = λ room ais p d.
           let s = image_state ais a.places a.image.now p d in
           accepted _ _ _ _ _ 0 _ [] _
-          (k.place_code-code.ensures.0 (limits_from a.places room) s refl (looked l) ∙ decided-accepted _ _ m.if-code-ne0.false
+          (k.place_code-code.ensures.0 (limits_from a.places room) s refl (looked _ _ _ _ _ c.look_up-place.ensures.0 c.payload_id-id.ensures) ∙ decided-accepted _ _ m.if-code-ne0.false
           ∙ (λ i. accept 0 (record { ais = ais; adapters = (sym (t.0 ∙ (λ j. set (take a.places (places_of a.image.now)) (l.payload_id-id.ensures j) (m.place_after-after.ensures.0 j)))) i; pending = p; device = device_of d }) []))
-          c.accept.ensures refl,
-      (t.1, not-refused _ _ c.accept.ensures),
-    )
+          c.accept.ensures refl;
+      held = (t.1, not-refused _ _ c.accept.ensures);
+    }
 
 pub returns-then-code-ne0 : goal.returns-then-code-ne0
 returns-then-code-ne0 c = let k = c in
-    let f = k in (
-      λ room ais p d. refused_as _ _ _ _ _ k.place_code-code.result _ refl (k.place_code-code.ensures.0 _ _ refl (looked k) ∙ decided-refused _ _ c.if-code-ne0.true) c.refuse.ensures,
-      (f.requires.1, λ n. refl),
-    )
+    let f = k in record {
+      by_index = λ room ais p d. refused_as _ _ _ _ _ k.place_code-code.result _ refl (k.place_code-code.ensures.0 _ _ refl (looked _ _ _ _ _ c.look_up-place.ensures.0 c.payload_id-id.ensures) ∙ decided-refused _ _ c.if-code-ne0.true) c.refuse.ensures;
+      held = (f.requires.1, λ n. refl);
+    }
 
 pub place_after-after-requires : goal.place_after-after-requires
 place_after-after-requires c = c.place_code-code.ensures.1 c.if-code-ne0.false

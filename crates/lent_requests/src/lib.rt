@@ -1,5 +1,4 @@
 // Inner crate: the requests about an adapter's place and about the device record, on the lent table and record.
-// Proved by hand.
 #![tactic(auto)]
 
 ghost use Rattle.std.specs.Prelude.{◌≡◌, true, false, get_or, set};

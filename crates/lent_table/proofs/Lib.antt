@@ -1,17 +1,1 @@
-pub mod Walk
-pub mod Places
-pub mod Free
-pub mod Slot
-pub mod Rows
-pub mod Gives
-pub mod Called
-pub mod Locals
-pub mod Count
-pub mod Plain
-pub mod Shell
-pub mod Modes
-pub mod Record
 pub mod Tables
-pub mod Images
-pub mod Calls
-pub mod Ends

@@ -1,5 +1,5 @@
 // Inner crate: the adapter table as a lent slice of places, and the device record behind a reference.
-// Few and thin functions, proved by hand.
+// Few and thin functions.
 #![tactic(auto)]
 
 ghost use Rattle.std.specs.Prelude.{◌≡◌, ◌≤◌, get_or, set, replicate};

@@ -5,11 +5,3 @@ pub mod Represent
 pub mod Runs
 pub mod Pins
 pub mod Safety
-pub mod Walk
-pub mod Ints
-pub mod Fields
-pub mod Opened
-pub mod Four
-pub mod All
-pub mod Calls
-pub mod Frame

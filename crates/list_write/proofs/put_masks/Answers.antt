@@ -8,8 +8,8 @@ use Rattle.list_write.proofs.put_masks.Goals as goal
 pub write_be-requires : goal.write_be-requires
 write_be-requires c = (omega arith, omega (arith, rw c.if-on.true at c.requires))
 
-pub returns-else-on : goal.returns-else-on
-returns-else-on c = unfold choose in let a = c.args in
+pub returns-then-on : goal.returns-then-on
+returns-then-on c = unfold choose in let a = c.args in
     let e = c.wide.ensures in
     let f = c.wide-then-on.ensures in
     rw c.if-on.true

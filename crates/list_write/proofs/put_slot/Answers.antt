@@ -7,8 +7,8 @@ use Rattle.list_write.proofs.put_slot.Goals as goal
 pub put_five-requires : goal.put_five-requires
 put_five-requires c = (omega arith, omega (arith, rw c.if-on.true at c.requires))
 
-pub returns-else-on : goal.returns-else-on
-returns-else-on c = unfold choose in rw c.if-on.true c.put_five.ensures
+pub returns-then-on : goal.returns-then-on
+returns-then-on c = unfold choose in rw c.if-on.true c.put_five.ensures
 
 pub returns-else-on : goal.returns-else-on
 returns-else-on c = unfold choose in rw c.if-on.false (put-none _ _)

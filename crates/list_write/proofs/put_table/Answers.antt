@@ -7,12 +7,9 @@ use Rattle.list_write.proofs.put_table.Goals as goal
 pub returns : goal.returns
 unfolding adapter_entries
 returns c = λ rs simm nimm w.
-    let m = c in
-    let r = m in
-    let s = r in
-    let a = s.args in
-    let k = s.requires.0 in
+    let a = c.args in
+    let k = c.requires.0 in
     let g = table-next a.out.now _ _ 20 (each false a.image.now) (each true a.image.now) a.start a.p.registers (8 * a.p.registers) _ _ (sym k.registers)
-    (registers-size a.image.now a.p k) (omega (arith, s.requires.2)) refl refl r.put_slots.ensures m.put_slots-2.ensures in
+    (registers-size a.image.now a.p k) (omega (arith, c.requires.2)) refl refl c.put_slots.ensures c.put_slots-2.ensures in
     table-next a.out.now _ _ 20 (adapter_entries a.image.now) (other_entries rs a.p.masks simm nimm a.p.apf) a.start _ _ _ _
-    (adapters-count a.image.now a.p k) (adapters-size a.image.now a.p k) (omega (arith, s.requires.2)) (omega arith) (omega arith) g (c.put_others.ensures rs simm nimm w)
+    (adapters-count a.image.now a.p k) (adapters-size a.image.now a.p k) (omega (arith, c.requires.2)) (omega arith) (omega arith) g (c.put_others.ensures rs simm nimm w)

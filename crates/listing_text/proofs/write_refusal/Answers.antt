@@ -1,0 +1,13 @@
+-- A word and a code.
+use borrow.Author.Rules.{rules}
+use Rattle.rules.specs.Listing.{ascii, refusal}
+use Rattle.listing_text.proofs.write_refusal.Goals as goal
+
+pub write_number-requires : goal.write_number-requires
+write_number-requires c = search rules
+
+pub returns : goal.returns
+returns c = search rules
+
+pub returns : goal.returns
+returns c = unfold refusal ascii in c.write_number.ensures.0

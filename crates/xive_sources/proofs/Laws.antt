@@ -1,6 +1,6 @@
 -- Stored numbers and the sources that they stand for.
 use Prim.Native.Nat.{ℕ, zero, suc, ◌+◌, ◌*◌, ◌/◌, ◌%◌, ◌<◌, ◌≤◌}
-use mathlib.Core.Path.{◌≡◌, refl, sym, ap, ◌∙◌, subst}
+use mathlib.Core.Path.{◌≡◌, refl, sym, ap, ◌∙◌}
 use mathlib.Core.Bool.{Bool, true, false}
 use mathlib.Core.Option.{Option, none, some}
 use mathlib.Core.List.{List, [], ◌∷◌}
@@ -12,9 +12,7 @@ use Rattle.rules.specs.Bytes.{choose}
 use Rattle.xive_rules.specs.Words.{bits, kind_in, level_in, priority_in, server_in, mask_in, effective_in}
 use Rattle.xive_rules.specs.Sources.{Source, Sources, initial, targeted, source_at, values_of}
 use Rattle.xive_rules.proofs.Laws.{fields-whole}
-use Rattle.xive_sources.specs.declared.Look.{Look}
-use Rattle.xive_sources.specs.declared.Look.TheVariants.{At, Refused}
-use Rattle.xive_sources.specs.Stored.{word_of, targeting_of, level_of, source_of, sources_of, Lacks, Finds, Looked}
+use Rattle.xive_sources.specs.Stored.{word_of, targeting_of, level_of, source_of, sources_of, Lacks, Finds}
 
 -- a number by its bits 7 and 8
 pub uninitialised : (v : ℕ) → bits 7 1 v ≡ 0 → source_of v ≡ none
@@ -140,14 +138,6 @@ unfolding source_at choose
 there l n h k =
     let is = as-initialised (get_or l n 0) (omega arith) in
     record { known = h; source = _; stored = is; there = rw (lt-ltb n 1024 h) (at-number l n ∙ is) }
-
--- by the cases of a look
-module _ (l : List ℕ) (n : ℕ) {r : Look} (h : Looked l n r) where
-  pub as-refused : {code : ℕ} → r ≡ Refused code → Lacks l n code
-  as-refused e = subst (Looked l n) e h
-
-  pub as-found : {v : ℕ} → r ≡ At v → Finds l n v
-  as-found e = subst (Looked l n) e h
 
 -- what is read of an initialised source
 pub masked-values : (v : ℕ) (x : Source) → source_of v ≡ some x → bits 8 1 v ≡ 0

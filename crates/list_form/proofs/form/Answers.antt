@@ -69,12 +69,6 @@ returns-then-not-offsets c =
     refused-with _ _ 22 (omega arith)
     (λ L s e. past-count L s _ c.if-list-lt20.false total flag few ∙ fails _ _ _ ((rw c.read_be-count.ensures.0 at (sym c.offsets.ensures)) ∙ c.if-not-offsets.true))
 
-pub slots_formed-requires : goal.slots_formed-requires
-slots_formed-requires c =
-    let b = c.args.list.now in
-    let o = (rw c.read_be-count.ensures.0 at (sym c.offsets.ensures)) ∙ c.if-not-offsets.false in
-    (c.if-count-gt-MOST_REQUESTS.false, rw c.read_be-count.ensures.0 (start-is b o).1)
-
 pub returns-then-not-slots_formed : goal.returns-then-not-slots_formed
 returns-then-not-slots_formed c =
     let b = c.args.list.now in

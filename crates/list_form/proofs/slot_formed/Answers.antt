@@ -15,10 +15,6 @@ returns c =
       ← c.read_be-3.ensures.0,
     ) c.is_movable.ensures
 
-pub returns-then-read_be-at : goal.returns-then-read_be-at
-returns-then-read_be-at c = let a = c.args in
-    rw (ne_eqb (slot_at a.place a.list.now).at a.at (λ e. c.if-read_be-at.true (c.read_be.ensures.0 ∙ e)))
-
 pub returns-then-read_be-ne0 : goal.returns-then-read_be-ne0
 returns-then-read_be-ne0 c = let a = c.args in
     let s = slot_at a.place a.list.now in

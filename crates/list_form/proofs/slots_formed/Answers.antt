@@ -1,6 +1,6 @@
 use Rattle.numbers.proofs.Basics.{◌≡◌, sym, ◌∙◌, ◌+◌, ◌*◌, arith, length}
 use Rattle.list_form.specs.Form.{slot_at}
-use Rattle.list_form.proofs.{Laws.inside, Laws.slots-all, Laws.formed-next, Laws.formed-stops, Laws.formed-ends}
+use Rattle.list_form.proofs.{Laws.inside, Laws.formed-next, Laws.formed-stops, Laws.formed-ends}
 use Rattle.list_form.proofs.slots_formed.Goals as goal
 
 pub loop-i-preserved : goal.loop-i-preserved
@@ -15,22 +15,10 @@ loop-i-preserved c =
           (l.invariant.2 ∙ formed-next (length a.list.now) l.at l.i a.count a.list.now c.loop-i-test.true (sym c.slot_formed.ensures ∙ c.if-not-slot_formed.false)),
     )
 
-pub loop-i-init : goal.loop-i-init
-loop-i-init c = (omega arith, omega arith, rw slots-all)
-
-pub slot_formed-requires : goal.slot_formed-requires
-slot_formed-requires c = (omega arith, omega arith)
-
 pub returns-then-not-slot_formed : goal.returns-then-not-slot_formed
 returns-then-not-slot_formed c = let a = c.args in
     let l = c.loop-i in
     sym (l.invariant.2 ∙ formed-stops (length a.list.now) l.at l.i a.count a.list.now c.loop-i-test.true (sym c.slot_formed.ensures ∙ c.if-not-slot_formed.true))
-
-pub read_be-at-requires : goal.read_be-at-requires
-read_be-at-requires c = (omega arith, omega arith)
-
-pub overflow_add-at-in-loop-i : goal.overflow_add-at-in-loop-i
-overflow_add-at-in-loop-i c = omega (arith, c.read_be-at.ensures.1)
 
 pub returns : goal.returns
 returns c = let a = c.args in

@@ -6,18 +6,12 @@ use Rattle.store.specs.Memory.{pending_of}
 use Rattle.listing_text.proofs.{Laws.whole, Laws.too_long, Laws.printed-is}
 use Rattle.listing_text.proofs.print_list.Goals as goal
 
--- what the list that was played prints
-answered : (c : goal.After-play_fresh-played) → let p = c.play_fresh-played in
-    printed c.args.input.now
-    ≡ choose (eqb p.result.code 0) (shown (listing (pending_of p.new.1.0 p.new.1.1.0 p.new.0 p.new.1.1.1.0))) (refusal p.result.code)
-answered c = printed-is _ _ _ c.if-input-gt-MOST_BYTES.false c.play_fresh-played.ensures.answer
-
 pub returns-then-input-gt-MOST_BYTES : goal.returns-then-input-gt-MOST_BYTES
-returns-then-input-gt-MOST_BYTES c = whole _ c.write_refusal.ensures (too_long _ c.if-input-gt-MOST_BYTES.true)
+returns-then-input-gt-MOST_BYTES c = let w = whole _ c.write_refusal.ensures (too_long _ c.if-input-gt-MOST_BYTES.true) in record { text = w.0; fits = w.1 }
 
 pub returns-then-code-ne0 : goal.returns-then-code-ne0
-returns-then-code-ne0 c = whole _ c.write_refusal-then-code-ne0.ensures (answered c ∙ passed _ _ _ (ne_eqb _ 0 c.if-code-ne0.true))
+returns-then-code-ne0 c = let w = whole _ c.write_refusal-then-code-ne0.ensures (printed-is _ _ _ c.if-input-gt-MOST_BYTES.false c.play_fresh-played.ensures.answer ∙ passed _ _ _ (ne_eqb _ 0 c.if-code-ne0.true)) in record { text = w.0; fits = w.1 }
 
 pub returns : goal.returns
 returns c = let d = c in
-    whole _ c.write_pending.ensures (answered d ∙ chosen _ _ _ (eq-eqb _ 0 d.if-code-ne0.false))
+    let w = whole _ c.write_pending.ensures (printed-is _ _ _ c.if-input-gt-MOST_BYTES.false c.play_fresh-played.ensures.answer ∙ chosen _ _ _ (eq-eqb _ 0 d.if-code-ne0.false)) in record { text = w.0; fits = w.1 }

@@ -10,7 +10,7 @@ fn main() {
     println!("cargo:rustc-link-search=native={}", folder.display());
     for name in ["flic", "xive"] {
         let library = folder.join(format!("lib{name}.a"));
-        assert!(library.exists(), "{} is not there: rt staticlib {name}", library.display());
+        assert!(library.exists(), "{} is not there: tools/libraries {name}", library.display());
         println!("cargo:rerun-if-changed={}", library.display());
         println!("cargo:rustc-link-lib=static={name}");
     }

@@ -8,11 +8,11 @@ ghost use Rattle.store.specs.Lent.{HeldAfter};
 ghost use Rattle.list_image.specs.Places.{Imaged};
 
 use adapters::Device;
-use libc::STDOUT_FILENO;
 use numbers::{
     ADAPTER_REGISTER, AIRQ_INJECT, AISM, COUNTS, IDS, ORDER_BYTES, PLACES, ROOM, SINGLES_BYTES,
     SLOT_BYTES,
 };
+use std::io;
 
 // A set request on the controller, with AIS. The result is the device record after it.
 fn set(
@@ -74,7 +74,7 @@ fn make(
     )
 }
 
-fn main() {
+fn main(rt: HostRuntime) -> io::Result<()> {
     let mut slots = [0u8; SLOT_BYTES];
     let mut order = [0u8; ORDER_BYTES];
     let mut counts = [0usize; COUNTS];
@@ -93,6 +93,7 @@ fn main() {
         &slots, &order, &counts, &singles, true, device, &image, &mut list,
     );
     if written.count == 174 {
-        io::write_all(STDOUT_FILENO, &list);
+        rt.write_all(&list)?;
     }
+    Ok(())
 }

@@ -11,7 +11,7 @@ use model::Ask;
 use std::collections::BTreeMap;
 use std::fmt::Write;
 
-const LIBRARY: &str = "Rattle·rules·specs.specs";
+const LIBRARY: &str = "Rattle.rules.specs";
 
 fn main() {
     let args: Vec<String> = std::env::args().skip(1).collect();
@@ -43,16 +43,16 @@ fn main() {
 fn file(scripts: &[Script], names: &[(&str, &str)], mode: &str) -> String {
     let mut out = String::from(
         "use Prim.Native.Nat.{ℕ}\n\
-         use mathlib.Core.Path.{_≡_, refl}\n\
+         use mathlib.Core.Path.{◌≡◌, refl}\n\
          use mathlib.Core.Bool.{Bool, true, false}\n\
-         use mathlib.Core.List.{List, [], _∷_, _++_, flatten, zipWith}\n\
+         use mathlib.Core.List.{List, [], ◌∷◌, ◌++◌, flatten, zip_with}\n\
          use lib.ListN.{replicate}\n",
     );
     let mut modules: BTreeMap<&str, Vec<&str>> = BTreeMap::new();
     modules.insert("Outcome", vec!["Seen"]);
     modules.insert(
         "Machine",
-        vec!["Ask", "setAttr", "getAttr", "guestTake", "writeList", "playList", "Call"],
+        vec!["Ask", "set_attr", "get_attr", "guest_take", "write_list", "play_list", "Call"],
     );
     for (module, name) in names {
         modules.entry(module).or_default().push(name);
@@ -63,12 +63,12 @@ fn file(scripts: &[Script], names: &[(&str, &str)], mode: &str) -> String {
     out.push_str(
         "\n\
          call : Ask → List ℕ → ℕ → Call\n\
-         call ask buffer table = record { ask = ask; buffer = buffer; tableLength = table }\n\
+         call ask buffer table = record { ask = ask; buffer = buffer; table_length = table }\n\
          \n\
          saw : ℕ → ℕ → List ℕ → Seen\n\
          saw code count buffer = record { code = code; count = count; further = 0; buffer = buffer }\n",
     );
-    let mut unfolding = String::from("flatten zipWith call saw");
+    let mut unfolding = String::from("flatten zip_with call saw");
     for (_, name) in names {
         write!(unfolding, " {name}").unwrap();
     }
@@ -107,7 +107,7 @@ fn claim(out: &mut String, name: &str, script: &Script, length: usize, unfolding
     let seen: Vec<String> = script.calls[..length].iter().map(|(_, seen)| saw(seen)).collect();
     write!(
         out,
-        "\n{name} : answers paperLimits (fresh paperLimits {})\n    ({} ∷ [])\n  ≡ ({} ∷ [])\n\
+        "\n{name} : answers paper_limits (fresh paper_limits {})\n    ({} ∷ [])\n  ≡ ({} ∷ [])\n\
          unfolding {unfolding}\n{name} = refl\n",
         script.capable,
         calls.join("\n    ∷ "),
@@ -118,13 +118,13 @@ fn claim(out: &mut String, name: &str, script: &Script, length: usize, unfolding
 
 fn call(call: &Call) -> String {
     let ask = match call.ask {
-        Ask::Set { group, attr } => format!("(setAttr {group} {attr})"),
-        Ask::Get { group, attr } => format!("(getAttr {group} {attr})"),
+        Ask::Set { group, attr } => format!("(set_attr {group} {attr})"),
+        Ask::Get { group, attr } => format!("(get_attr {group} {attr})"),
         Ask::Take { subclasses, external, machine_check } => {
-            format!("(guestTake {subclasses} {external} {machine_check})")
+            format!("(guest_take {subclasses} {external} {machine_check})")
         }
-        Ask::WriteList => "writeList".into(),
-        Ask::PlayList => "playList".into(),
+        Ask::WriteList => "write_list".into(),
+        Ask::PlayList => "play_list".into(),
     };
     format!("call {ask} ({}) {}", bytes(&call.buffer), call.table)
 }

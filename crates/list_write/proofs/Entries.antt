@@ -193,7 +193,7 @@ module _ (o₀ o₁ o₂ : List ℕ) (at id : ℕ) (p : Place) (h : at + 8 ≤ l
   modify-put o₃ g k =
       let f₁ = f ∙ put-paste o₀ at (bytes 4 id) 4 (length-bytes 4 id) in
       let f₂ = put-number o₀ o₁ o₂ at 4 4 16842752 (bytes 4 id) (length-bytes 4 id) (omega arith) f₁ g in
-      put-number o₀ o₂ o₃ at 8 8 0 (bytes 4 id ++ bytes 4 16842752) (simp (length-append, length-bytes)) h f₂ k
+      put-number o₀ o₂ o₃ at 8 8 0 (bytes 4 id ++ bytes 4 16842752) (simp length-append) h f₂ k
 
   pub register-put : o₂ ≡ paste o₁ (at + 4) (bytes 4 (p.isc.0 * 16777216 + (one_if p.maskable * 65536 + one_if p.swap * 256 + one_if p.suppressible))) 4
       → p.isc.0 ≤ 7 → o₂ ≡ put o₀ at (payload_of false id p)

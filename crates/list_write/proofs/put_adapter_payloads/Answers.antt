@@ -1,13 +1,11 @@
-use Rattle.numbers.proofs.Basics.{◌≡◌, refl, sym, ◌∙◌, ◌+◌, ◌-◌, ◌*◌, ◌≤◌, ◌<◌, arith, length, get_or, rules}
-use Rattle.rules.specs.MoveList.{one_if, payloads}
+-- A turn of the loop: whether the place has an entry, and the room that is left behind it.
+use Rattle.numbers.proofs.Basics.{◌≡◌, sym, ◌∙◌, ◌<◌, arith, length, get_or, rules}
+use Rattle.rules.specs.MoveList.{payloads}
 use Rattle.list_image.specs.Image.{unpacked}
 use Rattle.list_image.proofs.Packed.{unpacked-isc}
-use Rattle.list_write.specs.Parts.{is_written, size_of}
-use Rattle.list_write.proofs.{Entries.put-none, Entries.each_from, Entries.each_last, Entries.room-turn, Entries.payloads-turn}
+use Rattle.list_write.specs.Parts.{is_written}
+use Rattle.list_write.proofs.{Entries.put-none, Entries.each_last, Entries.room-turn, Entries.payloads-turn}
 use Rattle.list_write.proofs.put_adapter_payloads.Goals as goal
-
-pub loop-i-init : goal.loop-i-init
-loop-i-init c = (omega arith, refl, c.requires.1, refl)
 
 pub loop-i-preserved : goal.loop-i-preserved
 loop-i-preserved c =

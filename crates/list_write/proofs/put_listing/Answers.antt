@@ -3,6 +3,6 @@ use Rattle.list_write.proofs.{Laws.listing-put}
 use Rattle.list_write.proofs.put_listing.Goals as goal
 
 pub returns : goal.returns
-returns c = let s = c in
-    let w = s.requires.1 in
-    listing-put s.args.out.now _ _ s.args.at _ s.requires.2 w.size (rw w.count at c.list_all.ensures)
+returns c =
+    let w = c.requires.1 in
+    listing-put c.args.out.now _ _ c.args.at _ c.requires.2 w.size (rw w.count at c.list_all.ensures)

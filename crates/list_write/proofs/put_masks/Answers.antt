@@ -1,12 +1,9 @@
 -- `list_write::put_masks` meets its contract, by its test.
-use Rattle.numbers.proofs.Basics.{◌∙◌, ◌+◌, ◌*◌, arith}
+use Rattle.numbers.proofs.Basics.{◌∙◌, ◌+◌, ◌*◌}
 use Rattle.rules.specs.Bytes.{choose, bytes}
 use Rattle.rules.proofs.Codec.{length-bytes}
 use Rattle.list_write.proofs.{Entries.put-none, Entries.put-paste, Laws.two_bytes}
 use Rattle.list_write.proofs.put_masks.Goals as goal
-
-pub write_be-requires : goal.write_be-requires
-write_be-requires c = (omega arith, omega (arith, rw c.if-on.true at c.requires))
 
 pub returns-then-on : goal.returns-then-on
 returns-then-on c = unfold choose in let a = c.args in

@@ -1,5 +1,4 @@
 -- `list_write::put_payload` meets its contract: nothing, a MODIFY or a REGISTER.
-use Rattle.numbers.proofs.Basics.{arith}
 use Rattle.rules.specs.Bytes.{choose}
 use Rattle.list_write.proofs.{Entries.put-none, Entries.payload-room, Entries.modify-put, Entries.register-put}
 use Rattle.list_write.proofs.put_payload.Goals as goal
@@ -7,23 +6,11 @@ use Rattle.list_write.proofs.put_payload.Goals as goal
 pub returns-then-not-on : goal.returns-then-not-on
 returns-then-not-on c = unfold choose in rw c.if-not-on.true (put-none _ _)
 
-pub write_be-requires : goal.write_be-requires
-write_be-requires c = let r = (payload-room _ _ _ _ c.requires.1 c.if-not-on.false).0 in (omega arith, omega arith)
-
-pub write_be-requires-then-modify : goal.write_be-requires-then-modify
-write_be-requires-then-modify c = let r = (payload-room _ _ _ _ c.requires.1 c.if-not-on.false).0 in (omega arith, omega arith)
-
-pub write_be-requires-then-modify-2 : goal.write_be-requires-then-modify-2
-write_be-requires-then-modify-2 c = let r = (payload-room _ _ _ _ c.requires.1 c.if-not-on.false).1 c.if-modify.true in (omega arith, omega arith)
-
 pub returns-then-modify : goal.returns-then-modify
 unfolding choose
 returns-then-modify c =
     rw (c.if-not-on.false, c.if-modify.true)
     (modify-put _ _ _ _ _ _ (payload-room _ _ _ _ c.requires.1 c.if-not-on.false).0 c.write_be.ensures _ c.write_be-then-modify.ensures c.write_be-then-modify-2.ensures)
-
-pub write_be-requires-2 : goal.write_be-requires-2
-write_be-requires-2 c = let r = (payload-room _ _ _ _ c.requires.1 c.if-not-on.false).0 in (omega arith, omega arith)
 
 pub returns : goal.returns
 unfolding choose

@@ -1,11 +1,7 @@
 -- `list_write::put_slot` meets its contract, by its test.
-use Rattle.numbers.proofs.Basics.{arith}
 use Rattle.rules.specs.Bytes.{choose}
 use Rattle.list_write.proofs.{Entries.put-none}
 use Rattle.list_write.proofs.put_slot.Goals as goal
-
-pub put_five-requires : goal.put_five-requires
-put_five-requires c = (omega arith, omega (arith, rw c.if-on.true at c.requires))
 
 pub returns-then-on : goal.returns-then-on
 returns-then-on c = unfold choose in rw c.if-on.true c.put_five.ensures

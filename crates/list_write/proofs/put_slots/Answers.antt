@@ -1,8 +1,9 @@
-use Rattle.numbers.proofs.Basics.{◌≡◌, sym, ◌∙◌, ◌+◌, ◌-◌, ◌*◌, ◌≤◌, List, ℕ, Bool, ◌<◌, arith, length, get_or, rules}
-use Rattle.rules.specs.MoveList.{one_if, written_table}
+-- A turn of the loop: whether the place has an entry, and the room that is left behind it.
+use Rattle.numbers.proofs.Basics.{◌≡◌, sym, ◌∙◌, ◌<◌, arith, length, get_or, rules}
+use Rattle.rules.specs.MoveList.{written_table}
 use Rattle.list_image.specs.Image.{unpacked}
 use Rattle.list_write.specs.Parts.{is_written}
-use Rattle.list_write.proofs.{Entries.put-none, Entries.each_from, Entries.each_last, Entries.room-turn, Entries.slots-turn}
+use Rattle.list_write.proofs.{Entries.put-none, Entries.each_last, Entries.room-turn, Entries.slots-turn}
 use Rattle.list_write.proofs.put_slots.Goals as goal
 
 pub loop-i-preserved : goal.loop-i-preserved

@@ -50,7 +50,7 @@ returns c =
     let t = total-is _ _ _ _ _ a.device _ _ _ _ c.requires.1 c.count.ensures c.count-2.ensures c.pending_whole.ensures _ _ en c.payload_bytes.ensures.0 in
     let w = whole _ _ _ _ _ a.device c.has_masks.result _ _ _ c.requires.1 c.count.ensures c.count-2.ensures c.pending_whole.ensures in
     let g = list_put a.ais _ a.out.now _ _ _ _ _ e t c.if-out-total.false (rw c.flag_of-flag.ensures.0 at c.put_five.ensures)
-        (c.put_table.ensures _ a.device.simm a.device.nimm w) c.put_payloads.ensures in
+    (c.put_table.ensures _ a.device.simm a.device.nimm w) c.put_payloads.ensures in
     record {
       answer = λ L s e1 e2 e3 e4. written L s _ _ _ _ (same_entries _ _ _ _ _ _ _ _ c.has_masks.ensures s e1 e2 e3 e4) t _ a.ais e1 c.if-out-total.false c.accept.ensures g;
       kept = not-refused _ _ c.accept.ensures;

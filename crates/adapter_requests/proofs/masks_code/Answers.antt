@@ -9,10 +9,16 @@ pub returns-then-attr-ne0 : goal.returns-then-attr-ne0
 returns-then-attr-ne0 c = unfold request decided choose in record { code = λ L s e. bad-attr _ c.if-attr-ne0.true; asked = not-accepted (omega arith) }
 
 pub returns-then-not-ais : goal.returns-then-not-ais
-returns-then-not-ais c = unfold request decided choose in record { code = λ L s e. no-ais _ c.if-attr-ne0.false (e ∙ c.if-not-ais.true); asked = not-accepted (omega arith) }
+returns-then-not-ais c = unfold request decided choose in record {
+  code = λ L s e. no-ais _ c.if-attr-ne0.false (e ∙ c.if-not-ais.true);
+  asked = not-accepted (omega arith);
+}
 
 pub returns-then-payload-lt2 : goal.returns-then-payload-lt2
-returns-then-payload-lt2 c = unfold request decided choose in record { code = λ L s e. short-ais _ c.if-attr-ne0.false (e ∙ c.if-not-ais.false) c.if-payload-lt2.true; asked = not-accepted (omega arith) }
+returns-then-payload-lt2 c = unfold request decided choose in record {
+  code = λ L s e. short-ais _ c.if-attr-ne0.false (e ∙ c.if-not-ais.false) c.if-payload-lt2.true;
+  asked = not-accepted (omega arith);
+}
 
 pub returns : goal.returns
 returns c = unfold request decided modes_after choose in record {

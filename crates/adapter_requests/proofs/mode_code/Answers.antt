@@ -27,7 +27,9 @@ unfolding sets_mode decided modes_after choose
 returns c =
     let b = c.args.payload.now in
     let few : field 2 2 b ≤ 1 = omega (arith, c.if-read_be-gt1.false, c.read_be.ensures.0) in record {
-      code = λ L s e. begun _ c.if-attr-ne0.false c.if-not-ais.false c.if-payload-lt4.false L s e ∙ passes _ _ _ (le-leb _ _ c.if-payload-gt7.false) ∙ passes _ _ _ (le-leb (field 2 2 b) 1 few)
+      code = λ L s e. begun _ c.if-attr-ne0.false c.if-not-ais.false c.if-payload-lt4.false L s e
+          ∙ passes _ _ _ (le-leb _ _ c.if-payload-gt7.false)
+          ∙ passes _ _ _ (le-leb (field 2 2 b) 1 few)
           ∙ ap (λ (d : rules.Device). accept 0 (with_device d s) []) (mode-is s.device (byte 0 b) (field 2 2 b) few);
       asked = λ z. record { mode = λ e. (c.if-payload-lt4.false, c.if-payload-gt7.false); masks = λ e. not-accepted {n = 2} (omega arith) (omega (arith, e)) };
     }
@@ -36,10 +38,20 @@ pub returns-then-attr-ne0 : goal.returns-then-attr-ne0
 returns-then-attr-ne0 c = unfold request decided choose in record { code = λ L s e. bad-attr _ c.if-attr-ne0.true; asked = not-accepted (omega arith) }
 
 pub returns-then-not-ais : goal.returns-then-not-ais
-returns-then-not-ais c = unfold request decided choose in record { code = λ L s e. no-ais _ c.if-attr-ne0.false (e ∙ c.if-not-ais.true); asked = not-accepted (omega arith) }
+returns-then-not-ais c = unfold request decided choose in record {
+  code = λ L s e. no-ais _ c.if-attr-ne0.false (e ∙ c.if-not-ais.true);
+  asked = not-accepted (omega arith);
+}
 
 pub returns-then-payload-lt4 : goal.returns-then-payload-lt4
-returns-then-payload-lt4 c = unfold request decided choose in record { code = λ L s e. short-ais _ c.if-attr-ne0.false (e ∙ c.if-not-ais.false) c.if-payload-lt4.true; asked = not-accepted (omega arith) }
+returns-then-payload-lt4 c = unfold request decided choose in record {
+  code = λ L s e. short-ais _ c.if-attr-ne0.false (e ∙ c.if-not-ais.false) c.if-payload-lt4.true;
+  asked = not-accepted (omega arith);
+}
 
 pub returns-then-payload-gt7 : goal.returns-then-payload-gt7
-returns-then-payload-gt7 c = unfold sets_mode decided choose in record { code = λ L s e. begun _ c.if-attr-ne0.false c.if-not-ais.false c.if-payload-lt4.false L s e ∙ fails _ _ _ (lt-leb _ _ c.if-payload-gt7.true); asked = not-accepted (omega arith) }
+returns-then-payload-gt7 c = unfold sets_mode decided choose in record {
+  code = λ L s e. begun _ c.if-attr-ne0.false c.if-not-ais.false c.if-payload-lt4.false L s e
+      ∙ fails _ _ _ (lt-leb _ _ c.if-payload-gt7.true);
+  asked = not-accepted (omega arith);
+}

@@ -52,21 +52,25 @@ returns-then-kind-gt3 c = record {
 pub returns-then-not-place-2 : goal.returns-then-not-place-2
 unfolding decided choose
 returns-then-not-place-2 c = record {
-  code = λ L s e1 e4. begun c.args.place c.args.payload.now (not-false _ c.if-not-place.false) c.if-attr-ne0.false c.if-payload-lt16.false c.read_be.ensures.0 c.if-places-read_be.false L s e1 e4 ∙ passes _ _ _ (typed _ c.if-kind-eq0.false c.if-kind-gt3.false)
+  code = λ L s e1 e4. begun c.args.place c.args.payload.now (not-false _ c.if-not-place.false) c.if-attr-ne0.false c.if-payload-lt16.false c.read_be.ensures.0 c.if-places-read_be.false L s e1 e4
+      ∙ passes _ _ _ (typed _ c.if-kind-eq0.false c.if-kind-gt3.false)
       ∙ fails _ _ _ (rw (eq-eqb (byte 4 c.args.payload.now) 1 c.if-kind-eq1.true) (not-true _ c.if-not-place-2.true));
   asked = not-accepted (omega arith);
 }
 
 pub returns-else-not-place-2 : goal.returns-else-not-place-2
 returns-else-not-place-2 c = record {
-  code = λ L s e1 e4. begun c.args.place c.args.payload.now (not-false _ c.if-not-place.false) c.if-attr-ne0.false c.if-payload-lt16.false c.read_be.ensures.0 c.if-places-read_be.false L s e1 e4 ∙ passes _ _ _ (typed _ c.if-kind-eq0.false c.if-kind-gt3.false)
+  code = λ L s e1 e4. begun c.args.place c.args.payload.now (not-false _ c.if-not-place.false) c.if-attr-ne0.false c.if-payload-lt16.false c.read_be.ensures.0 c.if-places-read_be.false L s e1 e4
+      ∙ passes _ _ _ (typed _ c.if-kind-eq0.false c.if-kind-gt3.false)
       ∙ passes _ _ _ (rw (eq-eqb (byte 4 c.args.payload.now) 1 c.if-kind-eq1.true) (not-false _ c.if-not-place-2.false));
   asked = λ z. asked c.args.payload.now c.args.place c.if-payload-lt16.false (λ e. not-false _ c.if-not-place-2.false);
 }
 
 pub returns-else-kind-eq1 : goal.returns-else-kind-eq1
 returns-else-kind-eq1 c = record {
-  code = λ L s e1 e4. begun c.args.place c.args.payload.now (not-false _ c.if-not-place.false) c.if-attr-ne0.false c.if-payload-lt16.false c.read_be.ensures.0 c.if-places-read_be.false L s e1 e4 ∙ passes _ _ _ (typed _ c.if-kind-eq0.false c.if-kind-gt3.false) ∙ passes _ _ _ (rw (ne_eqb (byte 4 c.args.payload.now) 1 c.if-kind-eq1.false));
+  code = λ L s e1 e4. begun c.args.place c.args.payload.now (not-false _ c.if-not-place.false) c.if-attr-ne0.false c.if-payload-lt16.false c.read_be.ensures.0 c.if-places-read_be.false L s e1 e4
+      ∙ passes _ _ _ (typed _ c.if-kind-eq0.false c.if-kind-gt3.false)
+      ∙ passes _ _ _ (rw (ne_eqb (byte 4 c.args.payload.now) 1 c.if-kind-eq1.false));
   asked = λ z. asked c.args.payload.now c.args.place c.if-payload-lt16.false (λ e. absurd (c.if-kind-eq1.false e));
 }
 
@@ -74,11 +78,21 @@ pub returns-then-attr-ne0 : goal.returns-then-attr-ne0
 returns-then-attr-ne0 c = unfold request decided choose in record { code = λ L s e1 e4. bad-attr _ c.if-attr-ne0.true; asked = not-accepted (omega arith) }
 
 pub returns-then-payload-lt16 : goal.returns-then-payload-lt16
-returns-then-payload-lt16 c = unfold request decided choose in record { code = λ L s e1 e4. short _ c.if-attr-ne0.false c.if-payload-lt16.true; asked = not-accepted (omega arith) }
+returns-then-payload-lt16 c = unfold request decided choose in record {
+  code = λ L s e1 e4. short _ c.if-attr-ne0.false c.if-payload-lt16.true;
+  asked = not-accepted (omega arith);
+}
 
 pub returns-then-places-read_be : goal.returns-then-places-read_be
 returns-then-places-read_be c = unfold request modifies decided choose in
-    record { code = λ L s e1 e4. past-table L c.args.payload.now _ c.if-attr-ne0.false c.if-payload-lt16.false e1 c.read_be.ensures.0 c.if-places-read_be.true; asked = not-accepted (omega arith) }
+    record {
+      code = λ L s e1 e4. past-table L c.args.payload.now _ c.if-attr-ne0.false c.if-payload-lt16.false e1 c.read_be.ensures.0 c.if-places-read_be.true;
+      asked = not-accepted (omega arith);
+    }
 
 pub returns-then-kind-eq0 : goal.returns-then-kind-eq0
-returns-then-kind-eq0 c = unfold decided choose in record { code = λ L s e1 e4. begun c.args.place c.args.payload.now (not-false _ c.if-not-place.false) c.if-attr-ne0.false c.if-payload-lt16.false c.read_be.ensures.0 c.if-places-read_be.false L s e1 e4 ∙ fails _ _ _ (rw c.if-kind-eq0.true); asked = not-accepted (omega arith) }
+returns-then-kind-eq0 c = unfold decided choose in record {
+  code = λ L s e1 e4. begun c.args.place c.args.payload.now (not-false _ c.if-not-place.false) c.if-attr-ne0.false c.if-payload-lt16.false c.read_be.ensures.0 c.if-places-read_be.false L s e1 e4
+      ∙ fails _ _ _ (rw c.if-kind-eq0.true);
+  asked = not-accepted (omega arith);
+}

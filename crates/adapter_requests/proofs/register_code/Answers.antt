@@ -22,22 +22,39 @@ pub returns-then-attr-ne0 : goal.returns-then-attr-ne0
 returns-then-attr-ne0 c = unfold request decided choose in record { code = λ L s e1 e4. bad-attr _ c.if-attr-ne0.true; asked = not-accepted (omega arith) }
 
 pub returns-then-payload-lt8 : goal.returns-then-payload-lt8
-returns-then-payload-lt8 c = unfold request decided choose in record { code = λ L s e1 e4. short _ c.if-attr-ne0.false c.if-payload-lt8.true; asked = not-accepted (omega arith) }
+returns-then-payload-lt8 c = unfold request decided choose in record {
+  code = λ L s e1 e4. short _ c.if-attr-ne0.false c.if-payload-lt8.true;
+  asked = not-accepted (omega arith);
+}
 
 pub returns-then-places-read_be : goal.returns-then-places-read_be
 returns-then-places-read_be c = unfold request registers decided choose in
-    record { code = λ L s e1 e4. past-table L c.args.payload.now _ c.if-attr-ne0.false c.if-payload-lt8.false e1 c.read_be.ensures.0 c.if-places-read_be.true; asked = not-accepted (omega arith) }
+    record {
+      code = λ L s e1 e4. past-table L c.args.payload.now _ c.if-attr-ne0.false c.if-payload-lt8.false e1 c.read_be.ensures.0 c.if-places-read_be.true;
+      asked = not-accepted (omega arith);
+    }
 
 pub returns-then-place : goal.returns-then-place
 returns-then-place c = unfold decided choose in
-    record { code = λ L s e1 e4. begun _ c.args.payload.now c.if-attr-ne0.false c.if-payload-lt8.false c.read_be.ensures.0 c.if-places-read_be.false L s e1 e4 ∙ fails _ _ _ (ap is_free (place-used _ c.if-place.true)); asked = not-accepted (omega arith) }
+    record {
+      code = λ L s e1 e4. begun _ c.args.payload.now c.if-attr-ne0.false c.if-payload-lt8.false c.read_be.ensures.0 c.if-places-read_be.false L s e1 e4
+          ∙ fails _ _ _ (ap is_free (place-used _ c.if-place.true));
+      asked = not-accepted (omega arith);
+    }
 
 pub returns-then-payload-gt7 : goal.returns-then-payload-gt7
 returns-then-payload-gt7 c = unfold decided choose in
-    record { code = λ L s e1 e4. begun _ c.args.payload.now c.if-attr-ne0.false c.if-payload-lt8.false c.read_be.ensures.0 c.if-places-read_be.false L s e1 e4 ∙ passes _ _ _ (ap is_free (place-free _ c.if-place.false)) ∙ fails _ _ _ (lt-leb _ _ c.if-payload-gt7.true); asked = not-accepted (omega arith) }
+    record {
+      code = λ L s e1 e4. begun _ c.args.payload.now c.if-attr-ne0.false c.if-payload-lt8.false c.read_be.ensures.0 c.if-places-read_be.false L s e1 e4
+          ∙ passes _ _ _ (ap is_free (place-free _ c.if-place.false))
+          ∙ fails _ _ _ (lt-leb _ _ c.if-payload-gt7.true);
+      asked = not-accepted (omega arith);
+    }
 
 pub returns : goal.returns
 returns c = unfold decided place_after choose in record {
-  code = λ L s e1 e4. begun _ c.args.payload.now c.if-attr-ne0.false c.if-payload-lt8.false c.read_be.ensures.0 c.if-places-read_be.false L s e1 e4 ∙ passes _ _ _ (ap is_free (place-free _ c.if-place.false)) ∙ passes _ _ _ (le-leb _ _ c.if-payload-gt7.false);
+  code = λ L s e1 e4. begun _ c.args.payload.now c.if-attr-ne0.false c.if-payload-lt8.false c.read_be.ensures.0 c.if-places-read_be.false L s e1 e4
+      ∙ passes _ _ _ (ap is_free (place-free _ c.if-place.false))
+      ∙ passes _ _ _ (le-leb _ _ c.if-payload-gt7.false);
   asked = λ z. record { long = c.if-payload-lt8.false; isc = λ e. c.if-payload-gt7.false; maskable = λ n. absurd (n refl) };
 }

@@ -2,6 +2,7 @@
 use Rattle.numbers.proofs.Basics.{◌≡◌, List, ℕ, ap, sym, ◌∙◌, get_or, set}
 use Rattle.std.proofs.Common.{subst}
 use Rattle.adapters.specs.{declared.Place.Place, Values.unused, Values.place_of, Values.Canonical}
+use Rattle.list_image.specs.Image.{image_size}
 use Rattle.adapter_requests.specs.States.{payload_id, place_after, stored_by, DecidesPlace}
 use Rattle.lent_requests.proofs.Laws.{place-refused, place-accepted}
 use Rattle.lent_requests.proofs.set_place.Goals as goal
@@ -17,7 +18,7 @@ returns-then-code-ne0 c =
     let is = at-payload c.args.t.now b c.look_up-place.ensures c.payload_id-id.ensures in
     rw c.refuse.ensures
     (place-refused c.args.group c.args.attr c.args.t.now b code
-    (subst (λ (p : Place). DecidesPlace c.args.group 64 p c.args.attr b code) is c.place_code-code.ensures.0) c.if-code-ne0.true)
+    (subst (λ (p : Place). DecidesPlace c.args.group image_size p c.args.attr b code) is c.place_code-code.ensures.0) c.if-code-ne0.true)
 
 pub returns : goal.returns
 returns c =
@@ -31,6 +32,6 @@ returns c =
     = c.change_place.ensures ∙ ap (set c.args.t.now c.payload_id-id.result.0) stored ∙ ap (λ (k : ℕ). set c.args.t.now k after) c.payload_id-id.ensures in
     rw (c.accept.ensures, new)
     (place-accepted c.args.group c.args.attr c.args.t.now b code
-    (subst (λ (p : Place). DecidesPlace c.args.group 64 p c.args.attr b code) is c.place_code-code.ensures.0) c.if-code-ne0.false after
+    (subst (λ (p : Place). DecidesPlace c.args.group image_size p c.args.attr b code) is c.place_code-code.ensures.0) c.if-code-ne0.false after
     (subst (λ (p : Place). place_of after ≡ place_after c.args.group b (place_of p)) is c.place_after-after.ensures.0)
     (subst (λ (p : Place). Canonical p → Canonical after) is c.place_after-after.ensures.1))

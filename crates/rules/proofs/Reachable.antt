@@ -18,7 +18,7 @@ use Rattle.rules.specs.Requests.{holding, adapter_at, Request, no_request, get_a
 use Rattle.rules.specs.Take.{Handed, or_else, hand_mchk, hand_service, hand_done, keep, first_allowed, hand_io, handed, hands_out, takes}
 use Rattle.rules.specs.MoveList.{ListRequest, writes, requests_in, table_entries_in, count_in, header_bytes, onward, applies, plays}
 use Rattle.rules.specs.Machine.{Ask, set_attr, get_attr, guest_take, write_list, play_list, Call, outcome, step, after, answer_of}
-use Rattle.rules.proofs.Checks.{left, Comes, need-comes, present-comes, choose-comes}
+use Rattle.rules.proofs.Checks.{Comes, need-comes, present-comes, choose-comes}
 use Rattle.rules.proofs.Decode.{length-move_list}
 use Rattle.rules.specs.Invariant.{All, Maybe, SoundAdapter, SoundPlace, Whole, IsKind, IsIo, IoQueues, SoundPending, Sound}
 use Rattle.rules.proofs.Lists.{all_append, all_set, all-get, all_replicate, flatten-more}

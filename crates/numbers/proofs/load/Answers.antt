@@ -1,4 +1,4 @@
-use Rattle.numbers.proofs.Basics.{◌-◌, arith, length-drop, get_or-drop, rules}
+use Rattle.numbers.proofs.Basics.{arith, length-drop, get_or-drop, rules}
 use Rattle.numbers.proofs.{Laws.paste_more, Laws.paste_all}
 use Rattle.numbers.proofs.load.Goals as goal
 

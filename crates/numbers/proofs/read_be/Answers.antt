@@ -1,4 +1,4 @@
-use Rattle.numbers.proofs.Basics.{◌≡◌, refl, ◌-◌, ◌+◌, ◌*◌, ◌^◌, ◌≤◌, arith}
+use Rattle.numbers.proofs.Basics.{◌≡◌, refl, arith}
 use Rattle.rules.specs.Bytes.{number}
 use Rattle.numbers.proofs.{Laws.read-turn, Laws.read_fits}
 use Rattle.numbers.proofs.read_be.Goals as goal

@@ -1,4 +1,4 @@
-use Rattle.numbers.proofs.Basics.{◌≡◌, refl, ◌-◌, arith, paste-zero, rules}
+use Rattle.numbers.proofs.Basics.{◌≡◌, refl, arith, paste-zero, rules}
 use Rattle.numbers.proofs.{Laws.paste_more}
 use Rattle.numbers.proofs.save.Goals as goal
 

@@ -1,5 +1,7 @@
 -- `adapter_requests::modes_after` meets its contract.
-use Rattle.numbers.proofs.Basics.{ap, sym, ◌∙◌, arith}
+use Rattle.numbers.proofs.Basics.{◌≡◌, ap, sym, ◌∙◌, arith}
+use Rattle.rules.specs.Bytes.{byte}
+use Rattle.rules.specs.State as rules
 use Rattle.adapters.specs.Values.{device_of}
 use Rattle.adapter_requests.proofs.{Laws.after-mode, Laws.after-masks, Laws.after-flag}
 use Rattle.adapter_requests.proofs.modes_after.Goals as goal
@@ -18,8 +20,12 @@ pub masks_in-m-requires : goal.masks_in-m-requires
 masks_in-m-requires c = c.requires.masks c.if-group-eq-AISM_ALL.true
 
 pub returns-then-group-eq-AISM_ALL : goal.returns-then-group-eq-AISM_ALL
-returns-then-group-eq-AISM_ALL c = let m = c.masks_in-m in
-    ap device_of c.masks_set.ensures ∙ rw (m.ensures.0, m.ensures.1) (sym (after-masks _ _ _ c.if-group-eq-AISM.false c.if-group-eq-AISM_ALL.true))
+returns-then-group-eq-AISM_ALL c =
+    let m = c.masks_in-m in
+    let read : ◌≡◌ {A = rules.Device} (record { simm = m.result.simm; nimm = m.result.nimm; apf = c.args.device.apf })
+    (record { simm = byte 0 c.args.payload.now; nimm = byte 1 c.args.payload.now; apf = c.args.device.apf })
+    = λ i. record { simm = m.ensures.0 i; nimm = m.ensures.1 i; apf = c.args.device.apf } in
+    ap device_of c.masks_set.ensures ∙ read ∙ sym (after-masks _ _ _ c.if-group-eq-AISM.false c.if-group-eq-AISM_ALL.true)
 
 pub returns : goal.returns
 returns c = ap device_of c.apf_set.ensures ∙ sym (after-flag _ _ _ c.if-group-eq-AISM.false c.if-group-eq-AISM_ALL.false)

@@ -4,7 +4,11 @@ use Rattle.adapters.specs.Values.{mode_set}
 use Rattle.adapters.proofs.mode_set.Goals as goal
 
 pub returns-then-single : goal.returns-then-single
-returns-then-single c = unfold mode_set choose in rw (c.if-single.true, c.with_bit.ensures, c.without_bit-nimm.ensures)
+unfolding mode_set choose
+returns-then-single c =
+    rw c.if-single.true (λ i. record { simm = c.with_bit.ensures i; nimm = c.without_bit-nimm.ensures i; apf = c.args.d.apf })
 
 pub returns : goal.returns
-returns c = unfold mode_set choose in rw (c.if-single.false, c.without_bit.ensures, c.without_bit-nimm.ensures)
+unfolding mode_set choose
+returns c =
+    rw c.if-single.false (λ i. record { simm = c.without_bit.ensures i; nimm = c.without_bit-nimm.ensures i; apf = c.args.d.apf })

@@ -67,9 +67,6 @@ pub extern "C" fn flic_set(
     if group == CLEAR_IRQS {
         return record_take::clear_irqs(&mut c.order, &mut c.counts, &mut c.singles, attr);
     }
-    if group == CLEAR_IO_IRQ {
-        return record_take::clear_io(&c.slots, &mut c.order, &mut c.counts, attr, payload);
-    }
     if group == AIRQ_INJECT {
         let id = AdapterId(attr);
         let place = lent_table::look_up(t, id);
@@ -93,6 +90,9 @@ pub extern "C" fn flic_set(
     }
     if adapter_requests::on_place(group) {
         return lent_requests::set_place(t, group, attr, payload);
+    }
+    if group == CLEAR_IO_IRQ {
+        return record_take::clear_io(&c.slots, &mut c.order, &mut c.counts, attr, payload);
     }
     lent_requests::set_modes(d, c.ais, group, attr, payload)
 }

@@ -1,4 +1,4 @@
-use Rattle.numbers.proofs.Basics.{refl, sym, ◌∙◌, ◌-◌, arith}
+use Rattle.numbers.proofs.Basics.{refl, sym, ◌∙◌, arith}
 use Rattle.record_add.proofs.{Laws.add-next, Laws.add-ends, Laws.want-next, Laws.records-all}
 use Rattle.record_add.proofs.add_all.Goals as goal
 

@@ -1,5 +1,5 @@
 -- `record_add::answer_to` meets its contract, by the check and the room.
-use Rattle.numbers.proofs.Basics.{sym, arith, le-leb, lt-leb}
+use Rattle.numbers.proofs.Basics.{arith, le-leb, lt-leb}
 use Rattle.rules.specs.Bytes.{choose}
 use Rattle.record_add.specs.Cases.{answer_to}
 use Rattle.record_add.proofs.Laws.{good-few}

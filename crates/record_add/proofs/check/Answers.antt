@@ -1,4 +1,4 @@
-use Rattle.numbers.proofs.Basics.{◌≡◌, sym, ap, ◌∙◌, true, ⊎_elim, ◌+◌, ◌*◌, ◌-◌, ◌≤◌, arith}
+use Rattle.numbers.proofs.Basics.{◌≡◌, sym, ◌∙◌, true, ◌+◌, ◌*◌, ◌≤◌, arith}
 use Rattle.rules.specs.{Bytes.part, State.Record, State.kind, State.subclass, Requests.kind_accepted, Requests.wants}
 use Rattle.record_add.proofs.Laws.{kind-known, kind_for, queue-wants, single-wants, check-next, check-stops, check-ends, records-all}
 use Rattle.record_add.specs.declared.Kind.TheVariants.{Other}

@@ -1,5 +1,5 @@
 -- The checks of the rules, in their order; a refusal comes before anything is added.
-use Rattle.numbers.proofs.Basics.{◌≡◌, refl, sym, ap, ◌∙◌, ⊎_elim, ℕ, ◌+◌, ◌*◌, ◌/◌, ◌≤◌, arith, length, eq-eqb}
+use Rattle.numbers.proofs.Basics.{◌≡◌, refl, sym, ap, ◌∙◌, ℕ, ◌+◌, ◌*◌, ◌/◌, ◌≤◌, arith, length, eq-eqb}
 use Rattle.numbers.proofs.Basics.{ne_eqb, le-leb, lt-leb}
 use Rattle.rules.specs.{State.Pending, State.add_all, State.queued, Requests.enqueue_bytes, Requests.records_in, Requests.all_want, Requests.request}
 use Rattle.rules.proofs.Checks.{fails}
@@ -40,9 +40,12 @@ returns c =
           let eq : queued s.pending ≡ j.queued-queued.result =
           ap (λ (p : Pending). queued p) ep ∙ queued-total _ _ _ _ j.requires.1 ∙ sym j.queued-queued.ensures in
           let ea = j.answer_to-answer.ensures ∙ ap (answer_to (check_from 0 0 (records_in (a.attr / 72) b)) (a.attr / 72) j.queued-queued.result) (sym er) in
-          elim j.if-answer-eq0.branch [ then-answer-eq0 t ↦ enqueue-good L s a.attr b u.if-attr-eq0.false u.if-attr-gt-ENQUEUE_BYTES.false u.if-attr-ne0.false u.if-payload-bytes.false _ eq _ ea _
-          t.if-answer-eq0.true (p ∙ ap add t.added-is ∙ ap (add_all (records_in (a.attr / 72) b)) (sym ep)) | else-answer-eq0 t ↦ enqueue-bad L s a.attr b u.if-attr-eq0.false u.if-attr-gt-ENQUEUE_BYTES.false u.if-attr-ne0.false u.if-payload-bytes.false _ eq _ ea _
-          t.if-answer-eq0.false (p ∙ ap add t.added-is ∙ add_none b _ ∙ sym ep) ],
+          elim j.if-answer-eq0.branch [
+            | then-answer-eq0 t ↦ enqueue-good L s a.attr b u.if-attr-eq0.false u.if-attr-gt-ENQUEUE_BYTES.false u.if-attr-ne0.false u.if-payload-bytes.false _ eq _ ea _
+                t.if-answer-eq0.true (p ∙ ap add t.added-is ∙ ap (add_all (records_in (a.attr / 72) b)) (sym ep))
+            | else-answer-eq0 t ↦ enqueue-bad L s a.attr b u.if-attr-eq0.false u.if-attr-gt-ENQUEUE_BYTES.false u.if-attr-ne0.false u.if-payload-bytes.false _ eq _ ea _
+                t.if-answer-eq0.false (p ∙ ap add t.added-is ∙ add_none b _ ∙ sym ep)
+          ],
       (c.add_all.ensures.held, λ k. c.add_all.ensures.kept (elim j.if-answer-eq0.branch [ then-answer-eq0 t ↦ absurd (k t.if-answer-eq0.true) | else-answer-eq0 t ↦ t.added-is ])),
     )
 
@@ -67,8 +70,10 @@ add_all-requires c =
     let l = c.if-payload-bytes.false in
     let m = c.if-answer-eq0.added in
     let fit : (m * 72 ≤ enqueue_bytes) × (m * 72 ≤ length b) × (total c.args.counts.now + all_want (records_in m b) ≤ slot_count) =
-    elim c.if-answer-eq0.branch [ then-answer-eq0 t ↦
-      let g = answer-good _ _ _ _ _ (told (records_in n b) n q.result c.args.room _ c.answer_to-answer.ensures) t.if-answer-eq0.true in
-      (omega arith, omega (arith, l), omega (arith, q.ensures, c.requires.0, g.2, ap (λ (n : ℕ). all_want (records_in n b)) t.added-is))
-    | else-answer-eq0 t ↦ (omega arith, omega arith, omega (arith, c.requires.1.counted.few, ap (λ (n : ℕ). all_want (records_in n b)) t.added-is)) ] in
+    elim c.if-answer-eq0.branch [
+      | then-answer-eq0 t ↦
+          let g = answer-good _ _ _ _ _ (told (records_in n b) n q.result c.args.room _ c.answer_to-answer.ensures) t.if-answer-eq0.true in
+          (omega arith, omega (arith, l), omega (arith, q.ensures, c.requires.0, g.2, ap (λ (n : ℕ). all_want (records_in n b)) t.added-is))
+      | else-answer-eq0 t ↦ (omega arith, omega arith, omega (arith, c.requires.1.counted.few, ap (λ (n : ℕ). all_want (records_in n b)) t.added-is))
+    ] in
     (fit.0, fit.1, q.ensures, c.requires.1, fit.2)

@@ -1,6 +1,6 @@
 -- The type is tested against the numbers of the rules, in their order.
-use Rattle.numbers.proofs.Basics.{◌≡◌, le-leb, lt-leb, eq-eqb, ne_eqb, rules}
-use Rattle.rules.specs.{Bytes.choose, Bytes.part, State.kind}
+use Rattle.numbers.proofs.Basics.{le-leb, lt-leb, eq-eqb, ne_eqb}
+use Rattle.rules.specs.{Bytes.choose, State.kind}
 use Rattle.rules.specs.State as rules
 use Rattle.record_add.specs.Cases.{as_case}
 use Rattle.record_add.proofs.{Laws.kind-at-is}

@@ -1,5 +1,5 @@
 -- The checks of the rules, in their order; then the first record of the subchannel, or none.
-use Rattle.numbers.proofs.Basics.{refl, ◌∙◌, [], ◌<◌, arith, get_or, le-leb, lt-leb}
+use Rattle.numbers.proofs.Basics.{refl, ◌∙◌, [], arith, le-leb, lt-leb}
 use Rattle.rules.specs.Requests.{request, clears_io}
 use Rattle.rules.proofs.Checks.{passes, fails}
 use Rattle.answers.proofs.Laws.{refused, accepted, not-refused}

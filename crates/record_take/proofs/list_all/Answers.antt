@@ -44,20 +44,24 @@ pub save-requires-then-has_mchk : goal.save-requires-then-has_mchk
 save-requires-then-has_mchk c =
     let w0 = wrote c.args.order.now c.args.counts.now c.args.slots.now c.args.singles.now c.args.out.now c.requires.0 c.requires.1 c.list.new.out c.queued-at.result c.queued-at.ensures (search rules) c.list.ensures in
     let served : Wrote c.args.out.now c.if-has_service.out (flatten (queues c.args.order.now c.args.counts.now c.args.slots.now) ++ single (service_of c.args.singles.now)) c.if-has_service.at =
-    elim c.if-has_service.branch [ then-has_service w ↦
-      let e = service-there _ _ _ c.has_service.ensures w.if-has_service.true w.read_service.ensures in
-      rw (w.out-is, w.at-is, w.save.ensures) (one_more _ _ _ _ w0 _ _ e (search rules) (service-room c.args.order.now c.args.counts.now c.args.slots.now c.args.singles.now c.args.out.now c.requires.0 c.requires.1 _ _ w0 _ e))
-    | else-has_service w ↦ rw (w.out-is, w.at-is) (none_more _ _ _ _ w0 _ (service-absent _ _ c.has_service.ensures w.if-has_service.false)) ] in
+    elim c.if-has_service.branch [
+      | then-has_service w ↦
+          let e = service-there _ _ _ c.has_service.ensures w.if-has_service.true w.read_service.ensures in
+          rw (w.out-is, w.at-is, w.save.ensures) (one_more _ _ _ _ w0 _ _ e (search rules) (service-room c.args.order.now c.args.counts.now c.args.slots.now c.args.singles.now c.args.out.now c.requires.0 c.requires.1 _ _ w0 _ e))
+      | else-has_service w ↦ rw (w.out-is, w.at-is) (none_more _ _ _ _ w0 _ (service-absent _ _ c.has_service.ensures w.if-has_service.false))
+    ] in
     omega (arith, mchk-room c.args.order.now c.args.counts.now c.args.slots.now c.args.singles.now c.args.out.now c.requires.0 c.requires.1 _ _ served _ (mchk-there _ _ _ c.has_mchk.ensures c.if-has_mchk.true c.read_mchk.ensures), served.long)
 
 pub returns-then-has_mchk : goal.returns-then-has_mchk
 returns-then-has_mchk c =
     let w0 = wrote c.args.order.now c.args.counts.now c.args.slots.now c.args.singles.now c.args.out.now c.requires.0 c.requires.1 c.list.new.out c.queued-at.result c.queued-at.ensures (search rules) c.list.ensures in
     let served : Wrote c.args.out.now c.if-has_service.out (flatten (queues c.args.order.now c.args.counts.now c.args.slots.now) ++ single (service_of c.args.singles.now)) c.if-has_service.at =
-    elim c.if-has_service.branch [ then-has_service w ↦
-      let e = service-there _ _ _ c.has_service.ensures w.if-has_service.true w.read_service.ensures in
-      rw (w.out-is, w.at-is, w.save.ensures) (one_more _ _ _ _ w0 _ _ e (search rules) (service-room c.args.order.now c.args.counts.now c.args.slots.now c.args.singles.now c.args.out.now c.requires.0 c.requires.1 _ _ w0 _ e))
-    | else-has_service w ↦ rw (w.out-is, w.at-is) (none_more _ _ _ _ w0 _ (service-absent _ _ c.has_service.ensures w.if-has_service.false)) ] in
+    elim c.if-has_service.branch [
+      | then-has_service w ↦
+          let e = service-there _ _ _ c.has_service.ensures w.if-has_service.true w.read_service.ensures in
+          rw (w.out-is, w.at-is, w.save.ensures) (one_more _ _ _ _ w0 _ _ e (search rules) (service-room c.args.order.now c.args.counts.now c.args.slots.now c.args.singles.now c.args.out.now c.requires.0 c.requires.1 _ _ w0 _ e))
+      | else-has_service w ↦ rw (w.out-is, w.at-is) (none_more _ _ _ _ w0 _ (service-absent _ _ c.has_service.ensures w.if-has_service.false))
+    ] in
     let e = mchk-there _ _ _ c.has_mchk.ensures c.if-has_mchk.true c.read_mchk.ensures in
     c.save-then-has_mchk.ensures ∙ wrote-all _ _ _ _ _ _ _ c.requires.0 (one_more _ _ _ _ served _ _ e (search rules) (mchk-room c.args.order.now c.args.counts.now c.args.slots.now c.args.singles.now c.args.out.now c.requires.0 c.requires.1 _ _ served _ e))
 
@@ -65,8 +69,10 @@ pub returns-else-has_mchk : goal.returns-else-has_mchk
 returns-else-has_mchk c =
     let w0 = wrote c.args.order.now c.args.counts.now c.args.slots.now c.args.singles.now c.args.out.now c.requires.0 c.requires.1 c.list.new.out c.queued-at.result c.queued-at.ensures (search rules) c.list.ensures in
     let served : Wrote c.args.out.now c.if-has_service.out (flatten (queues c.args.order.now c.args.counts.now c.args.slots.now) ++ single (service_of c.args.singles.now)) c.if-has_service.at =
-    elim c.if-has_service.branch [ then-has_service w ↦
-      let e = service-there _ _ _ c.has_service.ensures w.if-has_service.true w.read_service.ensures in
-      rw (w.out-is, w.at-is, w.save.ensures) (one_more _ _ _ _ w0 _ _ e (search rules) (service-room c.args.order.now c.args.counts.now c.args.slots.now c.args.singles.now c.args.out.now c.requires.0 c.requires.1 _ _ w0 _ e))
-    | else-has_service w ↦ rw (w.out-is, w.at-is) (none_more _ _ _ _ w0 _ (service-absent _ _ c.has_service.ensures w.if-has_service.false)) ] in
+    elim c.if-has_service.branch [
+      | then-has_service w ↦
+          let e = service-there _ _ _ c.has_service.ensures w.if-has_service.true w.read_service.ensures in
+          rw (w.out-is, w.at-is, w.save.ensures) (one_more _ _ _ _ w0 _ _ e (search rules) (service-room c.args.order.now c.args.counts.now c.args.slots.now c.args.singles.now c.args.out.now c.requires.0 c.requires.1 _ _ w0 _ e))
+      | else-has_service w ↦ rw (w.out-is, w.at-is) (none_more _ _ _ _ w0 _ (service-absent _ _ c.has_service.ensures w.if-has_service.false))
+    ] in
     wrote-all _ _ _ _ _ _ _ c.requires.0 (none_more _ _ _ _ served _ (mchk-absent _ _ c.has_mchk.ensures c.if-has_mchk.false))

@@ -1,6 +1,5 @@
 -- A finished page fault where one is there and allowed, else what the search finds.
-use Rattle.numbers.proofs.Basics.{◌≡◌, List, ℕ, refl, ap, false, ◌⊎◌, inl, inr, ⊎_elim, ◌<◌, arith, get_or, bit_and, ltb-true}
-use Rattle.numbers.proofs.Basics.{ltb-false}
+use Rattle.numbers.proofs.Basics.{◌≡◌, List, ℕ, refl, ap, false, ◌⊎◌, inl, inr, ◌<◌, arith, get_or, bit_and}
 use Rattle.numbers.specs.declared.Queue.{Queue}
 use Rattle.record_take.specs.declared.Next.TheVariants.{At}
 use Rattle.record_take.proofs.{Laws.next-done, Laws.no-done, Laws.next-none, Laws.next-io}

@@ -1,8 +1,7 @@
 -- Machine check, service record, then the next of the queues; each is handed out and then removed.
-use Rattle.numbers.proofs.Basics.{◌≡◌, refl, ⊎_elim, ◌<◌, length, get_or, lt-leb, rules}
+use Rattle.numbers.proofs.Basics.{◌≡◌, refl, length, lt-leb, rules}
 use Rattle.rules.specs.Take.{takes}
 use Rattle.rules.proofs.Checks.{fails, passed}
-use Rattle.store_queues.specs.Queues.{Held}
 use Rattle.store.specs.Memory.{pending_of}
 use Rattle.answers.proofs.Laws.{refused, not-refused}
 use Rattle.record_take.proofs.Laws.{service-there, service-absent, mchk-there, mchk-absent, NoMchk, NoService, no-mchk, no-service, hands-mchk, hands-service, hands-nothing, hands-queued, hands, hands_none}

@@ -1,4 +1,4 @@
-use Rattle.numbers.proofs.Basics.{◌≡◌, refl, ◌∙◌, ◌-◌, ◌*◌, zero-add, arith, paste-zero}
+use Rattle.numbers.proofs.Basics.{◌≡◌, refl, ◌∙◌, ◌*◌, zero-add, arith, paste-zero}
 use Rattle.numbers.proofs.Laws.{paste_more}
 use Rattle.store_queues.specs.{Slots.slot_count, Queues.up_from}
 use Rattle.store_queues.proofs.{Laws.length_up, Laws.up_at}

@@ -1,4 +1,4 @@
-use Rattle.numbers.proofs.Basics.{◌≡◌, flatten, ◌+◌, ◌-◌, ◌*◌, ◌≤◌, arith, length, get_or, rules}
+use Rattle.numbers.proofs.Basics.{◌≡◌, flatten, arith, rules}
 use Rattle.store_queues.specs.Queues.{sum}
 use Rattle.store_queues.proofs.{Laws.count_fits, Laws.queue-fits, Laws.queues-turn, Laws.list-leaves}
 use Rattle.store_queues.proofs.list.Goals as goal

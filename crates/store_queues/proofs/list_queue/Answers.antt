@@ -1,4 +1,4 @@
-use Rattle.numbers.proofs.Basics.{◌≡◌, refl, sym, ◌∙◌, [], flatten, ◌-◌, arith, length, get_or}
+use Rattle.numbers.proofs.Basics.{◌≡◌, refl, sym, ◌∙◌, [], flatten, arith, length, get_or}
 use Rattle.numbers.proofs.Basics.{paste-zero, take_all, rules}
 use Rattle.store_queues.specs.Queues.{row, listed}
 use Rattle.store_queues.proofs.{Laws.length-named, Laws.named-at, Laws.list-turn}

@@ -1,10 +1,10 @@
-use Rattle.numbers.proofs.Basics.{◌≡◌, List, ℕ, refl, sym, ap, ◌∙◌, Bool, true, false, ⊎_elim, [], ◌+◌, ◌*◌, ◌-◌, ◌≤◌, ◌<◌, arith}
-use Rattle.numbers.proofs.Basics.{length, take, drop, get_or, ltb-true, ltb-false}
+use Rattle.numbers.proofs.Basics.{◌≡◌, List, ℕ, refl, sym, ap, ◌∙◌, Bool, true, false, [], ◌+◌, ◌*◌, ◌≤◌, ◌<◌, arith}
+use Rattle.numbers.proofs.Basics.{length, get_or, ltb-true}
 use Rattle.rules.specs.Bytes.{choose}
 use Rattle.store_queues.specs.{Slots.slot_count, Queues.queues, Queues.Held, Slots.slot}
 use Rattle.store_queues.proofs.Laws.{count_fits, length-queues, length-queue, queue-record}
-use Rattle.store_search.specs.{declared.Found.TheVariants.At, Search.wanted, Search.is_for_word, Search.search_queue, Search.search_queues}
-use Rattle.store_search.proofs.{Laws.later, Laws.search-over, Laws.search-queue, Laws.search-end, Laws.search-record, Laws.cleared, Laws.handed_out}
+use Rattle.store_search.specs.{Search.wanted, Search.is_for_word}
+use Rattle.store_search.proofs.{Laws.search-over, Laws.search-queue, Laws.search-end, Laws.search-record, Laws.cleared, Laws.handed_out}
 use Rattle.numbers.specs.declared.Queue.{Queue}
 use Rattle.store_search.proofs.find.Goals as goal
 use Rattle.store_search.proofs.find.Goals.{then-loop-q-test+else-k-n, else-loop-q-test, then-any-via-then-any, then-any-via-else-any+then-is_for}
@@ -56,8 +56,9 @@ search-preserved c =
       omega arith,
       l.loop-q.invariant.1,
       l.loop-q.invariant.2 ∙ elim c.loop-q-test.branch [
-        then-loop-q-test+else-k-n w ↦ rw w.loop-q-test.true (search-end (queues a.o.now a.c.now a.b.now) _ _ _ l.loop-q.k (omega (arith, z.0)))
-      | else-loop-q-test w ↦ rw w.loop-q-test.false refl ],
+        | then-loop-q-test+else-k-n w ↦ rw w.loop-q-test.true (search-end (queues a.o.now a.c.now a.b.now) _ _ _ l.loop-q.k (omega (arith, z.0)))
+        | else-loop-q-test w ↦ rw w.loop-q-test.false refl
+      ],
     )
 
 pub returns-after-search : goal.returns-after-search

@@ -1,4 +1,4 @@
-use Rattle.numbers.proofs.Basics.{◌≡◌, refl, ◌-◌, arith, length-set, paste-zero}
+use Rattle.numbers.proofs.Basics.{◌≡◌, refl, arith, length-set, paste-zero}
 use Rattle.store_singles.proofs.{Laws.ors, Laws.merge-turn, Laws.merge-all}
 use Rattle.store_singles.proofs.merge.Goals as goal
 

@@ -164,13 +164,13 @@ module _ (attr : ℕ) (c : Controller) (slots order counts : List ℕ) (d : Devi
   pub inject-promises : Requested (set_attr 10 attr) c injected d noted t t b (saw r b)
   inject-promises = promises (set_attr 10 attr) b (saw r b) h inject-steps f.1.0 h.places (λ n. let k = f.1.1 n in (same-arrays c k.0 k.1 k.2 refl, f.0.unnoted n, refl, refl))
 
--- about an adapter's place, and about the device record: nothing else changes
   -- the same for a group that is 10, and a device record that is the noted one
   pub noted-promises : (group : ℕ) → group ≡ 10 → (m : Device) → noted ≡ m → Requested (set_attr group attr) c injected d m t t b (saw r b)
   noted-promises group g m n =
       subst (λ (x : Device). Requested (set_attr group attr) c injected d x t t b (saw r b)) n
       (subst (λ (g : ℕ). Requested (set_attr g attr) c injected d noted t t b (saw r b)) (sym g) inject-promises)
 
+-- about an adapter's place, and about the device record: nothing else changes
 module _ (group attr : ℕ) (c : Controller) (d : Device) (t : List Place) (b : List ℕ) (r : Answer) (e : length t ≡ (limits_of c).places) (h : Valid c d t) where
   place-steps : (t' : List Place) → PlaceSet group attr t t' b r → Steps (set_attr group attr) c c d d t t' b (saw r b)
   unfolding state_of

@@ -1,9 +1,8 @@
 -- `calls::answer_inject` meets its contract: the four cases of an injection, and an id past the last place.
-use Rattle.numbers.proofs.Basics.{Bool, ℕ, ◌<◌, ◌≡◌, refl, ap, sym, ◌∙◌, List, [], arith, leb, leb-true, leb-false}
-use Rattle.rules.specs.{Requests.adapter_interrupt, State.State, State.Pending, State.queued, State.add_io, State.with_pending, State.with_device, Outcome.accept}
+use Rattle.numbers.proofs.Basics.{Bool, ℕ, ◌<◌, ◌≡◌, refl, ap, sym, ◌∙◌, [], arith, leb, leb-true, leb-false}
+use Rattle.rules.specs.{Requests.adapter_interrupt, State.State, State.queued, State.add_io, State.with_pending, State.with_device, Outcome.accept}
 use Rattle.record_add.proofs.Laws.{queued-total}
 use Rattle.store.specs.Memory.{pending_of}
-use Rattle.store_queues.specs.Queues.{total}
 use Rattle.adapters.specs.{declared.Injection.Injection, declared.Device.Device, declared.Place.Place, Values.injection_of, Values.injected_device, Values.device_of}
 use Rattle.numbers.specs.declared.Subclass.{Subclass}
 use Rattle.answers.proofs.Laws.{refused_as, accepted, not-refused}

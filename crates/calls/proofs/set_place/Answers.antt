@@ -3,7 +3,7 @@ use Rattle.numbers.proofs.Basics.{List, ℕ, ◌≡◌, refl, sym, ap, ◌∙◌
 use Rattle.rules.specs.State as rules
 use Rattle.rules.specs.{State.free, Outcome.accept}
 use Rattle.answers.proofs.Laws.{refused_as, accepted, not-refused}
-use Rattle.adapters.specs.Values.{place_of, device_of}
+use Rattle.adapters.specs.Values.{device_of}
 use Rattle.adapter_requests.specs.States.{payload_id}
 use Rattle.adapter_requests.proofs.Laws.{decided-refused, decided-accepted}
 use Rattle.list_image.specs.Places.{places_of}

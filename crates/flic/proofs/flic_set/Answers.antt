@@ -1,13 +1,10 @@
 -- The table's length is looked at first; then each class of requests does what the machine does.
-use Rattle.numbers.proofs.Basics.{◌≡◌, refl, ◌∙◌, sym, subst, ℕ, get_or, arith, eqb, eq-eqb, ne_eqb}
+use Rattle.numbers.proofs.Basics.{refl, ◌∙◌, sym, get_or, arith, eqb, eq-eqb, ne_eqb}
 use Rattle.rules.specs.Machine.{set_attr}
 use Rattle.rules.proofs.{Checks.chosen, Checks.passed, Lists.all-get}
-use Rattle.answers.specs.Answers.{saw}
-use Rattle.adapters.specs.{declared.Device.Device, Values.Canonical, Values.unused, Values.injected_device}
+use Rattle.adapters.specs.{Values.Canonical, Values.unused, Values.injected_device}
 use Rattle.adapters.proofs.Laws.{canonical-unused}
-use Rattle.calls.specs.Inner.{noted_in}
 use Rattle.calls.proofs.Limits.{right-length, wrong-length}
-use Rattle.flic.specs.Surface.{Requested}
 use Rattle.flic.proofs.Promises.{enqueued, cleared, cleared-io, of-group, wrong-promises, record-promises, noted-promises, place-promises, modes-promises}
 use Rattle.flic.proofs.flic_set.Goals as goal
 

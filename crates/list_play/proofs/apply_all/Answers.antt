@@ -1,4 +1,4 @@
-use Rattle.numbers.proofs.Basics.{◌-◌, ◌≡◌, sym, ◌∙◌, arith}
+use Rattle.numbers.proofs.Basics.{◌≡◌, sym, ◌∙◌, arith}
 use Rattle.list_form.proofs.Laws.{slots-all}
 use Rattle.list_play.proofs.{Laws.applies-next, Laws.applies-stops, Laws.applies-ends, Laws.ran-all, Laws.ran-part}
 use Rattle.list_play.proofs.apply_all.Goals as goal

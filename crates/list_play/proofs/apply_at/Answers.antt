@@ -1,5 +1,5 @@
 -- `list_play::apply_at` meets its contract: the numbers read are the table entry's, and its payload lies within the list.
-use Rattle.numbers.proofs.Basics.{List, ℕ, ◌+◌, ◌*◌, ◌≤◌, ◌≡◌, sym, ap, ◌∙◌, arith, length, true≢false}
+use Rattle.numbers.proofs.Basics.{List, ℕ, ◌+◌, ◌*◌, ◌≡◌, sym, ap, ◌∙◌, arith, true≢false}
 use Rattle.rules.specs.Bytes.{field}
 use Rattle.rules.specs.MoveList.{movable}
 use Rattle.list_form.specs.Form.{slot_at}

@@ -1,9 +1,7 @@
 -- `list_play::play_list` meets its contract: a refusal of form, a list refused part-way, and one that is played.
-use Rattle.numbers.proofs.Basics.{ℕ, ◌≡◌, refl, arith, replicate, true≢false}
-use Rattle.rules.specs.{State.Limits, State.State, State.fresh, Outcome.refuse_with, MoveList.plays, MoveList.applies, MoveList.requests_in}
+use Rattle.numbers.proofs.Basics.{refl, arith, replicate, true≢false}
 use Rattle.list_image.specs.Image.{image_size}
 use Rattle.list_image.proofs.Laws.{canonical-zeros, imaged-zeros, canonical-take}
-use Rattle.list_form.specs.Form.{slots_of}
 use Rattle.list_play.proofs.{Laws.not-refused, Laws.fresh-is, Laws.not-played, Laws.played-all, Laws.played-part}
 use Rattle.list_play.proofs.play_list.Goals as goal
 

@@ -1,6 +1,6 @@
 -- Laws of text that is written piece by piece, and of digits.
 use Rattle.numbers.proofs.Basics.{◌≡◌, refl, sym, ap, ◌∙◌, Bool, true, false, List, [], ◌∷◌, ◌++◌, flatten}
-use Rattle.numbers.proofs.Basics.{append_assoc, append-nil, ℕ, zero, suc, ◌+◌, ◌-◌, ◌*◌, ◌/◌, ◌^◌, ◌≤◌, ◌<◌, zero-add}
+use Rattle.numbers.proofs.Basics.{append_assoc, append-nil, ℕ, zero, suc, ◌+◌, ◌*◌, ◌/◌, ◌^◌, ◌≤◌, ◌<◌, zero-add}
 use Rattle.numbers.proofs.Basics.{add-zero, add_assoc, pow-suc, div-lt_iff_lt-mul, add-one, arith, length, take, drop}
 use Rattle.numbers.proofs.{Basics.length-append, Basics.take_all, Basics.take_at, Basics.drop_at, Basics.take-paste, Basics.drop-paste, Basics.drop-drop, Basics.length-paste, Basics.ltb, Basics.lt-ltb, Basics.le-ltb, Laws.field-part}
 use Rattle.rules.specs.{Bytes.choose, Bytes.part, Bytes.field, State.Record, State.Kind, State.kind, State.subclass, State.interruption_word, Requests.records_in, Invariant.All, Invariant.Whole}

@@ -1,4 +1,4 @@
-use Rattle.numbers.proofs.Basics.{◌≡◌, refl, ◌-◌, arith, length, paste-zero, rules}
+use Rattle.numbers.proofs.Basics.{◌≡◌, refl, arith, length, paste-zero, rules}
 use Rattle.numbers.proofs.Laws.{paste_more}
 use Rattle.listing_text.proofs.append.Goals as goal
 

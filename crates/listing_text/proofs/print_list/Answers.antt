@@ -1,8 +1,6 @@
 -- What comes of the list decides the text.
-use Rattle.numbers.proofs.Basics.{◌≡◌, ◌∙◌, eqb, eq-eqb, ne_eqb}
-use Rattle.rules.specs.{Bytes.choose, State.listing, Listing.shown, Listing.refusal, Listing.printed}
+use Rattle.numbers.proofs.Basics.{◌∙◌, eq-eqb, ne_eqb}
 use Rattle.rules.proofs.Checks.{chosen, passed}
-use Rattle.store.specs.Memory.{pending_of}
 use Rattle.listing_text.proofs.{Laws.whole, Laws.too_long, Laws.printed-is}
 use Rattle.listing_text.proofs.print_list.Goals as goal
 

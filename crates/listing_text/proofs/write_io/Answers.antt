@@ -1,6 +1,6 @@
 -- Kind, subclass, type and word, one after the other.
-use Rattle.numbers.proofs.Basics.{◌≡◌, arith}
-use Rattle.rules.specs.Listing.{ascii, digit_count}
+use Rattle.numbers.proofs.Basics.{arith}
+use Rattle.rules.specs.Listing.{ascii}
 use Rattle.listing_text.proofs.{Text.wrote_then, Text.io-text, Text.size-one}
 use Rattle.listing_text.proofs.write_io.Goals as goal
 

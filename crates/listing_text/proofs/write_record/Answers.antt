@@ -1,10 +1,8 @@
 -- The place, then what its kind shows.
-use Rattle.numbers.proofs.Basics.{◌≡◌, refl, List, [], ◌∷◌, ℕ, arith}
-use Rattle.rules.specs.{Bytes.part, Bytes.field, Listing.ascii, Listing.decimal, Listing.hex8, Listing.line, Listing.name, Listing.of_io, Listing.record_line}
-use Rattle.record_add.specs.declared.{Kind.TheVariants.Done, Kind.TheVariants.Service, Kind.TheVariants.MachineCheck, Kind.TheVariants.Other, Kind.Kind}
-use Rattle.record_add.specs.Cases.{kind_case}
-use Rattle.record_add.proofs.Laws.{io-told, kind_for}
-use Rattle.listing_text.specs.Wrote.{Wrote}
+use Rattle.numbers.proofs.Basics.{refl, arith}
+use Rattle.rules.specs.{Bytes.part, Listing.ascii, Listing.name, Listing.of_io}
+use Rattle.record_add.specs.declared.{Kind.TheVariants.Done, Kind.TheVariants.Service, Kind.TheVariants.MachineCheck, Kind.TheVariants.Other}
+use Rattle.record_add.proofs.Laws.{io-told}
 use Rattle.listing_text.proofs.{Text.wrote_then, Text.io-line, Text.other-line}
 use Rattle.listing_text.proofs.write_record.Goals as goal
 

@@ -1,4 +1,4 @@
-use Rattle.numbers.proofs.Basics.{◌≡◌, refl, ◌∙◌, [], ◌-◌, arith, paste-zero}
+use Rattle.numbers.proofs.Basics.{◌≡◌, refl, ◌∙◌, [], arith, paste-zero}
 use Rattle.rules.specs.{Requests.records_in, Listing.lines_from}
 use Rattle.listing_text.proofs.{Text.wrote_then, Text.wrote-long, Text.lines_next, Text.size-most}
 use Rattle.listing_text.proofs.write_records.Goals as goal

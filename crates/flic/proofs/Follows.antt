@@ -34,14 +34,14 @@ tabled (guest_take subclasses external mcheck) c c' d d' t t' b b' k = k
 tabled write_list c c' d d' t t' b b' k = tt
 tabled play_list c c' d d' t t' b b' k = tt
 
-module _ (h : Host) (g : Good h) (ask : Ask) (Lent-one : Tabled ask) (b : List ℕ) (c' : Controller) (d' : Device) (t t' : List Place) (x : Seen)
+module _ (h : Host) (g : Good h) (ask : Ask) (lent-one : Tabled ask) (b : List ℕ) (c' : Controller) (d' : Device) (t t' : List Place) (x : Seen)
     (f : Requested ask h.ctl c' h.dev d' t t' b x) where
   abbrev L : Limits
   L = limits_of h.ctl
 
   refused-step : (s : State) → (length t ≡ L.places → ⊥) → step L s (asked ask b (length t)) ≡ tell 14 0 s b
   unfolding step result
-  refused-step s w = ap (answer_of L s b) (refused-table L s ask (length t) b Lent-one w)
+  refused-step s w = ap (answer_of L s b) (refused-table L s ask (length t) b lent-one w)
 
   pub requested : (u : List Place) → Lends L h.tab t t' u → Stepped h (asked ask b (length t)) x (record { ctl = c'; dev = d'; tab = u })
   requested u (its_own e) =
@@ -52,7 +52,7 @@ module _ (h : Host) (g : Good h) (ask : Ask) (Lent-one : Tabled ask) (b : List �
       }
   requested u (another w) =
       let a = sym f.steps ∙ refused-step (state_of h.ctl h.dev t) w in
-      let k = f.kept 14 0 (refused-table L (state_of h.ctl h.dev t) ask (length t) b Lent-one w) in
+      let k = f.kept 14 0 (refused-table L (state_of h.ctl h.dev t) ask (length t) b lent-one w) in
       record {
         steps = refused-step (host_state h) w ∙ (λ i. answering (seen ((sym a) i)) (state_of ((sym k.0) i) ((sym k.1) i) h.tab));
         good = subst (λ (y : Host). Good y) (λ i. record { ctl = (sym k.0) i; dev = (sym k.1) i; tab = h.tab }) g;

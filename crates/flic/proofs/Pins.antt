@@ -32,9 +32,9 @@ module _ {M : Type 1} {𝓤 : Ura M} (𝓛 : Logic 𝓤) (mem : Memory → SProp
       (λ κs (c, (d, (t, (ais, _)))) r (c', (d', (t', _))). Made paper_limits ais c.now c'.now d.now d'.now t.now t'.now r)
   make-is = refl
 
-  set_is : flic-set.clauses 𝓛 mem run ≡ Plain 𝓤 flic-set.ended (λ κs (c, (d, (t, _))). fact 𝓤 (Premise c.now d.now t.now))
+  set-is : flic-set.clauses 𝓛 mem run ≡ Plain 𝓤 flic-set.ended (λ κs (c, (d, (t, _))). fact 𝓤 (Premise c.now d.now t.now))
       (λ κs (c, (d, (t, (group, (attr, (b, _)))))) r (c', (d', (t', _))). Requested (set_attr group attr) c.now c'.now d.now d'.now t.now t'.now b.now (saw r b.now))
-  set_is = refl
+  set-is = refl
 
   get-is : flic-get.clauses 𝓛 mem run ≡ Plain 𝓤 flic-get.ended (λ κs (c, (d, (t, _))). fact 𝓤 (Premise c.now d.now t.now))
       (λ κs (c, (d, (t, (group, (attr, (b, _)))))) r (_, (_, (_, (_, (_, (b', _)))))). Requested (get_attr group attr) c.now c.now d.now d.now t.now t.now b.now (saw r b'.now))

@@ -62,7 +62,8 @@ pub record SafePlay (c c' : Controller) (d d' : Device) (t t' : List Place) (b :
       → (r ≡ answered code 0) × (c' ≡ c) × (d' ≡ d) × (t' ≡ t)
   -- a list refused part-way: the refused request's code, its place from 0 as count, and everything but the capability
   -- is fresh
-  pub part-way : length t ≡ (limits_of c).places → (code place further : ℕ) → playing c b ≡ reset_with code place further
+  pub part-way : length t ≡ (limits_of c).places → (code place further : ℕ)
+      → playing c b ≡ reset_with code place further
       → (r ≡ answered code place) × IsFresh (limits_of c) c' d' t'
   -- a list played to its end is not refused
   pub played : length t ≡ (limits_of c).places → (count : ℕ) (next : State) (written : List ℕ)

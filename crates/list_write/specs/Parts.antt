@@ -1,5 +1,6 @@
 -- 01, 'Move list', written: the parts of a list, and the entries of the adapters of an image.
-use Rattle.std.specs.Prelude.{ℕ, ◌+◌, Bool, true, false, not, ◌&&◌, ◌||◌, List, [], ◌∷◌, ◌++◌, length, take, drop, replicate}
+use Rattle.std.specs.Prelude.{ℕ, ◌+◌, Bool, true, false, not, ◌&&◌, ◌||◌, List, [], ◌∷◌, ◌++◌, length, take, drop}
+use Rattle.std.specs.Prelude.{replicate}
 use Rattle.rules.specs.Bytes.{bytes}
 use Rattle.rules.specs.State.{Adapter}
 use Rattle.rules.specs.MoveList.{ListRequest, one_if, by_rising_id, register_request, modify_request}

@@ -4,7 +4,8 @@
 ghost use Rattle.std.specs.Prelude.{◌≡◌, ◌+◌, ◌*◌, ◌≤◌, ℕ, length, ◌&&◌, ◌||◌};
 ghost use mathlib.Core.List.{[], List, ◌∷◌, flatten};
 ghost use Rattle.rules.specs.Bytes.{choose};
-ghost use Rattle.rules.specs.MoveList.{one_if, table_entry_bytes, payloads, written_table, header_bytes, payload_offset};
+ghost use Rattle.rules.specs.MoveList.{one_if, table_entry_bytes, payloads, written_table, header_bytes};
+ghost use Rattle.rules.specs.MoveList.{payload_offset};
 ghost use Rattle.list_write.specs.Parts.{put, five, each, is_written, group_of, size_of, payload_of};
 ghost use Rattle.list_image.specs.Image.{image_size};
 ghost use Rattle.rules.specs.State.{Record, record_bytes, listing};

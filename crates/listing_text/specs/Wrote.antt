@@ -1,7 +1,7 @@
 -- Text written into a lent buffer from an index: where it ends, and the buffer afterwards. The bytes before and after
 -- the text stay.
 use Rattle.std.specs.Prelude.{ℕ, ◌+◌, ◌≤◌, ◌≡◌, List, length}
-use Rattle.std.proofs.Math.Seq.{paste}
+use lib.Seq.{paste}
 
 pub record Wrote (before after : List ℕ) (at : ℕ) (text : List ℕ) (end : ℕ) : Type 0 where
   pub ends : end ≡ at + length text

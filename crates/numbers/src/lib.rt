@@ -3,7 +3,7 @@
 #![tactic(auto)]
 
 ghost use Rattle.std.specs.Prelude.{◌≡◌, ◌+◌, ◌*◌, ◌^◌, ◌≤◌, ◌<◌, length};
-ghost use Rattle.std.proofs.Math.Seq.{paste};
+ghost use lib.Seq.{paste};
 ghost use Rattle.rules.specs.Bytes.{bytes, part, field};
 
 // Group numbers, named and numbered as in kvm.h, without KVM_DEV_FLIC_ before the names.

@@ -1,6 +1,6 @@
 -- 01, guest take: the record of the nine queues that is handed out, by the cases of the code's enum.
 use Rattle.std.specs.Prelude.{ℕ, ◌<◌, Bool, List, [], get_or, take}
-use Rattle.std.proofs.Math.Option.{Option, none, some}
+use mathlib.Core.Option.{Option, none, some}
 use Rattle.rules.specs.Bytes.{choose}
 use Rattle.rules.specs.State.{Record, Pending}
 use Rattle.rules.specs.Take.{Handed, or_else, hand_done, hand_io, first_allowed}

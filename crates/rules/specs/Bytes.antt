@@ -1,6 +1,7 @@
 -- Paper 01, 'What the controller is': all multi-byte fields are big-endian. A byte is a number, and bytes are a list
 -- of numbers. The numbers are not bounded by 256: no call looks at the bound (`Invariant.IsByte` says it).
-use Rattle.std.specs.Prelude.{ℕ, zero, suc, ◌+◌, ◌*◌, ◌/◌, ◌%◌, ◌^◌, Bool, true, false, List, [], ◌∷◌, length, get_or, take, drop}
+use Rattle.std.specs.Prelude.{ℕ, zero, suc, ◌+◌, ◌*◌, ◌/◌, ◌%◌, ◌^◌, Bool, true, false, List, [], ◌∷◌, length}
+use Rattle.std.specs.Prelude.{get_or, take, drop}
 
 -- The first value where the test holds, the second where it fails.
 unfoldable pub choose {ℓ} : {A : Type ℓ} → Bool → A → A → A

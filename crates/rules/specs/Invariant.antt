@@ -2,7 +2,7 @@
 -- the calls one premise: controller and table come from a fresh pair by these operations (`Reached`). The premise is
 -- stated as facts of the state (`Sound`). It is proved that both say the same (`Premise.exactly` in proofs).
 use Rattle.std.specs.Prelude.{ℕ, suc, ◌<◌, ◌≤◌, ◌≡◌, Bool, true, false, List, [], ◌∷◌, length}
-use Rattle.std.proofs.Math.Option.{Option, none, some}
+use mathlib.Core.Option.{Option, none, some}
 use Rattle.rules.specs.State.{Limits, Adapter, Place, free, holds, Record, record_bytes, Pending, State, fresh}
 use Rattle.rules.specs.State.{Kind, kind, subclass, queued, listing}
 use Rattle.rules.specs.Machine.{Call, after}

@@ -19,14 +19,14 @@
 --   a / b, a % b    quotient and remainder; no divisor here is 0
 --   a ^ b           a to the power of b
 --   leb a b, ltb a b, eqb a b    whether a is at most b, below b, equal to b
---   bit_or a b       OR of the binary digits
+--   bit_or a b      OR of the binary digits
 --   length l        how many elements l has
---   get_or l i d      the element of l at i; d where l has none there
+--   get_or l i d    the element of l at i; d where l has none there
 --   set l i a       l with a at position i; l itself where it has no position i
 --   take n l, drop n l    the first n elements of l (all of them where it has fewer); what is left without them
 --   replicate n a   n times a
 --   flatten l       the lists of the list l, joined in order
---   zip_with f l m   f of the elements of l and m, pair by pair, as long as both have one
+--   zip_with f l m  f of the elements of l and m, pair by pair, as long as both have one
 --
 -- Functions of these files that read like words: `choose test a b` (Bytes) is a where the test holds and b otherwise;
 -- `need test else code ⨾ rest` (Outcome) refuses with the code where the test fails and otherwise goes on with the

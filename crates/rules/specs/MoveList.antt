@@ -46,7 +46,8 @@ enqueue_request (r ∷ rs) = record { group = 2; attr = record_bytes * length (r
 -- Written fourth: AISM_ALL, if capable and a mask is not 0.
 unfoldable pub aism_all_request : Bool → ℕ → ℕ → List ListRequest
 aism_all_request ais simm nimm =
-    choose (ais && (non_zero simm || non_zero nimm)) (record { group = 11; attr = 0; payload = simm ∷ nimm ∷ [] } ∷ []) []
+    choose (ais && (non_zero simm || non_zero nimm))
+    (record { group = 11; attr = 0; payload = simm ∷ nimm ∷ [] } ∷ []) []
 
 -- Written last: APF_ENABLE, if the page-fault flag is on.
 unfoldable pub apf_request : Bool → List ListRequest

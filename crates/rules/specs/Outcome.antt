@@ -2,7 +2,7 @@
 -- codes is for any controller: A is the type of its states. (000 also has ENOBUFS, where an allocation of the kernel
 -- fails. Nothing is allocated here.)
 use Rattle.std.specs.Prelude.{ℕ, Bool, true, false, List, ◌++◌, length, drop}
-use Rattle.std.proofs.Math.Option.{Option, none, some}
+use mathlib.Core.Option.{Option, none, some}
 
 abbrev pub EINVAL : ℕ
 EINVAL = 22
@@ -23,9 +23,9 @@ abbrev pub E2BIG : ℕ
 E2BIG = 7
 
 -- What a call comes to. `refuse_with`: refused, and nothing changes; it holds neither a state nor bytes, so it cannot
--- change any. `accept`: accepted, with the next state and the bytes written from the buffer's start. `reset_with` ('Move
--- list'): a list refused part-way, with the code of the refused request, its place in the list, counted from 0, and a
--- further number; the controller is then fresh.
+-- change any. `accept`: accepted, with the next state and the bytes written from the buffer's start. `reset_with`
+-- ('Move list'): a list refused part-way, with the code of the refused request, its place in the list, counted from 0,
+-- and a further number; the controller is then fresh.
 pub data Outcome (A : Type 0) : Type 0 where
   refuse_with : (code count : ℕ) → Outcome A
   accept : (count : ℕ) (next : A) (written : List ℕ) → Outcome A

@@ -1,8 +1,9 @@
 -- Paper 01, 'Request numbers and effects', with the checks of 'Codes and the order of checks' that come after the check
 -- of the adapter table. Comments say what a group does and then, as the paper's table does, its count. Source document
 -- 000 decides what each group means. It is named where it says something that paper 01 does not repeat.
-use Rattle.std.specs.Prelude.{ℕ, zero, suc, ◌+◌, ◌*◌, ◌/◌, ◌%◌, ◌^◌, Bool, true, false, not, ◌&&◌, ◌||◌, length, get_or, take, drop, replicate, leb, ltb, eqb}
-use Rattle.std.proofs.Math.Option.{Option, none, some}
+use Rattle.std.specs.Prelude.{ℕ, zero, suc, ◌+◌, ◌*◌, ◌/◌, ◌%◌, ◌^◌, Bool, true, false, not, ◌&&◌, ◌||◌, length}
+use Rattle.std.specs.Prelude.{get_or, take, drop, replicate, leb, ltb, eqb}
+use mathlib.Core.Option.{Option, none, some}
 use mathlib.Core.List.{List, [], ◌∷◌, ◌++◌, flatten}
 use Rattle.rules.specs.Bytes.{choose, bytes, byte, field}
 use Rattle.rules.specs.State.{Limits, Adapter, Place, free, holds, Record, record_bytes, State, nothing}

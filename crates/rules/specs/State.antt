@@ -1,6 +1,7 @@
 -- Paper 01, 'What it holds'.
-use Rattle.std.specs.Prelude.{ℕ, ◌+◌, ◌-◌, ◌/◌, ◌%◌, ◌^◌, Bool, false, length, get_or, take, drop, set, replicate, leb, eqb}
-use Rattle.std.proofs.Math.Option.{Option, none, some}
+use Rattle.std.specs.Prelude.{ℕ, ◌+◌, ◌-◌, ◌/◌, ◌%◌, ◌^◌, Bool, false, length, get_or, take, drop, set, replicate}
+use Rattle.std.specs.Prelude.{leb, eqb}
+use mathlib.Core.Option.{Option, none, some}
 use mathlib.Core.List.{List, [], ◌∷◌, ◌++◌, flatten, zip_with}
 use Rattle.std.specs.Int.Bits.{bit_or}
 use Rattle.rules.specs.Bytes.{choose, field}

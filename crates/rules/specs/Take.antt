@@ -1,7 +1,7 @@
 -- Paper 01, the last paragraph of 'Request numbers and effects': the guest take. Its code 14 is from 'Codes and the
 -- order of checks'.
 use Rattle.std.specs.Prelude.{ℕ, suc, Bool, List, [], ◌∷◌, length, leb}
-use Rattle.std.proofs.Math.Option.{Option, none, some}
+use mathlib.Core.Option.{Option, none, some}
 use Rattle.rules.specs.Bytes.{choose}
 use Rattle.rules.specs.State.{Record, record_bytes, Pending, State, with_pending, has_bit}
 use Rattle.rules.specs.Outcome.{EFAULT, Outcome, accept, need◌else◌⨾◌}

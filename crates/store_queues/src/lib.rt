@@ -2,7 +2,7 @@
 #![tactic(auto)]
 
 ghost use Rattle.std.specs.Prelude.{◌≡◌, ◌+◌, ◌-◌, ◌≤◌, ◌*◌, ◌<◌, length, drop, get_or};
-ghost use Rattle.std.proofs.Math.Seq.{paste};
+ghost use lib.Seq.{paste};
 ghost use Rattle.store_queues.specs.Slots.{slot, Stored, slot_count};
 ghost use mathlib.Core.List.{[], ◌++◌, flatten};
 ghost use Rattle.store_queues.specs.Queues.{row, total, waiting, queues, listed, up_from};

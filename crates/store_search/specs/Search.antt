@@ -1,6 +1,6 @@
 -- The search over queues, record by record, and what the rules do at the place that it finds.
 use Rattle.std.specs.Prelude.{ℕ, suc, ◌/◌, ◌%◌, ◌<◌, Bool, ◌||◌, List, [], ◌∷◌, get_or}
-use Rattle.std.proofs.Math.Option.{Option, none, some}
+use mathlib.Core.Option.{Option, none, some}
 use Rattle.rules.specs.Bytes.{choose}
 use Rattle.rules.specs.State.{Record, has_bit}
 use Rattle.rules.specs.Requests.{is_for}

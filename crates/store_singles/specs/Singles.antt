@@ -1,6 +1,6 @@
 -- The service record and the machine check in their lent bytes.
 use Rattle.std.specs.Prelude.{ℕ, zero, suc, List}
-use Rattle.std.proofs.Math.Option.{Option, none, some}
+use mathlib.Core.Option.{Option, none, some}
 use Rattle.rules.specs.Bytes.{byte, part}
 use Rattle.rules.specs.State.{Record}
 

@@ -3,7 +3,7 @@
 #![tactic(auto)]
 
 ghost use Rattle.std.specs.Prelude.{◌≡◌, not, take, drop, eqb};
-ghost use Rattle.std.proofs.Math.Option.{none, some};
+ghost use mathlib.Core.Option.{none, some};
 ghost use mathlib.Core.List.{◌++◌, zip_with};
 ghost use Rattle.std.specs.Int.Bits.{bit_or};
 ghost use Rattle.rules.specs.Bytes.{byte, part};

@@ -3,7 +3,7 @@
 -- does not change what is asked for here. That each function's contract has this consequence is the theorem `safety`
 -- (proofs/Safety).
 use Rattle.std.specs.Prelude.{ℕ, ◌≡◌, false, get_or}
-use Rattle.std.proofs.Math.Option.{none}
+use mathlib.Core.Option.{none}
 use mathlib.Core.List.{List, ◌∷◌, Memᴰ}
 use Rattle.xive_sources.specs.declared.Reading.{Reading}
 use Rattle.xive_sources.specs.Stored.{sources_of}

@@ -10,7 +10,8 @@ use Rattle.xive_sources.specs.Stored.{sources_of, values_in}
 -- caller sees, x, is the code, the count and the payload as the call left it. A refusal leaves the stored numbers
 -- equal, not only what they stand for.
 pub record Called (ask : Ask) (before after : List ℕ) (b : List ℕ) (x : Seen) : Type 0 where
-  pub steps : step ticket_limits (sources_of before) (record { ask = ask; payload = b }) ≡ answering x (sources_of after)
+  pub steps : step ticket_limits (sources_of before) (record { ask = ask; payload = b })
+      ≡ answering x (sources_of after)
   pub kept : (x.code ≡ 0 → ⊥) → after ≡ before
 
 -- A reading, which is lent no payload, gives also the values of the source, and those of none where it is refused.

@@ -1,7 +1,7 @@
 -- Paper 02, ticket 1: what a source is, and the calls. The refusals are those that the ticket names, in its order, and
 -- every count is 0. A text in quotes is the ticket's.
 use Rattle.std.specs.Prelude.{ℕ, Bool, true, false, List, [], ◌∷◌, length, get_or, set, replicate, leb, ltb, eqb}
-use Rattle.std.proofs.Math.Option.{Option, none, some}
+use mathlib.Core.Option.{Option, none, some}
 use Rattle.rules.specs.Bytes.{choose}
 use Rattle.rules.specs.Outcome.{EINVAL, EFAULT, E2BIG, Outcome, accept, need◌else◌⨾◌, present◌else◌⨾◌, Answer, result}
 use Rattle.xive_rules.specs.Words.{word_bytes, word_in, kind_in, level_in, server_in}

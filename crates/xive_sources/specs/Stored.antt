@@ -7,7 +7,7 @@
 -- A number whose bit 7 is 0, as 0 is, stands for a source that is not initialised, and every other one for a source
 -- that calls can leave so (proofs/Any).
 use Rattle.std.specs.Prelude.{ℕ, ◌<◌, ◌≡◌, List, map, eqb, ltb}
-use Rattle.std.proofs.Math.Option.{Option, none, some}
+use mathlib.Core.Option.{Option, none, some}
 use Rattle.rules.specs.Bytes.{choose}
 use Rattle.rules.specs.Outcome.{EINVAL}
 use Rattle.xive_rules.specs.Words.{bits, targeting_word}
@@ -28,7 +28,8 @@ level_of v = choose (eqb (bits 9 1 v) 1) (bits 10 1 v) 0
 
 unfoldable pub source_of : ℕ → Option Source
 source_of v =
-    choose (eqb (bits 7 1 v) 0) none (some (record { kind = bits 9 1 v; level = level_of v; targeting = targeting_of v }))
+    choose (eqb (bits 7 1 v) 0) none
+    (some (record { kind = bits 9 1 v; level = level_of v; targeting = targeting_of v }))
 
 abbrev pub sources_of : List ℕ → Sources
 sources_of l = map source_of l

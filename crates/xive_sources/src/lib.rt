@@ -3,7 +3,7 @@
 #![tactic(auto)]
 
 ghost use Rattle.std.specs.Prelude.{◌≡◌, false, ◌<◌, ltb, set};
-ghost use Rattle.std.proofs.Math.Option.{some};
+ghost use mathlib.Core.Option.{some};
 ghost use Rattle.xive_rules.specs.Words.{server_in, targeting_word, bits};
 ghost use Rattle.xive_rules.specs.Sources.{Source, ticket_limits, initial, targeted, values_of};
 ghost use Rattle.xive_sources.specs.Stored.{level_of, source_of, Looked, values_in};

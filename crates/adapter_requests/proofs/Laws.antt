@@ -3,24 +3,18 @@ use Rattle.numbers.proofs.Basics.{leb, lt-leb, ◌<◌, ℕ, zero, suc, ◌≤�
 use Rattle.numbers.proofs.Basics.{true≢false, List, [], ◌∷◌, arith, length, get_or, set, drop, eqb, eq-eqb, ne_eqb}
 use Rattle.numbers.proofs.Basics.{eqb-true, le-leb, ltb, lt-ltb, le-ltb}
 use lib.Seq.{set-get_or}
-use Rattle.rules.specs.{Bytes.choose, Bytes.byte, Bytes.field, Requests.set_request, Requests.no_request, Requests.with_mask, State.Limits, State.State, Outcome.Outcome, Outcome.refuse, Outcome.accept, Outcome.need◌else◌⨾◌}
+use Rattle.std.specs.Prelude.{Result, Ok, Err, OnOk}
+use Rattle.answers.specs.declared.Refusal.{Refusal}
+use Rattle.rules.specs.{Bytes.choose, Bytes.byte, Bytes.field, Requests.set_request, Requests.no_request, Requests.with_mask, State.Limits, State.State, Outcome.Outcome, Outcome.refuse, Outcome.need◌else◌⨾◌}
 use Rattle.rules.proofs.Checks.{passes, fails, chosen, passed}
 use Rattle.rules.specs.State as rules
 use Rattle.adapters.specs.{Values.masked_as, Values.mode_set}
-use Rattle.adapter_requests.specs.States.{payload_id, on_place, decided, with_place, modes_after}
+use Rattle.adapter_requests.specs.States.{payload_id, on_place, with_place, modes_after}
 
--- ---- a code that is not 0, and 0
-pub not-accepted : {A : Type 0} {n : ℕ} → 0 < n → n ≡ 0 → A
-not-accepted h e = let z : ⊥ = omega (arith, h, e) in absurd z
-
-module _ (code : ℕ) (next : State) where
-  pub decided-refused : (code ≡ 0 → ⊥) → decided code next ≡ refuse code
-  unfolding decided
-  decided-refused n = passed _ _ _ (ne_eqb code 0 n)
-
-  pub decided-accepted : code ≡ 0 → decided code next ≡ accept 0 next []
-  unfolding decided
-  decided-accepted z = chosen _ _ _ (eq-eqb code 0 z)
+-- ---- what holds in any case holds of a check that is passed
+pub on-ok : {P : Type 0} (r : Result (Unit {0}) Refusal) → P → OnOk r P
+on-ok (Ok x) p = p
+on-ok (Err e) p = tt
 
 -- ---- the groups about a place
 pub on-place-7 : (g : ℕ) → on_place g ≡ true → (g ≡ 6 → ⊥) → g ≡ 7

@@ -1,17 +1,17 @@
 // Inner crate: the requests that touch no pending record, on a device record and one adapter place by value.
 #![tactic(auto)]
 
-ghost use Rattle.std.specs.Prelude.{◌≡◌, true, false, List, ℕ, ◌≤◌, eqb, length};
+ghost use Rattle.std.specs.Prelude.{◌≡◌, true, false, List, ℕ, ◌≤◌, eqb, length, OnOk, OnErr};
 ghost use Rattle.rules.specs.State.{Limits, State, with_device};
 ghost use Rattle.rules.specs.Bytes.{byte, field};
 ghost use Rattle.rules.specs.Requests.{apf_enable, apf_disable_wait, get_aism_all, request};
-ghost use Rattle.answers.specs.Answers.{Answers};
+ghost use Rattle.answers.specs.Answers.{Answers, as_answer};
 ghost use Rattle.adapters.specs.Values.{place_of, device_of, Canonical};
 ghost use Rattle.adapter_requests.specs.States.{payload_id, on_place, decided, place_after, stored_by, PlaceAsked};
 ghost use Rattle.adapter_requests.specs.States.{DecidesPlace, modes_after, ModesAsked, DecidesModes};
 
 use adapters::{Device, Place};
-use answers::{Answer, EFAULT, EINVAL, EOPNOTSUPP};
+use answers::Refusal;
 use numbers::{
     ADAPTER_REGISTER, AISM, AISM_ALL, APF_DISABLE_WAIT, APF_ENABLE, AdapterId, NO_ADAPTER, Subclass,
 };
@@ -34,71 +34,77 @@ pub fn on_place(group: u32) -> bool
     group / 2 == 3
 }
 
-// Group 6: the code of a REGISTER, 0 if accepted.
-fn register_code(places: u64, place: Place, attr: u64, payload: &[u8]) -> u32
-    ensures code { DecidesPlace 6 places place attr payload.now result }
-    ensures asked { result ≡ 0 → PlaceAsked 6 payload.now place }
+// Group 6: whether a REGISTER is accepted.
+fn check_register(places: u64, place: Place, attr: u64, payload: &[u8]) -> Result<(), Refusal>
+    ensures decides { DecidesPlace 6 places place attr payload.now result }
+    ensures asked { OnOk result (PlaceAsked 6 payload.now place) }
 {
     if attr != 0 {
-        return EINVAL;
+        return Err(Refusal::Invalid);
     }
     if payload.len() < 8 {
-        return EFAULT;
+        return Err(Refusal::Fault);
     }
     if places <= numbers::read_be(payload, 0, 4) {
-        return EINVAL;
+        return Err(Refusal::Invalid);
     }
     if place.used {
-        return EINVAL;
+        return Err(Refusal::Invalid);
     }
     if 7 < payload[4] {
-        return EINVAL;
+        return Err(Refusal::Invalid);
     }
-    0
+    Ok(())
 }
 
-// Group 7: the code of a MODIFY, 0 if accepted.
-fn modify_code(places: u64, place: Place, attr: u64, payload: &[u8]) -> u32
-    ensures code { DecidesPlace 7 places place attr payload.now result }
-    ensures asked { result ≡ 0 → PlaceAsked 7 payload.now place }
+// Group 7: whether a MODIFY is accepted.
+fn check_modify(places: u64, place: Place, attr: u64, payload: &[u8]) -> Result<(), Refusal>
+    ensures decides { DecidesPlace 7 places place attr payload.now result }
+    ensures asked { OnOk result (PlaceAsked 7 payload.now place) }
 {
     if attr != 0 {
-        return EINVAL;
+        return Err(Refusal::Invalid);
     }
     if payload.len() < 16 {
-        return EFAULT;
+        return Err(Refusal::Fault);
     }
     if places <= numbers::read_be(payload, 0, 4) {
-        return EINVAL;
+        return Err(Refusal::Invalid);
     }
     if !place.used {
-        return EINVAL;
+        return Err(Refusal::Invalid);
     }
     let kind = payload[4];
     if kind == 0 {
-        return EINVAL;
+        return Err(Refusal::Invalid);
     }
     if 3 < kind {
-        return EINVAL;
+        return Err(Refusal::Invalid);
     }
     if kind == 1 {
         if !place.maskable {
-            return EINVAL;
+            return Err(Refusal::Invalid);
         }
     }
-    0
+    Ok(())
 }
 
-// The code of a request about an adapter's place, 0 if accepted.
-pub fn place_code(places: u64, place: Place, group: u32, attr: u64, payload: &[u8]) -> u32
+// Whether a request about an adapter's place is accepted.
+pub fn check_place(
+    places: u64,
+    place: Place,
+    group: u32,
+    attr: u64,
+    payload: &[u8],
+) -> Result<(), Refusal>
     requires { on_place group ≡ true }
-    ensures { DecidesPlace group places place attr payload.now result
-        × (result ≡ 0 → PlaceAsked group payload.now place) }
+    ensures decides { DecidesPlace group places place attr payload.now result }
+    ensures asked { OnOk result (PlaceAsked group payload.now place) }
 {
     if group == ADAPTER_REGISTER {
-        return register_code(places, place, attr, payload);
+        return check_register(places, place, attr, payload);
     }
-    modify_code(places, place, attr, payload)
+    check_modify(places, place, attr, payload)
 }
 
 // The place after an accepted request about it.
@@ -121,82 +127,82 @@ pub fn place_after(place: Place, group: u32, payload: &[u8]) -> Place
     place
 }
 
-// Group 9: the code of an AISM, 0 if accepted.
-fn mode_code(ais: bool, attr: u64, payload: &[u8]) -> u32
-    ensures code { DecidesModes 9 ais attr payload.now result }
-    ensures asked { result ≡ 0 → ModesAsked 9 payload.now }
+// Group 9: whether an AISM is accepted.
+fn check_mode(ais: bool, attr: u64, payload: &[u8]) -> Result<(), Refusal>
+    ensures decides { DecidesModes 9 ais attr payload.now result }
+    ensures asked { OnOk result (ModesAsked 9 payload.now) }
 {
     if attr != 0 {
-        return EINVAL;
+        return Err(Refusal::Invalid);
     }
     if !ais {
-        return EOPNOTSUPP;
+        return Err(Refusal::NotSupported);
     }
     if payload.len() < 4 {
-        return EFAULT;
+        return Err(Refusal::Fault);
     }
     if 7 < payload[0] {
-        return EINVAL;
+        return Err(Refusal::Invalid);
     }
     if 1 < numbers::read_be(payload, 2, 2) {
-        return EINVAL;
+        return Err(Refusal::Invalid);
     }
-    0
+    Ok(())
 }
 
-// Group 11, set: the code, 0 if accepted.
-fn masks_code(ais: bool, attr: u64, payload: &[u8]) -> u32
-    ensures code { DecidesModes 11 ais attr payload.now result }
-    ensures asked { result ≡ 0 → ModesAsked 11 payload.now }
+// Group 11, set: whether it is accepted.
+fn check_masks(ais: bool, attr: u64, payload: &[u8]) -> Result<(), Refusal>
+    ensures decides { DecidesModes 11 ais attr payload.now result }
+    ensures asked { OnOk result (ModesAsked 11 payload.now) }
 {
     if attr != 0 {
-        return EINVAL;
+        return Err(Refusal::Invalid);
     }
     if !ais {
-        return EOPNOTSUPP;
+        return Err(Refusal::NotSupported);
     }
     if payload.len() < 2 {
-        return EFAULT;
+        return Err(Refusal::Fault);
     }
-    0
+    Ok(())
 }
 
-// Groups 4 and 5: the code, 0 if accepted.
-fn flag_code(attr: u64) -> u32
+// Groups 4 and 5: whether the request is accepted.
+fn check_flag(attr: u64) -> Result<(), Refusal>
     ensures { (L : Limits) (s : State) (b : List ℕ)
         → (request L s apf_enable attr b ≡ decided result (with_device (modes_after 4 b s.device) s))
         × (request L s apf_disable_wait attr b ≡ decided result (with_device (modes_after 5 b s.device) s)) }
 {
     if attr != 0 {
-        return EINVAL;
+        return Err(Refusal::Invalid);
     }
-    0
+    Ok(())
 }
 
-// The code of a request about the device record, 0 if accepted. A group that is no request is refused here.
-pub fn modes_code(ais: bool, group: u32, attr: u64, payload: &[u8]) -> u32
+// Whether a request about the device record is accepted. A group that is no request is refused here.
+pub fn check_modes(ais: bool, group: u32, attr: u64, payload: &[u8]) -> Result<(), Refusal>
     requires { (group ≡ 2 → ⊥) × (group ≡ 3 → ⊥) × (group ≡ 8 → ⊥) × (group ≡ 10 → ⊥)
         × (on_place group ≡ false) }
-    ensures { DecidesModes group ais attr payload.now result
-        × (result ≡ 0 → ModesAsked group payload.now) }
+    ensures decides { DecidesModes group ais attr payload.now result }
+    ensures asked { OnOk result (ModesAsked group payload.now) }
 {
     if group == APF_ENABLE {
-        return flag_code(attr);
+        return check_flag(attr);
     }
     if group == APF_DISABLE_WAIT {
-        return flag_code(attr);
+        return check_flag(attr);
     }
     if group == AISM {
-        return mode_code(ais, attr, payload);
+        return check_mode(ais, attr, payload);
     }
     if group == AISM_ALL {
-        return masks_code(ais, attr, payload);
+        return check_masks(ais, attr, payload);
     }
-    EINVAL
+    Err(Refusal::Invalid)
 }
 
 // What an AISM asks for: a subclass, and whether its mode is SINGLE.
-#[derive(Drop)]
+#[derive(Clone, Copy)]
 pub struct Mode {
     pub isc: Subclass,
     pub single: bool,
@@ -214,7 +220,7 @@ pub fn mode_in(payload: &[u8]) -> Mode
 }
 
 // What an AISM_ALL asks for.
-#[derive(Drop)]
+#[derive(Clone, Copy, Debug, PartialEq, Eq)]
 pub struct Masks {
     pub simm: u8,
     pub nimm: u8,
@@ -247,21 +253,21 @@ pub fn modes_after(device: Device, group: u32, payload: &[u8]) -> Device
 }
 
 // Group 11, get: both masks.
-pub fn get_masks(ais: bool, device: Device, attr: u64, out: &mut [u8]) -> Answer
+pub fn get_masks(ais: bool, device: Device, attr: u64, out: &mut [u8]) -> Result<u64, Refusal>
     ensures answer { (L : Limits) (s : State) → s.ais ≡ ais → s.device ≡ device_of device
-        → Answers L s out.old (request L s get_aism_all attr out.old) result s out.new }
-    ensures kept { (result.code ≡ 0 → ⊥) → out.new ≡ out.old }
+        → Answers L s out.old (request L s get_aism_all attr out.old) (as_answer result) s out.new }
+    ensures kept { OnErr result (out.new ≡ out.old) }
 {
     if attr != 0 {
-        return answers::refuse(EINVAL);
+        return Err(Refusal::Invalid);
     }
     if !ais {
-        return answers::refuse(EOPNOTSUPP);
+        return Err(Refusal::NotSupported);
     }
     if out.len() < 2 {
-        return answers::refuse(EFAULT);
+        return Err(Refusal::Fault);
     }
     out[0] = device.simm;
     out[1] = device.nimm;
-    answers::accept(0)
+    Ok(0)
 }

@@ -10,7 +10,7 @@ use numbers::Subclass;
 
 // The masks and the page-fault flag.
 #[repr(C)]
-#[derive(Clone, Copy)]
+#[derive(Clone, Copy, Debug, PartialEq, Eq)]
 pub struct Device {
     pub simm: u8,
     pub nimm: u8,
@@ -102,34 +102,26 @@ pub fn mode_set(d: Device, isc: Subclass, single: bool) -> Device
         return Device {
             simm: with_bit(isc, d.simm),
             nimm,
-            apf: d.apf,
+            ..d
         };
     }
     Device {
         simm: without_bit(isc, d.simm),
         nimm,
-        apf: d.apf,
+        ..d
     }
 }
 
 pub fn masks_set(d: Device, simm: u8, nimm: u8) -> Device
     ensures { result ≡ record { simm = simm; nimm = nimm; apf = d.apf } }
 {
-    Device {
-        simm,
-        nimm,
-        apf: d.apf,
-    }
+    Device { simm, nimm, ..d }
 }
 
 pub fn apf_set(d: Device, on: bool) -> Device
     ensures { result ≡ record { simm = d.simm; nimm = d.nimm; apf = on } }
 {
-    Device {
-        simm: d.simm,
-        nimm: d.nimm,
-        apf: on,
-    }
+    Device { apf: on, ..d }
 }
 
 // A new adapter, unmasked.
@@ -161,21 +153,13 @@ pub fn mask_set(p: Place, on: bool) -> Place
     ensures others { result ≡ with_masked result.masked p }
 {
     if p.used {
-        let isc = p.isc;
-        return Place {
-            used: true,
-            isc,
-            maskable: p.maskable,
-            swap: p.swap,
-            suppressible: p.suppressible,
-            masked: on,
-        };
+        return Place { masked: on, ..p };
     }
     p
 }
 
-// What an injection comes to.
-#[derive(Drop)]
+// What an injection comes to. Four cases by name: as a Result, Ok(None) would stand for dropped.
+#[derive(Clone, Copy)]
 pub enum Injection {
     // The place is free.
     NoAdapter,
@@ -194,8 +178,7 @@ fn under_ais(ais: bool, p: Place, mask: u8) -> bool
 {
     if ais {
         if p.suppressible {
-            let isc = p.isc;
-            return has_bit(isc, mask);
+            return has_bit(p.isc, mask);
         }
     }
     false
@@ -218,8 +201,7 @@ pub fn inject(ais: bool, d: Device, p: Place, full: bool) -> Injection
     if full {
         return Injection::Full;
     }
-    let isc = p.isc;
-    Injection::Appended(isc)
+    Injection::Appended(p.isc)
 }
 
 // The device record after an injection that is appended: in SINGLE mode the subclass's bit of nimm is set.
@@ -228,11 +210,9 @@ pub fn after_injection(ais: bool, d: Device, p: Place) -> Device
     ensures { result ≡ injected_device ais d p }
 {
     if under_ais(ais, p, d.simm) {
-        let isc = p.isc;
         return Device {
-            simm: d.simm,
-            nimm: with_bit(isc, d.nimm),
-            apf: d.apf,
+            nimm: with_bit(p.isc, d.nimm),
+            ..d
         };
     }
     d

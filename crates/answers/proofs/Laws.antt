@@ -1,9 +1,12 @@
 -- From an outcome of the rules to the answer that tells it.
 use Prim.Native.Nat.{ℕ}
-use mathlib.Core.{Path.◌≡◌, Path.ap, Path.sym, Path.◌∙◌, Path.subst, List.List, List.◌++◌}
+use mathlib.Core.{Path.◌≡◌, Path.refl, Path.ap, Path.sym, Path.◌∙◌, Path.subst, List.List, List.◌++◌}
 use lib.ListN.{length, drop}
 use Rattle.rules.specs.{State.Limits, State.Pending, State.State, State.with_pending, Outcome.Outcome, Outcome.refuse, Outcome.accept, Outcome.result, Outcome.tell, Requests.set_request, Requests.request, Machine.answer_of}
-use Rattle.answers.specs.{declared.Answer.Answer, Answers.Answers, Answers.answered}
+use Rattle.std.specs.Prelude.{Ok, Err}
+use Rattle.std.proofs.Common.{arith}
+use Rattle.answers.specs.declared.Refusal.TheVariants.{NoEntry, TooBig, NoMemory, Fault, Busy, Invalid, NotSupported}
+use Rattle.answers.specs.{declared.Answer.Answer, declared.Refusal.Refusal, Answers.Answers, Answers.answered, Answers.as_answer, Answers.code_of}
 
 pub same-state : (s : State) (p : Pending) → s.pending ≡ p → with_pending p s ≡ s
 same-state s p e = ap (λ (q : Pending). with_pending q s) (sym e)
@@ -30,3 +33,21 @@ pub as-answer : (L : Limits) (s : State) (attr : ℕ) (b : List ℕ) (t : State)
 as-answer L s attr b t k {g} {a} {a'} e ea h =
     subst (λ (x : ℕ). Answers L s b (request L s (set_request x) attr b) a' t b) (sym e)
     (subst (λ (x : Answer). Answers L s b (request L s (set_request k) attr b) x t b) (sym ea) h)
+
+-- the same of an outcome of the code
+module _ (L : Limits) (s : State) (b : List ℕ) (o : Outcome State) where
+  pub refuses : (r : Refusal) (p : Pending) → s.pending ≡ p → o ≡ refuse (code_of r) → Answers L s b o (as_answer (Err r)) (with_pending p s) b
+  refuses r p e f = refused L s b o _ (code_of r) p e f refl
+
+  pub accepts : (n : ℕ) (t : State) (w d : List ℕ) → o ≡ accept n t w → d ≡ w ++ drop (length w) b → Answers L s b o (as_answer (Ok n)) t d
+  accepts n t w d f = accepted L s b o _ n t w d f refl
+
+-- no refusal has the code of what is accepted
+pub not-0 : (r : Refusal) → code_of r ≡ 0 → ⊥
+not-0 NoEntry e = omega (arith, e)
+not-0 TooBig e = omega (arith, e)
+not-0 NoMemory e = omega (arith, e)
+not-0 Fault e = omega (arith, e)
+not-0 Busy e = omega (arith, e)
+not-0 Invalid e = omega (arith, e)
+not-0 NotSupported e = omega (arith, e)

@@ -1,23 +1,31 @@
-// Inner crate: the codes of refusals, an answer, and how it is held to the rules.
+// Inner crate: why a call is refused, an answer as C reads it, and how it is held to the rules.
 #![tactic(auto)]
 
 ghost use Rattle.std.specs.Prelude.{◌≡◌};
-ghost use Rattle.answers.specs.Answers.{answered};
+ghost use Rattle.answers.specs.Answers.{code_of, as_answer};
 
-// Codes, named and numbered as in errno.
-pub const EINVAL: u32 = 22;
+// Why a call is refused. The numbers are those of errno, and what they are called there stands behind them.
+#[derive(Clone, Copy, Debug, PartialEq, Eq)]
+pub enum Refusal {
+    NoEntry = 2, // ENOENT
+    TooBig = 7, // E2BIG
+    NoMemory = 12, // ENOMEM
+    Fault = 14, // EFAULT
+    Busy = 16, // EBUSY
+    Invalid = 22, // EINVAL
+    NotSupported = 95, // EOPNOTSUPP
+}
 
-pub const EOPNOTSUPP: u32 = 95;
+impl Refusal {
+    // The code by which C knows the refusal.
+    pub fn code(self) -> u32
+        ensures { result ≡ code_of self }
+    {
+        self as u32
+    }
+}
 
-pub const EFAULT: u32 = 14;
-
-pub const ENOMEM: u32 = 12;
-
-pub const EBUSY: u32 = 16;
-
-pub const E2BIG: u32 = 7;
-
-// A code, 0 if accepted, and a count.
+// A code, 0 if accepted, and a count: what a public call returns to C.
 #[repr(C)]
 #[derive(Drop)]
 pub struct Answer {
@@ -25,25 +33,16 @@ pub struct Answer {
     pub count: u64,
 }
 
-pub fn accept(count: u64) -> Answer
-    ensures { result ≡ answered 0 count }
-{
-    Answer { code: 0, count }
-}
+impl From<Result<u64, Refusal>> for Answer {
+    ghost from_gives = { λ outcome answer. answer ≡ as_answer outcome };
 
-pub fn refuse(code: u32) -> Answer
-    ensures { result ≡ answered code 0 }
-{
-    Answer { code, count: 0 }
-}
-
-// Copies the answer field by field. A copy of the whole reads the code and the padding after it as one word, and waits
-// if the code was just written.
-pub fn by_fields(a: Answer) -> Answer
-    ensures { result ≡ a }
-{
-    Answer {
-        code: a.code,
-        count: a.count,
+    fn from(outcome: Result<u64, Refusal>) -> Answer {
+        match outcome {
+            Ok(count) => Answer { code: 0, count },
+            Err(refusal) => Answer {
+                code: refusal.code(),
+                count: 0,
+            },
+        }
     }
 }

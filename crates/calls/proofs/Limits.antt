@@ -3,7 +3,8 @@ use Rattle.numbers.proofs.Basics.{ℕ, ◌≡◌, refl, sym, ◌∙◌, subst}
 use Rattle.rules.specs.State.{paper_limits}
 use Rattle.list_image.specs.Image.{image_size}
 use Rattle.calls.proofs.Sized.{Sized, paper-sized}
-use Rattle.calls.specs.{declared.Controller.Controller, Limits.limits_of}
+use Rattle.store.specs.declared.Controller.{Controller}
+use Rattle.calls.specs.Limits.{limits_of}
 
 -- they are the paper's, for every controller; nothing else looks into the definition
 pub limits-made : (c : Controller) → limits_of c ≡ paper_limits

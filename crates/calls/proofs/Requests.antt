@@ -5,7 +5,8 @@ use Rattle.rules.specs.{Bytes.choose, State.Limits, State.Pending, State.State, 
 use Rattle.rules.specs.State as rules
 use Rattle.rules.specs.Requests.{holding, no_request, airq_inject, get_request, injected, injects, adapter_interrupt, request}
 use Rattle.rules.proofs.Checks.{passes, fails, found, missing, chosen, passed}
-use Rattle.answers.specs.{declared.Answer.Answer, Answers.Answers, Answers.answered}
+use Rattle.std.specs.Prelude.{Result}
+use Rattle.answers.specs.{declared.Answer.Answer, declared.Refusal.Refusal, Answers.Answers, Answers.answered, Answers.as_answer}
 use Rattle.adapters.specs.{declared.Device.Device, declared.Place.Place, declared.Injection.Injection, declared.Injection.TheVariants.NoAdapter, declared.Injection.TheVariants.Dropped, declared.Injection.TheVariants.Full, declared.Injection.TheVariants.Appended, Values.place_of, Values.device_of, Values.adapter_of, Values.under_ais, Values.injection_of, Values.injected_device}
 use Rattle.adapters.proofs.Laws.{place-used, place-free}
 use Rattle.numbers.specs.declared.Subclass.{Subclass}
@@ -147,9 +148,9 @@ module _ (places room id queued : ℕ) (ais : Bool) (d : Device) (p : Place) (wa
   is-noted is e t f = record { answer = subst (Came is) (noted (injected_device ais d p) d e) f; unnoted = λ k. absurd (k (ap (λ (x : Answer). x.code) e)); told = t }
 
 -- an injection as a set request on an image, where the device record is d' afterwards
-pub set-injected : {places room id queued : ℕ} {ais : Bool} {d : Device} {p : Place} {was is : List ℕ → Pending} {r : Answer} → Injected places room id queued ais d p was is r → (image : List ℕ)
-    → place_of p ≡ get_or (take places (places_of image)) id rules.free → (d' : Device) → noted_in ais d p r ≡ d'
-    → (singles b : List ℕ) → SetTo places room ais 10 id b image (was singles) d image (is singles) (record { answer = r; device = d' })
-set-injected {places} {room} {id} {queued} {ais} {d} {p} {was} {is} {r} f image l d' e singles b =
-    subst (λ (y : Device). SetTo places room ais 10 id b image (was singles) d image (is singles) (record { answer = r; device = y })) e
+pub set-injected : {places room id queued : ℕ} {ais : Bool} {d : Device} {p : Place} {was is : List ℕ → Pending} (r : Result ℕ Refusal) → Injected places room id queued ais d p was is (as_answer r) → (image : List ℕ)
+    → place_of p ≡ get_or (take places (places_of image)) id rules.free → (d' : Device) → noted_in ais d p (as_answer r) ≡ d'
+    → (singles b : List ℕ) → SetTo places room ais 10 id b image (was singles) d image (is singles) d' r
+set-injected {places} {room} {id} {queued} {ais} {d} {p} {was} {is} r f image l d' e singles b =
+    subst (λ (y : Device). SetTo places room ais 10 id b image (was singles) d image (is singles) y r) e
     (f.answer (limits_from places room) (image_state ais places image (was singles) d) singles b refl refl refl refl refl (sym l))

@@ -1,28 +1,19 @@
--- What the functions here promise, on the controller's arrays and with one adapter's place by value.
-use Rattle.std.specs.Prelude.{ℕ, ◌<◌, ◌≡◌, Bool, List, get_or, take, leb, eqb}
+-- What the functions here promise, of a controller and with one adapter's place by value.
+use Rattle.std.specs.Prelude.{ℕ, ◌<◌, ◌≡◌, Bool, List, get_or, take, leb, eqb, Result, OnErr}
 use Rattle.rules.specs.Bytes.{choose}
 use Rattle.rules.specs.State.{Limits, State, Pending, free, with_pending, with_device}
 use Rattle.rules.specs.Requests.{airq_inject, set_request, get_request, request}
 use Rattle.answers.specs.declared.Answer.{Answer}
-use Rattle.answers.specs.Answers.{Answers}
+use Rattle.answers.specs.declared.Refusal.{Refusal}
+use Rattle.answers.specs.Answers.{Answers, as_answer}
 use Rattle.adapters.specs.declared.Device.{Device}
 use Rattle.adapters.specs.declared.Place.{Place}
 use Rattle.adapters.specs.Values.{place_of, device_of, injection_of, injected_device}
 use Rattle.list_image.specs.Places.{places_of}
-use Rattle.store.specs.Memory.{pending_of}
-use Rattle.calls.specs.declared.Controller.{Controller}
-use Rattle.calls.specs.declared.Ran.{Ran}
+use Rattle.store.specs.declared.Controller.{Controller}
+use Rattle.store.specs.Memory.{pending_in}
 use Rattle.calls.specs.Limits.{limits_of}
 use Rattle.calls.specs.Cases.{answer_for}
-
--- a controller from its arrays and its capability
-abbrev pub controller : (slots order counts singles : List ℕ) → Bool → Controller
-controller slots order counts singles ais =
-    record { slots = slots; order = order; counts = counts; singles = singles; ais = ais }
-
--- the pending records of a controller
-abbrev pub pending_in : Controller → Pending
-pending_in c = pending_of c.order c.counts c.slots c.singles
 
 -- the device record after an injection: noted where a record was appended
 abbrev pub noted_in : Bool → Device → Place → Answer → Device
@@ -42,10 +33,10 @@ pub record Injected (places room id queued : ℕ) (ais : Bool) (d : Device) (p :
   pub told : id < places → r ≡ answer_for (injection_of ais d p (leb room queued))
 
 -- A get request.
-pub record Got (group attr : ℕ) (c : Controller) (d : Device) (b b' : List ℕ) (r : Answer) : Type 0 where
+pub record Got (group attr : ℕ) (c : Controller) (d : Device) (b b' : List ℕ) (r : Result ℕ Refusal) : Type 0 where
   pub answer : (s : State) → s.ais ≡ c.ais → s.pending ≡ pending_in c → s.device ≡ device_of d
-      → Answers (limits_of c) s b (request (limits_of c) s (get_request group) attr b) r s b'
-  pub kept : (r.code ≡ 0 → ⊥) → b' ≡ b
+      → Answers (limits_of c) s b (request (limits_of c) s (get_request group) attr b) (as_answer r) s b'
+  pub kept : OnErr r (b' ≡ b)
 
 -- the limits that have the numbers which the code passes on
 abbrev pub limits_from : (places room : ℕ) → Limits
@@ -58,8 +49,8 @@ image_state ais places image pending device =
 
 -- A set request, from the image, the pending records and the device record before it to those after it.
 abbrev pub SetTo : (places room : ℕ) → Bool → (group attr : ℕ) → (b image : List ℕ) → Pending → Device
-    → (image' : List ℕ) → Pending → Ran → Type 0
-SetTo places room ais group attr b image p d image' p' r =
+    → (image' : List ℕ) → Pending → Device → Result ℕ Refusal → Type 0
+SetTo places room ais group attr b image p d image' p' d' r =
     let L = limits_from places room in
     let s = image_state ais places image p d in
-    Answers L s b (request L s (set_request group) attr b) r.answer (image_state ais places image' p' r.device) b
+    Answers L s b (request L s (set_request group) attr b) (as_answer r) (image_state ais places image' p' d') b

@@ -3,7 +3,8 @@ use Rattle.numbers.proofs.Basics.{ℕ, ◌≡◌, refl, ap, sym, ◌∙◌, subs
 use Rattle.rules.specs.{State.Limits, State.State, Outcome.result, Outcome.tell, Outcome.Seen, Outcome.seen, Outcome.answering}
 use Rattle.rules.specs.Machine.{Ask, set_attr, get_attr, guest_take, write_list, play_list, Call, outcome, step, answers, after, answer_of}
 use Rattle.adapters.specs.{declared.Device.Device, declared.Place.Place, Values.place_of}
-use Rattle.calls.specs.{declared.Controller.Controller, Limits.limits_of}
+use Rattle.store.specs.declared.Controller.{Controller}
+use Rattle.calls.specs.Limits.{limits_of}
 use Rattle.flic.specs.Surface.{state_of, Valid, Requested, Taken}
 use Rattle.flic.specs.Chain.{Host, Lends, its_own, another, asked, Leaves, Ran, end, asks, take}
 use Rattle.flic.proofs.Promises.{next-valid, Tabled, refused-table}

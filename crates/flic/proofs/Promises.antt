@@ -6,7 +6,8 @@ use lib.ListN.{length-replicate}
 use Rattle.rules.specs.{Bytes.choose, State.Limits, State.State, State.free, State.fresh, State.nothing, State.paper_limits, State.with_pending, Outcome.Outcome, Outcome.refuse_with, Outcome.refuse, Outcome.need◌else◌⨾◌, Outcome.result, Outcome.tell, Outcome.Seen, Outcome.Answer as Told, Requests.enqueue, Requests.clear_irqs, Requests.clear_io_irq, Requests.set_request, Requests.request, Invariant.All, Invariant.Sound, Take.takes}
 use Rattle.rules.specs.Machine.{Ask, set_attr, get_attr, guest_take, write_list, play_list, outcome, step, answer_of}
 use Rattle.rules.proofs.{Checks.passes, Checks.fails, Checks.chosen, Checks.passed, Lists.all_replicate, Outcomes.Known, Outcomes.Plays, Outcomes.known-outcome, Outcomes.never-zero, Reachable.kept_step, Reachable.fresh-sound}
-use Rattle.answers.specs.{declared.Answer.Answer, Answers.Answers, Answers.answered, Answers.saw}
+use Rattle.std.specs.Prelude.{Result, Ok, Err, OnErr}
+use Rattle.answers.specs.{declared.Answer.Answer, declared.Refusal.Refusal, Answers.Answers, Answers.answered, Answers.as_answer, Answers.saw}
 use Rattle.adapters.specs.{declared.Device.Device, declared.Place.Place, Values.place_of, Values.device_of, Values.unused, Values.Canonical}
 use Rattle.adapters.proofs.Laws.{canonical-unused}
 use Rattle.list_image.specs.{Image.image_size, Image.unpacked, Places.places_of, Places.AllCanonical}
@@ -16,13 +17,19 @@ use Rattle.lent_table.specs.Table.{snap_to, restored}
 use Rattle.lent_requests.specs.Requests.{ModesSet, PlaceSet}
 use Rattle.lent_table.proofs.Tables.{snap-all, restored-all, restored-whole}
 use Rattle.lent_requests.proofs.{Maps.map-replicate}
-use Rattle.calls.specs.{declared.Controller.Controller, Limits.limits_of, Inner.controller, Inner.pending_in, Inner.noted_in, Inner.Injected, Inner.Got}
-use Rattle.list_play.specs.{declared.Played.Played, Play.PlayedTo}
+use Rattle.store.specs.{declared.Controller.Controller, Memory.pending_in}
+use Rattle.calls.specs.{Limits.limits_of, Inner.noted_in, Inner.Injected, Inner.Got}
+use Rattle.list_play.specs.{declared.PlayError.PlayError, Play.PlayedTo, Play.told, Play.made_fresh}
 use Rattle.calls.proofs.Sized.{paper-sized}
 use Rattle.calls.proofs.Limits.{limits-sized, limits-made, limits-kept}
 use Rattle.flic.specs.Surface.{state_of, Ready, Valid, Steps, Made, Requested, Taken}
 use Rattle.store_queues.specs.Queues.{total, Held}
 use Rattle.store.specs.Memory.{pending_of}
+
+-- what a refusal keeps, by its code
+pub refused-keeps : {P : Type 0} (r : Result ℕ Refusal) → OnErr r P → ((as_answer r).code ≡ 0 → ⊥) → P
+refused-keeps (Ok n) k h = absurd (h refl)
+refused-keeps (Err e) k h = k
 
 -- a refusal that changes nothing has a code that is not 0
 refused-code : (ask : Ask) (c c' : Controller) (d d' : Device) (t t' : List Place) (b : List ℕ) (x : Seen) → Steps ask c c' d d' t t' b x
@@ -84,43 +91,27 @@ module _ (c : Controller) (d : Device) (t : List Place) (b : List ℕ) (w : leng
 pub wrong-makes : (L : Limits) (ais : Bool) (c : Controller) (d : Device) (t : List Place) → (length t ≡ L.places → ⊥) → Made L ais c c d d t t (answered 14 0)
 wrong-makes L ais c d t w = record { right = λ e. absurd (w e); wrong = λ _. (refl, refl, refl, refl) }
 
--- ---- What the functions about pending records promise, of the controller's arrays c and what they are then, and of the bytes b and what is left in them.
--- a controller whose arrays stay
-same-arrays : (c : Controller) {slots order counts singles : List ℕ} → slots ≡ c.slots → order ≡ c.order → counts ≡ c.counts → singles ≡ c.singles → controller slots order counts singles c.ais ≡ c
-same-arrays c e₀ e₁ e₂ e₃ = λ i. controller (e₀ i) (e₁ i) (e₂ i) (e₃ i) c.ais
-
+-- ---- What the functions about pending records promise, of the controller c and what it is then, and of the bytes b and what is left in them.
 -- a set request that changes pending records alone
 pub record SetRecords (group attr : ℕ) (c c' : Controller) (b : List ℕ) (r : Answer) : Type 0 where
   pub answer : (s : State) → s.pending ≡ pending_in c → Answers (limits_of c) s b (request (limits_of c) s (set_request group) attr b) r (with_pending (pending_in c') s) b
   pub kept : (r.code ≡ 0 → ⊥) → c' ≡ c
   pub held : Held c'.order c'.counts
 
-module _ (c : Controller) (slots order counts singles : List ℕ) (attr : ℕ) (b : List ℕ) (r : Answer) where
-  abbrev pub Enqueued : Type 0
-  Enqueued = ((L : Limits) (s : State) → L.room ≡ 256 → s.pending ≡ pending_in c → Answers L s b (request L s enqueue attr b) r (with_pending (pending_of order counts slots singles) s) b)
-      × (Held order counts × ((r.code ≡ 0 → ⊥) → (slots ≡ c.slots) × (order ≡ c.order) × (counts ≡ c.counts) × (singles ≡ c.singles)))
+module _ (c c' : Controller) (attr : ℕ) (b : List ℕ) (r : Result ℕ Refusal) (h : Held c'.order c'.counts) (k : OnErr r (c' ≡ c)) where
+  pub enqueued : ((L : Limits) (s : State) → L.room ≡ 256 → s.pending ≡ pending_in c → Answers L s b (request L s enqueue attr b) (as_answer r) (with_pending (pending_in c') s) b)
+      → SetRecords 2 attr c c' b (as_answer r)
+  enqueued f = record { answer = λ s p. f _ s (limits-sized c).room p; kept = refused-keeps r k; held = h }
 
-  pub enqueued : Enqueued → SetRecords 2 attr c (controller slots order counts singles c.ais) b r
-  enqueued f = record { answer = λ s p. f.0 _ s (limits-sized c).room p; kept = λ n. let k = f.1.1 n in same-arrays c k.0 k.1 k.2 k.3; held = f.1.0 }
+  pub cleared : c'.slots ≡ c.slots
+      → ((L : Limits) (s : State) (slots b : List ℕ) → s.pending ≡ pending_of c.order c.counts slots c.singles → Answers L s b (request L s clear_irqs attr b) (as_answer r) (with_pending (pending_of c'.order c'.counts slots c'.singles) s) b)
+      → SetRecords 3 attr c c' b (as_answer r)
+  cleared e f = record { answer = λ s p. rw e (f _ s c.slots b p); kept = refused-keeps r k; held = h }
 
-  abbrev pub Cleared : Type 0
-  Cleared = ((L : Limits) (s : State) (slots b : List ℕ) → s.pending ≡ pending_of c.order c.counts slots c.singles → Answers L s b (request L s clear_irqs attr b) r (with_pending (pending_of order counts slots singles) s) b)
-      × (Held order counts × ((r.code ≡ 0 → ⊥) → (order ≡ c.order) × (counts ≡ c.counts) × (singles ≡ c.singles)))
-
-  pub cleared : Cleared → SetRecords 3 attr c (controller c.slots order counts singles c.ais) b r
-  cleared f = record { answer = λ s p. f.0 _ s _ _ p; kept = λ n. let k = f.1.1 n in same-arrays c refl k.0 k.1 k.2; held = f.1.0 }
-
-  abbrev pub ClearedIo : Type 0
-  ClearedIo = ((L : Limits) (s : State) (singles : List ℕ) → s.pending ≡ pending_of c.order c.counts c.slots singles → Answers L s b (request L s clear_io_irq attr b) r (with_pending (pending_of order counts c.slots singles) s) b)
-      × (Held order counts × ((r.code ≡ 0 → ⊥) → (order ≡ c.order) × (counts ≡ c.counts)))
-
-  pub cleared-io : ClearedIo → SetRecords 8 attr c (controller c.slots order counts c.singles c.ais) b r
-  cleared-io f = record { answer = λ s p. f.0 _ s _ p; kept = λ n. let k = f.1.1 n in same-arrays c refl k.0 k.1 refl; held = f.1.0 }
-
-module _ (subclasses : ℕ) (external mcheck : Bool) (c : Controller) (order counts singles : List ℕ) (b b' : List ℕ) (r : Answer) where
-  abbrev pub TakenOf : Type 0
-  TakenOf = ((L : Limits) (s : State) → s.pending ≡ pending_in c → Answers L s b (takes s subclasses external mcheck b) r (with_pending (pending_of order counts c.slots singles) s) b')
-      × (Held order counts × ((r.code ≡ 0 → ⊥) → (order ≡ c.order) × (counts ≡ c.counts) × (singles ≡ c.singles) × (b' ≡ b)))
+  pub cleared-io : c'.singles ≡ c.singles
+      → ((L : Limits) (s : State) (singles : List ℕ) → s.pending ≡ pending_of c.order c.counts c.slots singles → Answers L s b (request L s clear_io_irq attr b) (as_answer r) (with_pending (pending_of c'.order c'.counts c'.slots singles) s) b)
+      → SetRecords 8 attr c c' b (as_answer r)
+  cleared-io e f = record { answer = λ s p. rw e (f _ s c.singles p); kept = refused-keeps r k; held = h }
 
 -- a set request of one group number is one of an equal number
 pub of-group : (c c' : Controller) (attr : ℕ) (b : List ℕ) (r : Answer) (k g : ℕ) → g ≡ k → SetRecords k attr c c' b r → SetRecords g attr c c' b r
@@ -144,63 +135,74 @@ module _ (group attr : ℕ) (c c' : Controller) (d : Device) (t : List Place) (b
   pub record-promises : c'.ais ≡ c.ais → SetRecords group attr c c' b r → Requested (set_attr group attr) c c' d d t t b (saw r b)
   record-promises a f = promises (set_attr group attr) b (saw r b) h (record-steps a f) f.held h.places (λ n. (f.kept n, refl, refl, refl))
 
--- what `answer_inject` promises of the arrays that it is lent
-abbrev pub InjectedTo : (attr : ℕ) (c : Controller) (slots order counts : List ℕ) → Device → Place → Answer → Type 0
-InjectedTo attr c slots order counts d p r = Injected image_size 256 attr (total c.counts) c.ais d p (pending_of c.order c.counts c.slots) (pending_of order counts slots) r
-    × (Held order counts × ((r.code ≡ 0 → ⊥) → (slots ≡ c.slots) × (order ≡ c.order) × (counts ≡ c.counts)))
+-- what `answer_inject` promises of the controller
+pub record InjectedTo (attr : ℕ) (c c' : Controller) (d : Device) (p : Place) (r : Result ℕ Refusal) : Type 0 where
+  pub injected : Injected image_size 256 attr (total c.counts) c.ais d p (pending_of c.order c.counts c.slots) (pending_of c'.order c'.counts c'.slots) (as_answer r)
+  pub held : Held c'.order c'.counts
+  pub singles : c'.singles ≡ c.singles
+  pub ais : c'.ais ≡ c.ais
+  pub kept : OnErr r (c' ≡ c)
 
 -- an injection: the two single records and the table are as they were
-module _ (attr : ℕ) (c : Controller) (slots order counts : List ℕ) (d : Device) (t : List Place) (b : List ℕ) (r : Answer) (e : length t ≡ (limits_of c).places) (h : Valid c d t) (f : InjectedTo attr c slots order counts d (get_or t attr unused) r) where
-  abbrev injected : Controller
-  injected = controller slots order counts c.singles c.ais
-
+module _ (attr : ℕ) (c c' : Controller) (d : Device) (t : List Place) (b : List ℕ) (r : Result ℕ Refusal) (e : length t ≡ (limits_of c).places) (h : Valid c d t) (f : InjectedTo attr c c' d (get_or t attr unused) r) where
   abbrev noted : Device
-  noted = noted_in c.ais d (get_or t attr unused) r
+  noted = noted_in c.ais d (get_or t attr unused) (as_answer r)
 
-  inject-steps : Steps (set_attr 10 attr) c injected d noted t t b (saw r b)
+  inject-steps : Steps (set_attr 10 attr) c c' d noted t t b (saw (as_answer r) b)
   unfolding state_of place_of choose
-  inject-steps = as_step 10 attr c injected d t b r e h noted t (f.0.answer (limits_of c) (state_of c d t) c.singles b (limits-sized c).places (limits-sized c).room refl refl refl (list-get_or-map place_of t attr unused))
+  inject-steps =
+      as_step 10 attr c c' d t b (as_answer r) e h noted t (
+      f.injected.answer (limits_of c) (state_of c d t) c.singles b (limits-sized c).places (limits-sized c).room refl refl refl (list-get_or-map place_of t attr unused)
+      ∙ (λ i. tell (as_answer r).code (as_answer r).count (record { ais = (sym f.ais) i; adapters = map place_of t; pending = pending_of c'.order c'.counts c'.slots ((sym f.singles) i); device = device_of noted }) b))
 
-  pub inject-promises : Requested (set_attr 10 attr) c injected d noted t t b (saw r b)
-  inject-promises = promises (set_attr 10 attr) b (saw r b) h inject-steps f.1.0 h.places (λ n. let k = f.1.1 n in (same-arrays c k.0 k.1 k.2 refl, f.0.unnoted n, refl, refl))
+  pub inject-promises : Requested (set_attr 10 attr) c c' d noted t t b (saw (as_answer r) b)
+  inject-promises = promises (set_attr 10 attr) b (saw (as_answer r) b) h inject-steps f.held h.places (λ n. (refused-keeps r f.kept n, f.injected.unnoted n, refl, refl))
 
   -- the same for a group that is 10, and a device record that is the noted one
-  pub noted-promises : (group : ℕ) → group ≡ 10 → (m : Device) → noted ≡ m → Requested (set_attr group attr) c injected d m t t b (saw r b)
+  pub noted-promises : (group : ℕ) → group ≡ 10 → (m : Device) → noted ≡ m → Requested (set_attr group attr) c c' d m t t b (saw (as_answer r) b)
   noted-promises group g m n =
-      subst (λ (x : Device). Requested (set_attr group attr) c injected d x t t b (saw r b)) n
-      (subst (λ (g : ℕ). Requested (set_attr g attr) c injected d noted t t b (saw r b)) (sym g) inject-promises)
+      subst (λ (x : Device). Requested (set_attr group attr) c c' d x t t b (saw (as_answer r) b)) n
+      (subst (λ (g : ℕ). Requested (set_attr g attr) c c' d noted t t b (saw (as_answer r) b)) (sym g) inject-promises)
 
 -- about an adapter's place, and about the device record: nothing else changes
-module _ (group attr : ℕ) (c : Controller) (d : Device) (t : List Place) (b : List ℕ) (r : Answer) (e : length t ≡ (limits_of c).places) (h : Valid c d t) where
-  place-steps : (t' : List Place) → PlaceSet group attr t t' b r → Steps (set_attr group attr) c c d d t t' b (saw r b)
+module _ (group attr : ℕ) (c : Controller) (d : Device) (t : List Place) (b : List ℕ) (r : Result ℕ Refusal) (e : length t ≡ (limits_of c).places) (h : Valid c d t) where
+  place-steps : (t' : List Place) → PlaceSet group attr t t' b r → Steps (set_attr group attr) c c d d t t' b (saw (as_answer r) b)
   unfolding state_of
-  place-steps t' f = as_step group attr c c d t b r e h d t' (f.answer (limits_of c) (state_of c d t) (limits-sized c).places refl)
+  place-steps t' f = as_step group attr c c d t b (as_answer r) e h d t' (f.answer (limits_of c) (state_of c d t) (limits-sized c).places refl)
 
-  pub place-promises : (t' : List Place) → PlaceSet group attr t t' b r → Requested (set_attr group attr) c c d d t t' b (saw r b)
-  place-promises t' f = promises (set_attr group attr) b (saw r b) h (place-steps t' f) h.ready (f.canonical h.places) (λ n. (refl, refl, f.kept n, refl))
+  pub place-promises : (t' : List Place) → PlaceSet group attr t t' b r → Requested (set_attr group attr) c c d d t t' b (saw (as_answer r) b)
+  place-promises t' f = promises (set_attr group attr) b (saw (as_answer r) b) h (place-steps t' f) h.ready (f.canonical h.places) (λ n. (refl, refl, refused-keeps r f.kept n, refl))
 
-  modes-steps : (d' : Device) → ModesSet c.ais group attr d d' b r → Steps (set_attr group attr) c c d d' t t b (saw r b)
+  modes-steps : (d' : Device) → ModesSet c.ais group attr d d' b r → Steps (set_attr group attr) c c d d' t t b (saw (as_answer r) b)
   unfolding state_of
-  modes-steps d' f = as_step group attr c c d t b r e h d' t (f.answer (limits_of c) (state_of c d t) refl refl)
+  modes-steps d' f = as_step group attr c c d t b (as_answer r) e h d' t (f.answer (limits_of c) (state_of c d t) refl refl)
 
-  pub modes-promises : (d' : Device) → ModesSet c.ais group attr d d' b r → Requested (set_attr group attr) c c d d' t t b (saw r b)
-  modes-promises d' f = promises (set_attr group attr) b (saw r b) h (modes-steps d' f) h.ready h.places (λ n. (refl, f.kept n, refl, refl))
+  pub modes-promises : (d' : Device) → ModesSet c.ais group attr d d' b r → Requested (set_attr group attr) c c d d' t t b (saw (as_answer r) b)
+  modes-promises d' f = promises (set_attr group attr) b (saw (as_answer r) b) h (modes-steps d' f) h.ready h.places (λ n. (refl, refused-keeps r f.kept n, refl, refl))
 
 -- ---- get requests, with the right table
-module _ (group attr : ℕ) (c : Controller) (d : Device) (t : List Place) (b b' : List ℕ) (r : Answer) (e : length t ≡ (limits_of c).places) (h : Valid c d t) (f : Got group attr c d b b' r) where
-  get-steps : Steps (get_attr group attr) c c d d t t b (saw r b')
+module _ (group attr : ℕ) (c : Controller) (d : Device) (t : List Place) (b b' : List ℕ) (r : Result ℕ Refusal) (e : length t ≡ (limits_of c).places) (h : Valid c d t) (f : Got group attr c d b b' r) where
+  get-steps : Steps (get_attr group attr) c c d d t t b (saw (as_answer r) b')
   unfolding step outcome state_of
   get-steps = ap (answer_of (limits_of c) (state_of c d t) b) (right-table (limits_of c) (length t) 14 _ e) ∙ f.answer (state_of c d t) refl refl refl
 
-  pub get-promises : Requested (get_attr group attr) c c d d t t b (saw r b')
-  get-promises = promises (get_attr group attr) b (saw r b') h get-steps h.ready h.places (λ n. (refl, refl, refl, f.kept n))
+  pub get-promises : Requested (get_attr group attr) c c d d t t b (saw (as_answer r) b')
+  get-promises = promises (get_attr group attr) b (saw (as_answer r) b') h get-steps h.ready h.places (λ n. (refl, refl, refl, refused-keeps r f.kept n))
 
 -- ---- a take: for every device record and every table
-pub take-promises : (subclasses : ℕ) (external mcheck : Bool) (c : Controller) (order counts singles : List ℕ) (b b' : List ℕ) (r : Answer) → TakenOf subclasses external mcheck c order counts singles b b' r
-    → Taken subclasses external mcheck c (controller c.slots order counts singles c.ais) b (saw r b')
+pub take-promises : (subclasses : ℕ) (external mcheck : Bool) (c c' : Controller) (b b' : List ℕ) (r : Result ℕ Refusal)
+    → ((L : Limits) (s : State) → s.pending ≡ pending_in c → Answers L s b (takes s subclasses external mcheck b) (as_answer r) (with_pending (pending_in c') s) b')
+    → Held c'.order c'.counts → c'.ais ≡ c.ais → OnErr r ((c' ≡ c) × (b' ≡ b))
+    → Taken subclasses external mcheck c c' b (saw (as_answer r) b')
 unfolding step outcome state_of
-take-promises subclasses external mcheck c order counts singles b b' r f =
-    record { steps = λ d t. f.0 _ (state_of c d t) refl; kept = λ n. let k = f.1.1 n in (same-arrays c refl k.0 k.1 k.2, k.3); ready = f.1.0; limits = limits-kept c _ }
+take-promises subclasses external mcheck c c' b b' r f h e k =
+    record {
+      steps = λ d t. f _ (state_of c d t) refl
+          ∙ (λ i. tell (as_answer r).code (as_answer r).count (record { ais = (sym e) i; adapters = map place_of t; pending = pending_in c'; device = device_of d }) b');
+      kept = refused-keeps r k;
+      ready = h;
+      limits = limits-kept c _;
+    }
 
 -- ---- a fresh controller, with the right table
 abbrev pub fresh_device : Device
@@ -250,73 +252,70 @@ module _ (c c' : Controller) (d : Device) (t : List Place) (e : length t ≡ pap
       }
 
 -- ---- move lists, with the right table
-module _ (c : Controller) (d : Device) (t : List Place) (b b' : List ℕ) (r : Answer) (e : length t ≡ (limits_of c).places) (h : Valid c d t) (f : Written c.ais d (snap_to t image_size) (pending_in c) b b' r) where
+module _ (c : Controller) (d : Device) (t : List Place) (b b' : List ℕ) (r : Result ℕ Refusal) (e : length t ≡ (limits_of c).places) (h : Valid c d t) (f : Written c.ais d (snap_to t image_size) (pending_in c) b b' r) where
   imaged : map place_of t ≡ map place_of (map unpacked (snap_to t image_size))
   imaged = sym (ap (λ (l : List ℕ). map place_of (map unpacked l)) (snap-all t (e ∙ (limits-sized c).places)) ∙ ap (map place_of) (unpacked-table t h.places))
 
-  write-steps : Steps write_list c c d d t t b (saw r b')
+  write-steps : Steps write_list c c d d t t b (saw (as_answer r) b')
   unfolding step outcome state_of
   write-steps = ap (answer_of (limits_of c) (state_of c d t) b) (right-table (limits_of c) (length t) 14 _ e) ∙ f.answer _ (state_of c d t) refl (imaged ∙ sym (places-all (snap_to t image_size))) refl refl
 
-  pub write-promises : Requested write_list c c d d t t b (saw r b')
-  write-promises = promises write_list b (saw r b') h write-steps h.ready h.places (λ n. (refl, refl, refl, f.kept n))
+  pub write-promises : Requested write_list c c d d t t b (saw (as_answer r) b')
+  write-promises = promises write_list b (saw (as_answer r) b') h write-steps h.ready h.places (λ n. (refl, refl, refl, refused-keeps r f.kept n))
 
 -- the state that a controller's arrays and the first places of an image stand for
 abbrev played_state : (places : ℕ) → Controller → List ℕ → Device → State
 played_state places c image d = record { ais = c.ais; adapters = map place_of (map unpacked (take places image)); pending = pending_in c; device = device_of d }
 
--- what `play_list` promises of the controller's arrays c and what they are then, and of the image
-module _ (c : Controller) (slots order counts singles image : List ℕ) (b : List ℕ) (r : Played) where
-  abbrev pub Replayed : Type 0
-  Replayed = PlayedTo image_size 256 c.ais b image (pending_of order counts slots singles) r
-      × (Held order counts × (r.fresh ≡ false → (slots ≡ c.slots) × (order ≡ c.order) × (counts ≡ c.counts) × (singles ≡ c.singles)))
+-- what `play_list` promises of the controller, and of the image
+pub record Replayed (c c' : Controller) (image : List ℕ) (d d' : Device) (b : List ℕ) (r : Result ℕ PlayError) : Type 0 where
+  pub played : PlayedTo image_size 256 c.ais b image (pending_in c') d' r
+  pub held : Held c'.order c'.counts
+  pub ais : c'.ais ≡ c.ais
+  pub kept : made_fresh r ≡ false → (c' ≡ c) × (d' ≡ d)
 
-module _ (c : Controller) (slots order counts singles image : List ℕ) (d : Device) (t : List Place) (b : List ℕ) (r : Played) (e : length t ≡ (limits_of c).places) (h : Valid c d t) (f : Replayed c slots order counts singles image b r) where
-  abbrev c' : Controller
-  c' = controller slots order counts singles c.ais
-
-  same : r.fresh ≡ false → c' ≡ c
-  same z = let k = f.1.1 z in same-arrays c k.0 k.1 k.2 k.3
-
+module _ (c c' : Controller) (image : List ℕ) (d d' : Device) (t : List Place) (b : List ℕ) (r : Result ℕ PlayError) (e : length t ≡ (limits_of c).places) (h : Valid c d t) (f : Replayed c c' image d d' b r) where
   -- the machine's next state, whether the controller was made fresh or not
   next : State
-  next = choose r.fresh (played_state (limits_of c).places c' image r.device) (state_of c d t)
+  next = choose (made_fresh r) (played_state (limits_of c).places c' image d') (state_of c d t)
 
-  told : step (limits_of c) (state_of c d t) (record { ask = play_list; buffer = b; table_length = length t })
-      ≡ tell r.answer.code r.answer.count next b
+  stepped : step (limits_of c) (state_of c d t) (record { ask = play_list; buffer = b; table_length = length t })
+      ≡ tell (told r).code (told r).count next b
   unfolding step outcome state_of next
-  told = ap (answer_of (limits_of c) (state_of c d t) b) (right-table (limits_of c) (length t) 14 _ e) ∙ f.0.answer (limits_of c) (state_of c d t) (limits-sized c).places (limits-sized c).room refl
-      ∙ (λ i. tell r.answer.code r.answer.count (choose r.fresh (record { ais = c.ais; adapters = images i; pending = pending_in c'; device = device_of r.device }) (state_of c d t)) b)
+  stepped = ap (answer_of (limits_of c) (state_of c d t) b) (right-table (limits_of c) (length t) 14 _ e) ∙ f.played.answer (limits_of c) (state_of c d t) (limits-sized c).places (limits-sized c).room refl
+      ∙ (λ i. tell (told r).code (told r).count (choose (made_fresh r) (record { ais = (sym f.ais) i; adapters = images i; pending = pending_in c'; device = device_of d' }) (state_of c d t)) b)
     where
       images : take image_size (places_of image) ≡ map place_of (map unpacked (take (limits_of c).places image))
       images = places-take image_size image ∙ ap (λ (k : ℕ). map place_of (map unpacked (take k image))) (sym (limits-sized c).places)
 
   -- a refusal of form
-  form : (code count : ℕ) → outcome (limits_of c) (state_of c d t) play_list (length t) b ≡ refuse_with code count → r.fresh ≡ false
+  form : (code count : ℕ) → outcome (limits_of c) (state_of c d t) play_list (length t) b ≡ refuse_with code count → made_fresh r ≡ false
   unfolding outcome state_of
-  form code count o = f.0.refused (limits_of c) (state_of c d t) refl code count (sym (right-table (limits_of c) (length t) 14 _ e) ∙ o)
+  form code count o = f.played.refused (limits_of c) (state_of c d t) refl code count (sym (right-table (limits_of c) (length t) 14 _ e) ∙ o)
 
   -- nothing was changed
-  module _ (z : r.fresh ≡ false) where
-    same-steps : Steps play_list c c' d d t t b (saw r.answer b)
+  module _ (z : made_fresh r ≡ false) where
+    same-steps : Steps play_list c c' d d t t b (saw (told r) b)
     unfolding next
-    same-steps = told ∙ (λ i. tell r.answer.code r.answer.count ((passed _ (played_state (limits_of c).places c' image r.device) (state_of c d t) z ∙ (λ j. state_of ((sym (same z)) j) d t)) i) b)
+    same-steps = stepped ∙ (λ i. tell (told r).code (told r).count ((passed _ (played_state (limits_of c).places c' image d') (state_of c d t) z ∙ (λ j. state_of ((sym (f.kept z).0) j) d t)) i) b)
 
-    pub same-promises : Requested play_list c c' d d t t b (saw r.answer b)
-    same-promises = promises play_list b (saw r.answer b) h same-steps f.1.0 h.places (λ _. (same z, refl, refl, refl))
+    pub same-promises : Requested play_list c c' d d' t t b (saw (told r) b)
+    same-promises =
+        subst (λ (x : Device). Requested play_list c c' d x t t b (saw (told r) b)) (sym (f.kept z).1)
+        (promises play_list b (saw (told r) b) h same-steps f.held h.places (λ _. ((f.kept z).0, refl, refl, refl)))
 
   -- made fresh: the image has all places, since the next state is sound
-  module _ (n : r.fresh ≡ true) where
+  module _ (n : made_fresh r ≡ true) where
     abbrev after : List Place
     after = restored t image image_size
 
-    next-played : next ≡ played_state (limits_of c).places c' image r.device
+    next-played : next ≡ played_state (limits_of c).places c' image d'
     unfolding next
     next-played = chosen _ _ _ n
 
     long : (limits_of c).places ≤ length image
     long =
-        let k = subst (Sound (limits_of c)) (ap (λ (x : Told State). x.next) told ∙ next-played) (kept_step (limits_of c) (state_of c d t) h.sound _).sound in
+        let k = subst (Sound (limits_of c)) (ap (λ (x : Told State). x.next) stepped ∙ next-played) (kept_step (limits_of c) (state_of c d t) h.sound _).sound in
         let l = sym (length-map (take (limits_of c).places image) unpacked) ∙ sym (length-map (map unpacked (take (limits_of c).places image)) place_of) ∙ k.table in
         omega (arith, l, length-take (limits_of c).places image)
 
@@ -325,17 +324,17 @@ module _ (c : Controller) (slots order counts singles image : List ℕ) (d : Dev
 
     canonical : All Canonical (map unpacked (take (limits_of c).places image))
     unfolding AllCanonical
-    canonical = subst (λ (k : ℕ). All Canonical (map unpacked (take k image))) (sym (limits-sized c).places) f.0.canonical
+    canonical = subst (λ (k : ℕ). All Canonical (map unpacked (take k image))) (sym (limits-sized c).places) f.played.canonical
 
-    play-steps : Steps play_list c c' d r.device t after b (saw r.answer b)
+    play-steps : Steps play_list c c' d d' t after b (saw (told r) b)
     unfolding state_of
-    play-steps = told ∙ (λ i. tell r.answer.code r.answer.count ((next-played ∙ ap (λ (l : List Place). state_of c' r.device l) (sym after_is)) i) b)
+    play-steps = stepped ∙ (λ i. tell (told r).code (told r).count ((next-played ∙ ap (λ (l : List Place). state_of c' d' l) (sym after_is)) i) b)
 
-    pub play-promises : Requested play_list c c' d r.device t after b (saw r.answer b)
+    pub play-promises : Requested play_list c c' d d' t after b (saw (told r) b)
     play-promises =
         record {
           steps = play-steps;
           kept = λ code count o. absurd (true≢false (sym n ∙ form code count o));
-          valid = λ _. next-valid play_list b (saw r.answer b) h play-steps f.1.0 (subst (All Canonical) (sym after_is) canonical);
+          valid = λ _. next-valid play_list b (saw (told r) b) h play-steps f.held (subst (All Canonical) (sym after_is) canonical);
           limits = limits-kept c c';
         }

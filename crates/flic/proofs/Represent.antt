@@ -14,7 +14,8 @@ use Rattle.store_queues.specs.Queues.{row, rows, each, total, used, spare, liste
 use Rattle.store_queues.proofs.Laws.{length_up, up-once}
 use Rattle.store_singles.specs.Singles.{if_there, service_of, mchk_of}
 use Rattle.store.specs.Memory.{pending_of}
-use Rattle.calls.specs.{declared.Controller.Controller, Limits.limits_of}
+use Rattle.store.specs.declared.Controller.{Controller}
+use Rattle.calls.specs.Limits.{limits_of}
 use Rattle.calls.proofs.Limits.{limits-sized, limits-kept}
 use Rattle.flic.specs.{Surface.state_of, Surface.Ready, Surface.Valid, Chain.Host}
 

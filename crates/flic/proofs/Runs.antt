@@ -12,7 +12,8 @@ use Rattle.rules.proofs.{Checks.passes, Checks.fails, Reachable.kept_step, Reach
 use Rattle.answers.specs.{declared.Answer.Answer, Answers.answered, Answers.saw}
 use Rattle.adapters.specs.{declared.Device.Device, declared.Place.Place, Values.unused, Values.place_of, Values.device_of}
 use Rattle.store.specs.Memory.{pending_of}
-use Rattle.calls.specs.{declared.Controller.Controller, Limits.limits_of}
+use Rattle.store.specs.declared.Controller.{Controller}
+use Rattle.calls.specs.Limits.{limits_of}
 use Rattle.calls.proofs.Limits.{limits-sized, limits-made, limits-kept}
 use Rattle.flic.specs.{Surface.state_of, Surface.Valid, Surface.Steps, Surface.Requested, Surface.Taken, Claim.Fresh, Claim.machine, Claim.Moved}
 use Rattle.flic.specs.Chain.{Host, Lends, its_own, another, asked, Leaves, Ran, end, asks, take, LentPremise, Premises}

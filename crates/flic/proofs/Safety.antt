@@ -21,7 +21,8 @@ use Rattle.rules.proofs.Outcomes.{Known, Plays, known-outcome, plays-fresh, Answ
 use Rattle.answers.specs.{declared.Answer.Answer, Answers.answered, Answers.saw}
 use Rattle.adapters.specs.{declared.Device.Device, declared.Place.Place, Values.place_of, Values.unused, Values.Canonical}
 use Rattle.adapters.proofs.Laws.{place-is-free}
-use Rattle.calls.specs.{declared.Controller.Controller, Limits.limits_of}
+use Rattle.store.specs.declared.Controller.{Controller}
+use Rattle.calls.specs.Limits.{limits_of}
 use Rattle.flic.specs.{Surface.state_of, Surface.Steps, Surface.Requested, Surface.Taken, Surface.Made, Chain.asked, Safety.SafeRequest, Safety.SafeTake, Safety.IsFresh, Safety.playing, Safety.SafePlay, Safety.SafeMake}
 use Rattle.flic.proofs.{Promises.right-table, Promises.by_length, Promises.Tabled, Promises.refused-table}
 use Rattle.flic.specs.contracts.flic_make as flic-make

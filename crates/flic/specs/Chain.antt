@@ -6,7 +6,7 @@ use Rattle.rules.specs.Outcome.{Seen}
 use Rattle.rules.specs.Machine.{Ask, set_attr, get_attr, guest_take, write_list, play_list, Call}
 use Rattle.adapters.specs.declared.Device.{Device}
 use Rattle.adapters.specs.declared.Place.{Place}
-use Rattle.calls.specs.declared.Controller.{Controller}
+use Rattle.store.specs.declared.Controller.{Controller}
 use Rattle.calls.specs.Limits.{limits_of}
 use Rattle.flic.specs.Surface.{Ready, Premise, Requested, Taken}
 

@@ -8,7 +8,7 @@ use Rattle.rules.specs.Machine.{write_list, play_list, Call, answers, after}
 use Rattle.answers.specs.declared.Answer.{Answer}
 use Rattle.adapters.specs.declared.Device.{Device}
 use Rattle.adapters.specs.declared.Place.{Place}
-use Rattle.calls.specs.declared.Controller.{Controller}
+use Rattle.store.specs.declared.Controller.{Controller}
 use Rattle.flic.specs.Surface.{Made, Requested}
 use Rattle.flic.specs.Chain.{Host, asked, Ran}
 

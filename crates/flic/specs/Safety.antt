@@ -12,7 +12,7 @@ use Rattle.adapters.specs.declared.Device.{Device}
 use Rattle.adapters.specs.declared.Place.{Place}
 use Rattle.adapters.specs.Values.{unused}
 use Rattle.store.specs.Memory.{pending_of}
-use Rattle.calls.specs.declared.Controller.{Controller}
+use Rattle.store.specs.declared.Controller.{Controller}
 use Rattle.calls.specs.Limits.{limits_of}
 use Rattle.answers.specs.Answers.{answered}
 

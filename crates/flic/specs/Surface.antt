@@ -11,7 +11,7 @@ use Rattle.adapters.specs.declared.Place.{Place}
 use Rattle.adapters.specs.Values.{place_of, device_of, Canonical}
 use Rattle.store_queues.specs.Queues.{Held}
 use Rattle.store.specs.Memory.{pending_of}
-use Rattle.calls.specs.declared.Controller.{Controller}
+use Rattle.store.specs.declared.Controller.{Controller}
 use Rattle.calls.specs.Limits.{limits_of}
 use Rattle.answers.specs.Answers.{answered}
 

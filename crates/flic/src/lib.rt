@@ -1,16 +1,17 @@
-// The public calls. A caller uses this crate, lends the records `calls::Controller`, `adapters::Device` and
+// The public calls. A caller uses this crate, lends the records `store::Controller`, `adapters::Device` and
 // `adapters::Place`, and gets an `answers::Answer`.
 #![tactic(auto)]
 
 ghost use Rattle.rules.specs.State.{paper_limits};
 ghost use Rattle.rules.specs.Machine.{set_attr, get_attr, write_list, play_list};
-ghost use Rattle.answers.specs.Answers.{saw};
+ghost use Rattle.answers.specs.Answers.{saw, as_answer};
 ghost use Rattle.flic.specs.Surface.{Ready, Premise, Made, Requested, Taken};
 
 use adapters::{Device, Place};
-use answers::{Answer, EFAULT};
-use calls::Controller;
+use answers::{Answer, Refusal};
+use calls::Bounds;
 use numbers::{AIRQ_INJECT, AdapterId, CLEAR_IO_IRQ, CLEAR_IRQS, ENQUEUE, IDS, PLACES, ROOM};
+use store::Controller;
 
 // A fresh controller with this capability. Its memory holds any values of its types before, for example zeros.
 #[unsafe(no_mangle)]
@@ -24,13 +25,55 @@ pub extern "C" fn flic_make(
         t.old t.new result }
 {
     if t.len() != PLACES {
-        return answers::refuse(EFAULT);
+        return Answer::from(Err(Refusal::Fault));
     }
-    store::fresh(&mut c.order, &mut c.counts, &mut c.singles);
+    store::fresh(c);
     c.ais = ais;
     lent_table::store_device(d, adapters::fresh_device());
     lent_table::clear(t);
-    answers::accept(0)
+    Answer::from(Ok(0))
+}
+
+// A request that sets, told as a Result. Its group is a number, as C gives it, and tested in this order: no jump table
+// on the way to an injection (see adapter_requests::on_place).
+fn set(
+    c: &mut Controller,
+    d: &mut Device,
+    t: &mut [Place],
+    group: u32,
+    attr: u64,
+    payload: &[u8],
+) -> Result<u64, Refusal>
+    requires { Premise c.old d.old t.old }
+    ensures { Requested (set_attr group attr)
+        c.old c.new d.old d.new t.old t.new payload.now (saw (as_answer result) payload.now) }
+{
+    if t.len() != PLACES {
+        return Err(Refusal::Fault);
+    }
+    if group == ENQUEUE {
+        return record_add::enqueue_irqs(c, ROOM, attr, payload);
+    }
+    if group == CLEAR_IRQS {
+        return record_take::clear_irqs(c, attr);
+    }
+    if group == AIRQ_INJECT {
+        let id = AdapterId(attr);
+        let place = lent_table::look_up(t, id);
+        let device = lent_table::read_device(d);
+        let appended = calls::answer_inject(c, IDS, ROOM, device, place, id)?;
+        if appended == 1 {
+            lent_table::note_injection(d, c.ais, place);
+        }
+        return Ok(appended);
+    }
+    if adapter_requests::on_place(group) {
+        return lent_requests::set_place(t, group, attr, payload);
+    }
+    if group == CLEAR_IO_IRQ {
+        return record_take::clear_io(c, attr, payload);
+    }
+    lent_requests::set_modes(d, c.ais, group, attr, payload)
 }
 
 // A request that sets.
@@ -47,54 +90,7 @@ pub extern "C" fn flic_set(
     ensures { Requested (set_attr group attr) c.old c.new d.old d.new
         t.old t.new payload.now (saw result payload.now) }
 {
-    if t.len() != PLACES {
-        return answers::refuse(EFAULT);
-    }
-    if group == ENQUEUE {
-        // A variable of its own: without it every set request stores the payload's address and length on the stack.
-        let records = payload;
-        let r = record_add::enqueue_irqs(
-            &mut c.slots,
-            &mut c.order,
-            &mut c.counts,
-            &mut c.singles,
-            ROOM,
-            attr,
-            records,
-        );
-        return answers::by_fields(r);
-    }
-    if group == CLEAR_IRQS {
-        return record_take::clear_irqs(&mut c.order, &mut c.counts, &mut c.singles, attr);
-    }
-    if group == AIRQ_INJECT {
-        let id = AdapterId(attr);
-        let place = lent_table::look_up(t, id);
-        let device = lent_table::read_device(d);
-        let r = calls::answer_inject(
-            &mut c.slots,
-            &mut c.order,
-            &mut c.counts,
-            IDS,
-            ROOM,
-            c.ais,
-            device,
-            place,
-            id,
-        );
-        if r.count != 1 {
-            return r; // refused, or dropped
-        }
-        lent_table::note_injection(d, c.ais, place);
-        return r;
-    }
-    if adapter_requests::on_place(group) {
-        return lent_requests::set_place(t, group, attr, payload);
-    }
-    if group == CLEAR_IO_IRQ {
-        return record_take::clear_io(&c.slots, &mut c.order, &mut c.counts, attr, payload);
-    }
-    lent_requests::set_modes(d, c.ais, group, attr, payload)
+    Answer::from(set(c, d, t, group, attr, payload))
 }
 
 // A request that gets.
@@ -112,12 +108,10 @@ pub extern "C" fn flic_get(
         t.now t.now out.old (saw result out.new) }
 {
     if t.len() != PLACES {
-        return answers::refuse(EFAULT);
+        return Answer::from(Err(Refusal::Fault));
     }
     let device = lent_table::read_device(d);
-    calls::answer_get(
-        &c.slots, &c.order, &c.counts, &c.singles, c.ais, device, group, attr, out,
-    )
+    Answer::from(calls::answer_get(c, device, group, attr, out))
 }
 
 // The guest's take. It is lent no table and no device record.
@@ -133,16 +127,7 @@ pub extern "C" fn flic_take(
     ensures { Taken subclasses external mcheck c.old c.new out.old
         (saw result out.new) }
 {
-    record_take::take(
-        &c.slots,
-        &mut c.order,
-        &mut c.counts,
-        &mut c.singles,
-        subclasses,
-        external,
-        mcheck,
-        out,
-    )
+    Answer::from(record_take::take(c, subclasses, external, mcheck, out))
 }
 
 // The move list is written to the buffer's start.
@@ -153,13 +138,11 @@ pub extern "C" fn flic_write_list(c: &Controller, d: &Device, t: &[Place], out: 
         t.now t.now out.old (saw result out.new) }
 {
     if t.len() != PLACES {
-        return answers::refuse(EFAULT);
+        return Answer::from(Err(Refusal::Fault));
     }
     let device = lent_table::read_device(d);
     let image = lent_table::snapshot(t);
-    list_write::write_list(
-        &c.slots, &c.order, &c.counts, &c.singles, c.ais, device, &image, out,
-    )
+    Answer::from(list_write::write_list(c, device, &image, out))
 }
 
 // A move list is played: the controller is made fresh, and the list's requests are applied.
@@ -175,24 +158,17 @@ pub extern "C" fn flic_play_list(
         t.old t.new list.now (saw result list.now) }
 {
     if t.len() != PLACES {
-        return answers::refuse(EFAULT);
+        return Answer::from(Err(Refusal::Fault));
     }
     let mut image = list_image::empty();
-    let r = list_play::play_list(
-        &mut c.slots,
-        &mut c.order,
-        &mut c.counts,
-        &mut c.singles,
-        &mut image,
-        IDS,
-        ROOM,
-        c.ais,
-        list,
-    );
-    if !r.fresh {
-        return r.answer;
+    let bounds = Bounds {
+        places: IDS,
+        room: ROOM,
+    };
+    let played = list_play::play_list(c, &mut image, bounds, d, list);
+    if !list_play::made_fresh(played) {
+        return list_play::answer(played); // nothing changed
     }
-    lent_table::store_device(d, r.device);
     lent_table::restore(t, IDS, &image);
-    r.answer
+    list_play::answer(played)
 }

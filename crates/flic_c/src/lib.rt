@@ -1,5 +1,6 @@
 // The public calls for C: libflic.a has these names, and include/flic.h declares them. Each is the function of `flic`
-// of its name, with its promise. What it requires holds of what the calls before have left.
+// of its name, with its promise: a crate is a library or C's archive, not both. What it requires holds of what the
+// calls before have left.
 #![tactic(auto)]
 
 ghost use Rattle.rules.specs.State.{paper_limits};
@@ -9,7 +10,7 @@ ghost use Rattle.flic.specs.Surface.{Ready, Premise, Made, Requested, Taken};
 
 use adapters::{Device, Place};
 use answers::Answer;
-use calls::Controller;
+use store::Controller;
 
 // A fresh controller with this capability. Its memory holds any values of its types before, for example zeros.
 #[unsafe(no_mangle)]

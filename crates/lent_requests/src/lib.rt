@@ -7,7 +7,7 @@ ghost use Rattle.adapter_requests.specs.States.{on_place, stored_by, modes_after
 ghost use Rattle.lent_requests.specs.Requests.{ModesSet, PlaceSet};
 
 use adapters::{Device, Place};
-use answers::Answer;
+use answers::Refusal;
 use numbers::{ADAPTER_REGISTER, AISM, AISM_ALL, APF_ENABLE, AdapterId, IDS};
 
 // The device record after an accepted request about it.
@@ -43,30 +43,30 @@ pub fn change_place(t: &mut [Place], id: AdapterId, group: u32, p: Place)
 }
 
 // A request about the device record: groups 4, 5, 9 and 11; a group that is no request is refused.
-pub fn set_modes(d: &mut Device, ais: bool, group: u32, attr: u64, payload: &[u8]) -> Answer
+pub fn set_modes(
+    d: &mut Device,
+    ais: bool,
+    group: u32,
+    attr: u64,
+    payload: &[u8],
+) -> Result<u64, Refusal>
     requires { (group ≡ 2 → ⊥) × (group ≡ 3 → ⊥) × (group ≡ 8 → ⊥) × (group ≡ 10 → ⊥) × (on_place group ≡ false) }
     ensures { ModesSet ais group attr d.old d.new payload.now result }
 {
-    let code = adapter_requests::modes_code(ais, group, attr, payload);
-    if code != 0 {
-        return answers::refuse(code);
-    }
+    adapter_requests::check_modes(ais, group, attr, payload)?;
     change_modes(d, group, payload);
-    answers::accept(0)
+    Ok(0)
 }
 
 // A request about an adapter's place: REGISTER and MODIFY.
-pub fn set_place(t: &mut [Place], group: u32, attr: u64, payload: &[u8]) -> Answer
+pub fn set_place(t: &mut [Place], group: u32, attr: u64, payload: &[u8]) -> Result<u64, Refusal>
     requires { on_place group ≡ true }
     ensures { PlaceSet group attr t.old t.new payload.now result }
 {
     let id = adapter_requests::payload_id(payload);
     let place = lent_table::look_up(t, id);
-    let code = adapter_requests::place_code(IDS, place, group, attr, payload);
-    if code != 0 {
-        return answers::refuse(code);
-    }
+    adapter_requests::check_place(IDS, place, group, attr, payload)?;
     let after = adapter_requests::place_after(place, group, payload);
     change_place(t, id, group, after);
-    answers::accept(0)
+    Ok(0)
 }

@@ -1,7 +1,8 @@
 -- Laws on a table's image and on a table restored from one.
-use Rattle.numbers.proofs.Basics.{ℕ, zero, suc, ◌+◌, ◌<◌, ◌≤◌, ◌≡◌, refl, sym, ◌∙◌, ap, Bool, true, false, List, map}
-use Rattle.numbers.proofs.Basics.{arith, eqb-true, eqb-false, eqb, length, get_or, set, take, replicate, length-set}
-use Rattle.numbers.proofs.{Basics.length-map, Basics.list-get_or-map, Basics.get_or-set_same, Basics.get_or-set_other, Basics.get_or-take, Basics.length-take-le, Basics.take_all}
+use Rattle.numbers.proofs.Basics.{ℕ, zero, suc, ◌+◌, ◌<◌, ◌≤◌, ◌≡◌, refl, sym, ◌∙◌, ap, List, map}
+use Rattle.numbers.proofs.Basics.{add-one, arith, length, get_or, set, take, replicate, length-set}
+use Rattle.numbers.proofs.{Basics.length-map, Basics.list-get_or-map, Basics.get_or-take, Basics.length-take-le, Basics.take_all}
+use Rattle.std.proofs.lemmas.{Grind.get_or-set_at, List.get_or-set_other, List.get_or-replicate}
 use lib.ListN.{length-replicate}
 use lib.Seq.{ext_get_or}
 use Rattle.adapters.specs.{declared.Place.Place, Values.unused}
@@ -9,76 +10,65 @@ use Rattle.list_image.specs.Image.{image_size, packed, unpacked}
 use Rattle.list_image.proofs.Packed.{unpacked-zero}
 use Rattle.lent_table.specs.Table.{snap_to, restored}
 
-pub one_more : (i : ℕ) → suc i ≡ i + 1
-one_more i = omega arith
-
 pub snap-none : (t : List Place) → replicate image_size 0 ≡ snap_to t 0
 unfolding snap_to
 snap-none t = refl
 
 pub snap-next : (t : List Place) (i : ℕ) → set (snap_to t i) i (packed (get_or t i unused)) ≡ snap_to t (i + 1)
 unfolding snap_to
-snap-next t i = ap (snap_to t) (one_more i)
+snap-next t i = rw (add-one i)
 
-pub length-snap : (t : List Place) (n : ℕ) → length (snap_to t n) ≡ image_size
+pub ruleset snapping = (snap-none, snap-next)
+
+length-snap : (t : List Place) (n : ℕ) → length (snap_to t n) ≡ image_size
 unfolding snap_to
 length-snap t zero = length-replicate {A = ℕ} image_size 0
 length-snap t (suc n) = length-set (snap_to t n) n _ ∙ length-snap t n
-
-pub restored-next : (t : List Place) (all : List ℕ) (i : ℕ) → set (restored t all i) i (unpacked (get_or all i 0)) ≡ restored t all (i + 1)
-unfolding restored
-restored-next t all i = ap (restored t all) (one_more i)
-
--- the same of an image of unused places
-get_or-zeros : (n i : ℕ) → ◌≡◌ {A = ℕ} (get_or (replicate n 0) i 0) 0
-get_or-zeros zero i = refl
-get_or-zeros (suc n) zero = refl
-get_or-zeros (suc n) (suc i) = get_or-zeros n i
-
-pub cleared-next : (t : List Place) (i : ℕ) → set (restored t (replicate image_size 0) i) i unused ≡ restored t (replicate image_size 0) (i + 1)
-cleared-next t i = ap (set (restored t (replicate image_size 0) i) i) (sym (ap unpacked (get_or-zeros image_size i) ∙ unpacked-zero)) ∙ restored-next t (replicate image_size 0) i
 
 pub restored-none : (t : List Place) (all : List ℕ) → restored t all 0 ≡ t
 unfolding restored
 restored-none t all = refl
 
-pub length-restored : (t : List Place) (all : List ℕ) (n : ℕ) → length (restored t all n) ≡ length t
+pub restored-next : (t : List Place) (all : List ℕ) (i : ℕ) → set (restored t all i) i (unpacked (get_or all i 0)) ≡ restored t all (i + 1)
+unfolding restored
+restored-next t all i = rw (add-one i)
+
+pub ruleset restoring = (restored-none, restored-next)
+
+-- the same of an image of unused places
+pub cleared-next : (t : List Place) (i : ℕ) → i < image_size
+    → set (restored t (replicate image_size 0) i) i unused ≡ restored t (replicate image_size 0) (i + 1)
+cleared-next t i h = rw (← restored-next t (replicate image_size 0) i, get_or-replicate {A = ℕ} image_size i 0 0 h, unpacked-zero)
+
+pub ruleset clearing = (restored-none, cleared-next)
+
+length-restored : (t : List Place) (all : List ℕ) (n : ℕ) → length (restored t all n) ≡ length t
 unfolding restored
 length-restored t all zero = refl
 length-restored t all (suc n) = length-set (restored t all n) n _ ∙ length-restored t all n
 
--- a list whose element n is set: that element, or another below it
+-- an element that was set: that one, or another
 set_below : {A : Type 0} (l : List A) (n i : ℕ) (a d x : A) → n < length l → i < suc n → (i ≡ n → a ≡ x) → (i < n → get_or l i d ≡ x) → get_or (set l n a) i d ≡ x
-set_below l n i a d x h below here there = go (eqb i n) refl
-  where
-    go : (u : Bool) → eqb i n ≡ u → get_or (set l n a) i d ≡ x
-    go true e = let is = eqb-true i n e in rw is (get_or-set_same l n a d h ∙ here is)
-    go false e = let is = eqb-false i n e in get_or-set_other l n i a d is ∙ there (omega arith)
+set_below l n i a d x h below here there = grind (arith, get_or-set_at, get_or-set_other)
 
--- the first n bytes of an image are those of the places
-pub snap-at : (t : List Place) (n i d : ℕ) → i < n → n ≤ image_size → get_or (snap_to t n) i d ≡ packed (get_or t i unused)
+-- the first n numbers of an image are those of the places
+snap-at : (t : List Place) (n i d : ℕ) → i < n → n ≤ image_size → get_or (snap_to t n) i d ≡ packed (get_or t i unused)
 unfolding snap_to
 snap-at t zero i d h m = absurd (omega arith)
-snap-at t (suc n) i d h m =
-    set_below (snap_to t n) n i _ d _ (omega (arith, length-snap t n)) h (λ e. rw e) (λ l. snap-at t n i d l (omega arith))
+snap-at t (suc n) i d h m = set_below (snap_to t n) n i _ d _ (omega (arith, length-snap t n)) h (λ e. rw e) (λ l. snap-at t n i d l (omega arith))
 
--- the image of a table with as many places as an image has bytes has the byte of each
+-- the image of a table with as many places as an image has numbers has the number of each
 pub snap-all : (t : List Place) → length t ≡ image_size → snap_to t image_size ≡ map packed t
 snap-all t e =
     ext_get_or (packed unused) (snap_to t image_size) (map packed t) (length-snap t image_size ∙ sym e ∙ sym (length-map t packed))
     (λ i h. snap-at t image_size i (packed unused) (omega (arith, length-snap t image_size)) (omega arith) ∙ sym (list-get_or-map packed t i unused))
 
--- the first n places are those of the image, and the rest stays
-pub restored_at : (t : List Place) (all : List ℕ) (n i : ℕ) (d : Place) → i < n → n ≤ length t → get_or (restored t all n) i d ≡ unpacked (get_or all i 0)
+-- the first n places are those of the image
+restored_at : (t : List Place) (all : List ℕ) (n i : ℕ) (d : Place) → i < n → n ≤ length t → get_or (restored t all n) i d ≡ unpacked (get_or all i 0)
 unfolding restored
 restored_at t all zero i d h m = absurd (omega arith)
 restored_at t all (suc n) i d h m =
     set_below (restored t all n) n i _ d _ (omega (arith, length-restored t all n)) h (λ e. rw e) (λ l. restored_at t all n i d l (omega arith))
-
-pub restored-rest : (t : List Place) (all : List ℕ) (n i : ℕ) (d : Place) → n ≤ i → get_or (restored t all n) i d ≡ get_or t i d
-unfolding restored
-restored-rest t all zero i d h = refl
-restored-rest t all (suc n) i d h = get_or-set_other (restored t all n) n i _ d (λ e. omega arith) ∙ restored-rest t all n i d (omega arith)
 
 -- a table of n places restored whole has the places of the image
 pub restored-all : (t : List Place) (all : List ℕ) (n : ℕ) → length t ≡ n → n ≤ length all → restored t all n ≡ map unpacked (take n all)

@@ -1,5 +1,5 @@
 // Inner crate: the adapter table as a lent slice of places, and the device record behind a reference.
-// Few and thin functions.
+// Few and thin functions, after those by value: the form that paper 01 names.
 #![tactic(auto)]
 
 ghost use Rattle.std.specs.Prelude.{◌≡◌, ◌≤◌, get_or, set, replicate};
@@ -14,11 +14,9 @@ use numbers::{AdapterId, IDS, PLACES, Subclass};
 pub fn look_up(t: &[Place], id: AdapterId) -> Place
     ensures { result ≡ get_or t.now id.0 unused }
 {
-    let i = id.0 as usize;
-    if i < t.len() {
-        return t[i];
-    }
-    adapters::free_place()
+    t.get(id.0 as usize)
+        .copied()
+        .unwrap_or(adapters::free_place())
 }
 
 // Stores p at the id. With an id past the table's end nothing happens.
@@ -26,6 +24,7 @@ pub fn register(t: &mut [Place], id: AdapterId, p: Place)
     ensures { t.new ≡ set t.old id.0 p }
 {
     let i = id.0 as usize;
+    // An index, not get_mut: after get_mut no proof knows the table.
     if i < t.len() {
         t[i] = p;
     }
@@ -37,6 +36,7 @@ pub fn mask(t: &mut [Place], id: AdapterId, on: bool)
         (with_masked on (get_or t.old id.0 unused)) }
 {
     let i = id.0 as usize;
+    // An index, for the same reason.
     if i < t.len() {
         t[i].masked = on;
     }
@@ -87,41 +87,38 @@ pub fn note_injection(d: &mut Device, ais: bool, p: Place)
 }
 
 // The places as an image; a place that is not there reads as free.
+#[tactic(auto, using(crate::proofs::Tables::snapping))]
 pub fn snapshot(t: &[Place]) -> [u64; PLACES]
     ensures { result ≡ snap_to t.now image_size }
 {
     let mut all = list_image::empty();
-    let mut i = 0;
-    while i < IDS {
+    for i in 0..IDS {
         let id = AdapterId(i);
         let p = look_up(t, id);
         list_image::put_place(&mut all, id, p);
-        i += 1;
     }
     all
 }
 
 // The first n places are those of the image.
+#[tactic(auto, using(crate::proofs::Tables::restoring))]
 pub fn restore(t: &mut [Place], n: u64, all: &[u64; PLACES])
     requires { n ≤ image_size }
     ensures { t.new ≡ restored t.old all.now n }
 {
-    let mut i = 0;
-    while i < n {
+    for i in 0..n {
         let id = AdapterId(i);
         let p = list_image::place_at(all, id);
         register(t, id, p);
-        i += 1;
     }
 }
 
 // Every place is free, as in a fresh controller's table.
+#[tactic(auto, using(crate::proofs::Tables::clearing))]
 pub fn clear(t: &mut [Place])
     ensures { t.new ≡ restored t.old (replicate image_size 0) image_size }
 {
-    let mut i = 0;
-    while i < IDS {
+    for i in 0..IDS {
         register(t, AdapterId(i), adapters::free_place());
-        i += 1;
     }
 }

@@ -3,11 +3,15 @@
 
 ghost use Rattle.std.specs.Prelude.{◌≡◌, ◌≤◌, length, eqb};
 ghost use Rattle.rules.specs.MoveList.{header_bytes, ais_flag_in};
+ghost use Rattle.list_play.specs.Play.{told};
 ghost use Rattle.list_fresh.specs.Fresh.{PlayedFresh};
-ghost use Rattle.store.specs.Lent.{after, HeldAfter};
+ghost use Rattle.store_queues.specs.Queues.{Held};
+ghost use Rattle.store.specs.Memory.{pending_in};
 
-use answers::Answer;
-use numbers::{COUNTS, IDS, ORDER_BYTES, ROOM, SINGLES_BYTES, SLOT_BYTES};
+use calls::Bounds;
+use list_play::PlayError;
+use numbers::{IDS, ROOM};
+use store::Controller;
 
 // Whether the flag of a list is 1. A list that is too short for a header is refused in any case.
 fn capable(list: &[u8]) -> bool
@@ -19,22 +23,18 @@ fn capable(list: &[u8]) -> bool
     numbers::read_be(list, 16, 4) == 1
 }
 
-// Makes the lent arrays those of a fresh controller of the list's flag, whatever they held, and plays the list on them.
-pub fn play_fresh(
-    slots: &mut [u8; SLOT_BYTES],
-    order: &mut [u8; ORDER_BYTES],
-    counts: &mut [usize; COUNTS],
-    singles: &mut [u8; SINGLES_BYTES],
-    list: &[u8],
-) -> Answer
-    ensures held { HeldAfter order.new counts.new }
-    ensures answer { PlayedFresh list.now (after order.new counts.new slots.new singles.new) result }
+// Makes a controller fresh, with the capability of the list's flag, whatever it held, and plays the list on it.
+pub fn play_fresh(c: &mut Controller, list: &[u8]) -> Result<u64, PlayError>
+    ensures held { Held c.new.order c.new.counts }
+    ensures answer { PlayedFresh list.now (pending_in c.new) (told result) }
 {
-    store::fresh(order, counts, singles);
+    store::fresh(c);
+    c.ais = capable(list);
     let mut image = list_image::empty();
-    let ais = capable(list);
-    let played = list_play::play_list(
-        slots, order, counts, singles, &mut image, IDS, ROOM, ais, list,
-    );
-    played.answer
+    let mut device = adapters::fresh_device();
+    let bounds = Bounds {
+        places: IDS,
+        room: ROOM,
+    };
+    list_play::play_list(c, &mut image, bounds, &mut device, list)
 }

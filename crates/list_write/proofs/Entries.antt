@@ -1,20 +1,25 @@
 -- Laws of bytes put one after another into a buffer, and of the entries of an image's adapters.
 use Rattle.numbers.proofs.Basics.{◌≡◌, refl, sym, ap, ◌∙◌, Bool, true, false, List, [], ◌∷◌, ◌++◌, append_assoc}
 use Rattle.numbers.proofs.Basics.{append-nil, ℕ, suc, ◌+◌, ◌*◌, ◌/◌, ◌%◌, ◌^◌, ◌≤◌, ◌<◌, add-zero, add_assoc, mul-add}
-use Rattle.numbers.proofs.Basics.{add-one, arith, length, get_or, take, drop, length-append, length-map}
+use Rattle.numbers.proofs.Basics.{add-one, arith, length, get_or, set, take, drop, length-append, length-map}
 use Rattle.numbers.proofs.{Basics.take-append-drop, Basics.drop_of_length-le, Basics.list-get_or-map, Basics.take_at, Basics.take_all, Basics.drop_at, Basics.drop-cons, Basics.drop-drop, Basics.length-take-le, Basics.paste}
 use Rattle.rules.specs.{Bytes.choose, Bytes.bytes, MoveList.ListRequest, MoveList.one_if, MoveList.by_rising_id, MoveList.register_request, MoveList.modify_request, MoveList.payloads, MoveList.written_table}
 use Rattle.rules.specs.State as rules
-use Rattle.rules.proofs.{Codec.length-bytes, Decode.length-table, Decode.flag-le}
+use Rattle.rules.proofs.{Codec.length-bytes, Decode.flag-le}
 use Rattle.adapters.specs.{declared.Place.Place, Values.place_of}
 use Rattle.list_image.specs.{Image.unpacked, Places.places_of}
+use lib.Seq.{paste-zero, paste-suc}
+pub use Rattle.list_image.proofs.Packed.{unpacked-isc}
+pub use Rattle.numbers.proofs.Laws.{flag}
+use Rattle.list_write.specs.declared.Entry.{Entry}
+use Rattle.list_write.specs.declared.Entry.TheVariants.{Register, Modify}
 use Rattle.list_write.specs.Parts.{put, five, entry_of, is_written, group_of, size_of, payload_of}
 
 -- ---- bytes put into a buffer
 module _ (b : List ℕ) (at : ℕ) where
-  pub put-none : b ≡ put b at []
+  pub put_none : b ≡ put b at []
   unfolding put
-  put-none = rw (add-zero at) (sym (take-append-drop at b))
+  put_none = rw (add-zero at) (sym (take-append-drop at b))
 
   -- what is put behind what was put
   pub put-put : (n : ℕ) (x y : List ℕ) → length x ≡ n → at + n ≤ length b → put (put b at x) (at + n) y ≡ put b at (x ++ y)
@@ -33,6 +38,17 @@ module _ (b : List ℕ) (at : ℕ) where
   unfolding put
   put-paste x n e = rw (e, take_all n x (omega arith)) (append_assoc (take at b) x (drop (at + n) b))
 
+-- two bytes
+pub put_bytes : (b : List ℕ) (i x y : ℕ) → i + 2 ≤ length b → set (set b i x) (i + 1) y ≡ put b i (x ∷ y ∷ [])
+put_bytes b i x y h =
+    let xs : List ℕ = x ∷ y ∷ [] in
+    let e₀ : set b i x ≡ set (paste b i xs 0) (i + 0) x = λ j. set (paste-zero b i xs j) (sym (add-zero i) j) x in
+    let e₁ = paste-suc b i xs 0 0 (omega arith) (omega arith) in
+    let e₂ = paste-suc b i xs 1 0 (omega arith) (omega arith) in
+    ap (λ (o : List ℕ). set o (i + 1) y) (e₀ ∙ e₁) ∙ e₂ ∙ put-paste b i xs 2 refl
+
+pub ruleset two = (put_none, put_bytes)
+
 -- one more number behind what was put
 pub put-number : (b o o' : List ℕ) (at n w v : ℕ) (x : List ℕ) → length x ≡ n → at + n ≤ length b → o ≡ put b at x → o' ≡ paste o (at + n) (bytes w v) w
     → o' ≡ put b at (x ++ bytes w v)
@@ -42,10 +58,10 @@ put-number b o o' at n w v x e h p q =
 pub length-five : (w a b c d e : ℕ) → length (five w a b c d e) ≡ 16 + w
 length-five w a b c d e = simp (length-append, length-bytes) (omega arith)
 
-pub five-numbers : (o₀ o₁ o₂ o₃ o₄ o₅ : List ℕ) (at w a b c d e : ℕ) → at + 16 + w ≤ length o₀ → o₁ ≡ paste o₀ at (bytes 4 a) 4
+pub five_numbers : (o₀ o₁ o₂ o₃ o₄ o₅ : List ℕ) (at w a b c d e : ℕ) → at + 16 + w ≤ length o₀ → o₁ ≡ paste o₀ at (bytes 4 a) 4
     → o₂ ≡ paste o₁ (at + 4) (bytes 4 b) 4 → o₃ ≡ paste o₂ (at + 8) (bytes 4 c) 4 → o₄ ≡ paste o₃ (at + 12) (bytes 4 d) 4
     → o₅ ≡ paste o₄ (at + 16) (bytes w e) w → o₅ ≡ put o₀ at (five w a b c d e)
-five-numbers o₀ o₁ o₂ o₃ o₄ o₅ at w a b c d e h p q r s t =
+five_numbers o₀ o₁ o₂ o₃ o₄ o₅ at w a b c d e h p q r s t =
     let f₁ = p ∙ put-paste o₀ at (bytes 4 a) 4 (length-bytes 4 a) in
     let f₂ = put-number o₀ o₁ o₂ at 4 4 b (bytes 4 a) (length-bytes 4 a) (omega arith) f₁ q in
     let f₃ = put-number o₀ o₂ o₃ at 8 4 c (bytes 4 a ++ bytes 4 b) (simp (length-append, length-bytes)) (omega arith) f₂ r in
@@ -67,16 +83,16 @@ table-append at (e ∷ es) fs =
     (simp append_assoc)
 
 -- ---- the entry of one place
-abbrev pub entry_at : Bool → ℕ → Place → ListRequest
-entry_at modify id p = record { group = group_of modify; attr = 0; payload = payload_of modify id p }
+abbrev pub entry_at : Entry → ℕ → Place → ListRequest
+entry_at entry id p = record { group = group_of entry; attr = 0; payload = payload_of entry id p }
 
 abbrev pub maybe : Bool → ListRequest → List ListRequest
 maybe on e = choose on (e ∷ []) []
 
-pub length-payload : (modify : Bool) (id : ℕ) (p : Place) → length (payload_of modify id p) ≡ size_of modify
+pub length-payload : (entry : Entry) (id : ℕ) (p : Place) → length (payload_of entry id p) ≡ size_of entry
 unfolding payload_of
-length-payload true id p = simp (length-append, length-bytes)
-length-payload false id p = simp (length-append, length-bytes)
+length-payload Modify id p = simp (length-append, length-bytes)
+length-payload Register id p = simp (length-append, length-bytes)
 
 module _ (e : ListRequest) where
   pub maybe-length : (on : Bool) → length (maybe on e) ≡ one_if on
@@ -99,74 +115,91 @@ module _ (e : ListRequest) where
   maybe-table true at = rw append-nil
   maybe-table false at = refl
 
-by_place : (modify : Bool) (id : ℕ) (p : Place) (ps : List rules.Place)
-    → by_rising_id (entry_of modify) id (place_of p ∷ ps) ≡ maybe (is_written modify p) (entry_at modify id p) ++ by_rising_id (entry_of modify) (suc id) ps
+by_place : (entry : Entry) (id : ℕ) (p : Place) (ps : List rules.Place)
+    → by_rising_id (entry_of entry) id (place_of p ∷ ps) ≡ maybe (is_written entry p) (entry_at entry id p) ++ by_rising_id (entry_of entry) (suc id) ps
 unfolding place_of choose by_rising_id register_request modify_request payload_of
-by_place modify id p ps = go modify p.used p.masked refl refl
+by_place entry id p ps = go entry p.used p.masked refl refl
   where
-    go : (modify u m : Bool) → p.used ≡ u → p.masked ≡ m
-        → by_rising_id (entry_of modify) id (place_of p ∷ ps) ≡ maybe (is_written modify p) (entry_at modify id p) ++ by_rising_id (entry_of modify) (suc id) ps
-    go true true true e f = rw (e, f)
-    go true true false e f = rw (e, f)
-    go true false m e f = rw e
-    go false true m e f = rw e
-    go false false m e f = rw e
+    go : (entry : Entry) (u m : Bool) → p.used ≡ u → p.masked ≡ m
+        → by_rising_id (entry_of entry) id (place_of p ∷ ps) ≡ maybe (is_written entry p) (entry_at entry id p) ++ by_rising_id (entry_of entry) (suc id) ps
+    go Modify true true e f = rw (e, f)
+    go Modify true false e f = rw (e, f)
+    go Modify false m e f = rw e
+    go Register true m e f = rw e
+    go Register false m e f = rw e
 
 -- ---- the entries of an image, from an id on
-abbrev pub each_from : Bool → ℕ → List ℕ → List ListRequest
-each_from modify i image = by_rising_id (entry_of modify) i (drop i (places_of image))
+abbrev pub each_from : Entry → ℕ → List ℕ → List ListRequest
+each_from entry i image = by_rising_id (entry_of entry) i (drop i (places_of image))
 
 length-places : (image : List ℕ) → length (places_of image) ≡ length image
 unfolding places_of
 length-places image = length-map image (λ b. place_of (unpacked b))
 
-pub each_last : (modify : Bool) (i : ℕ) (image : List ℕ) → length image ≤ i → each_from modify i image ≡ []
-unfolding by_rising_id
-each_last modify i image h = rw (drop_of_length-le (places_of image) {i = i} (rw (length-places image) h))
+-- where none is left
+module _ (entry : Entry) (i : ℕ) (image : List ℕ) (h : length image ≤ i) where
+  each_last : each_from entry i image ≡ []
+  unfolding by_rising_id
+  each_last = rw (drop_of_length-le (places_of image) {i = i} (rw (length-places image) h))
 
-module _ (modify : Bool) (i : ℕ) (image : List ℕ) (h : i < length image) where
+  pub count-done : length (each_from entry i image) ≡ 0
+  count-done = ap length each_last
+
+  pub slots-done : (out : List ℕ) (a p : ℕ) → put out a (written_table p (each_from entry i image)) ≡ out
+  unfolding written_table
+  slots-done out a p = rw each_last (sym (put_none out a))
+
+  pub payloads-done : (out : List ℕ) (a : ℕ) → put out a (payloads (each_from entry i image)) ≡ out
+  unfolding payloads
+  payloads-done out a = rw each_last (sym (put_none out a))
+
+module _ (entry : Entry) (i : ℕ) (image : List ℕ) (h : i < length image) where
   abbrev pub here : Place
   here = unpacked (get_or image i 0)
 
-  pub each_next : each_from modify i image ≡ maybe (is_written modify here) (entry_at modify i here) ++ each_from modify (i + 1) image
+  each_next : each_from entry i image ≡ maybe (is_written entry here) (entry_at entry i here) ++ each_from entry (i + 1) image
   unfolding places_of
   each_next =
       let k : drop i (places_of image) ≡ place_of here ∷ drop (i + 1) (places_of image) =
       drop-cons (places_of image) i (place_of (unpacked 0)) (rw (length-places image) h)
       ∙ rw (list-get_or-map (λ b. place_of (unpacked b)) image i 0, add-one i) in
-      rw (k, add-one i) (by_place modify i here _)
+      rw (k, add-one i) (by_place entry i here _)
 
-  -- a turn of the loops: how many are left, and the room for k bytes of each; then of the table's, and of the payloads'
-  module _ (on : Bool) (t : on ≡ is_written modify here) where
-    pub count_turn : length (each_from modify i image) ≡ one_if on + length (each_from modify (i + 1) image)
-    count_turn = rw (each_next, length-append, maybe-length (entry_at modify i here), t)
+  -- a place that has an entry, and one that has none
+  pub taken : is_written entry here ≡ true → each_from entry i image ≡ entry_at entry i here ∷ each_from entry (i + 1) image
+  unfolding choose
+  taken t = each_next ∙ rw t
 
-    pub room-turn : (a k n : ℕ) → a + k * length (each_from modify i image) ≤ n → a + k * one_if on + k * length (each_from modify (i + 1) image) ≤ n
-    room-turn a k n h = omega (arith, rw count_turn at h, mul-add k (one_if on) (length (each_from modify (i + 1) image)))
+  pub passed-by : is_written entry here ≡ false → each_from entry i image ≡ each_from entry (i + 1) image
+  unfolding choose
+  passed-by t = each_next ∙ rw t
 
-    size_is : length (payloads (maybe on (entry_at modify i here))) ≡ size_of modify * one_if on
-    size_is = rw (maybe-size (entry_at modify i here) on, length-payload modify i here)
+  -- how many are left, and the room for k bytes of each
+  module _ (t : is_written entry here ≡ true) where
+    pub count-taken : length (each_from entry i image) ≡ 1 + length (each_from entry (i + 1) image)
+    count-taken = ap length (taken t) ∙ omega arith
 
-    now-next : each_from modify i image ≡ maybe on (entry_at modify i here) ++ each_from modify (i + 1) image
-    now-next = rw (each_next, t)
+    pub room-taken : (a k n : ℕ) → a + k * length (each_from entry i image) ≤ n → a + k + k * length (each_from entry (i + 1) image) ≤ n
+    room-taken a k n r = omega (arith, rw count-taken at r, mul-add k 1 (length (each_from entry (i + 1) image)))
 
-    module _ (out out' : List ℕ) (a : ℕ) where
-      pub slots-turn : (p : ℕ) → a + 24 * length (each_from modify i image) ≤ length out
-          → out' ≡ put out a (choose on (five 8 p (group_of modify) (size_of modify) 0 0) [])
-          → put out a (written_table p (each_from modify i image)) ≡ put out' (a + 24 * one_if on) (written_table (p + size_of modify * one_if on) (each_from modify (i + 1) image))
-      slots-turn p r e =
-          let x = maybe on (entry_at modify i here) in
-          let k : written_table p x ≡ choose on (five 8 p (group_of modify) (size_of modify) 0 0) [] = maybe-table (entry_at modify i here) on p ∙ rw (length-payload modify i here) in
-          let n : length (written_table p x) ≡ 24 * one_if on = length-table p x ∙ rw (maybe-length (entry_at modify i here) on) in
-          rw (now-next, table-append p x (each_from modify (i + 1) image), size_is, e, ← k)
-          (sym (put-put out a (24 * one_if on) (written_table p x) _ n (omega (arith, room-turn a 24 (length out) r))))
+  table-cons : (p : ℕ) (es : List ListRequest)
+      → written_table p (entry_at entry i here ∷ es) ≡ five 8 p (group_of entry) (size_of entry) 0 0 ++ written_table (p + size_of entry) es
+  unfolding written_table
+  table-cons p es = rw (length-payload entry i here) (simp append_assoc)
 
-      pub payloads-turn : a + size_of modify * length (each_from modify i image) ≤ length out → out' ≡ put out a (choose on (payload_of modify i here) [])
-          → put out a (payloads (each_from modify i image)) ≡ put out' (a + size_of modify * one_if on) (payloads (each_from modify (i + 1) image))
-      payloads-turn r e =
-          let x = maybe on (entry_at modify i here) in
-          rw (now-next, payloads-append x (each_from modify (i + 1) image), e, ← maybe-payloads (entry_at modify i here) on)
-          (sym (put-put out a (size_of modify * one_if on) (payloads x) _ size_is (omega (arith, room-turn a (size_of modify) (length out) r))))
+  -- a turn of the loops where a place has an entry: of the table's, and of the payloads'
+  module _ (t : is_written entry here ≡ true) (out out' : List ℕ) (a : ℕ) where
+    pub slots-turn : (p : ℕ) → a + 24 ≤ length out → out' ≡ put out a (five 8 p (group_of entry) (size_of entry) 0 0)
+        → put out a (written_table p (each_from entry i image)) ≡ put out' (a + 24) (written_table (p + size_of entry) (each_from entry (i + 1) image))
+    slots-turn p r e =
+        rw (taken t, table-cons p, e) (sym (put-put out a 24 (five 8 p (group_of entry) (size_of entry) 0 0) _ (length-five 8 p (group_of entry) (size_of entry) 0 0) r))
+
+    pub payloads-turn : a + size_of entry ≤ length out → out' ≡ put out a (payload_of entry i here)
+        → put out a (payloads (each_from entry i image)) ≡ put out' (a + size_of entry) (payloads (each_from entry (i + 1) image))
+    unfolding payloads
+    payloads-turn r e = rw (taken t, e) (sym (put-put out a (size_of entry) (payload_of entry i here) _ (length-payload entry i here) r))
+
+pub ruleset turns = (count-taken, count-done, room-taken, passed-by, slots-turn, payloads-turn, slots-done, payloads-done, unpacked-isc)
 
 -- the four bytes of REGISTER behind the id
 pub four_bytes : (a b c d : ℕ) → a < 256 → b ≤ 1 → c ≤ 1 → d ≤ 1 → bytes 4 (a * 16777216 + (b * 65536 + c * 256 + d)) ≡ a ∷ b ∷ c ∷ d ∷ []
@@ -179,16 +212,10 @@ four_bytes a b c d p q r s =
     let e₄ : v / 256 ^ 0 % 256 ≡ d = omega arith in
     λ i. e₁ i ∷ e₂ i ∷ e₃ i ∷ e₄ i ∷ []
 
--- room for a payload
-pub payload-room : (on modify : Bool) (at n : ℕ) → at + size_of modify * one_if on ≤ n → on ≡ true → (at + 8 ≤ n) × (modify ≡ true → at + 16 ≤ n)
-payload-room true true at n h e = (omega arith, λ f. omega arith)
-payload-room true false at n h e = (omega arith, λ f. let z : ◌≡◌ {A = ℕ} 0 1 = cc in absurd (omega arith))
-payload-room false modify at n h e = let z : ◌≡◌ {A = ℕ} 0 1 = cc in absurd (omega arith)
-
 -- what the calls write of a MODIFY and of a REGISTER
 module _ (o₀ o₁ o₂ : List ℕ) (at id : ℕ) (p : Place) (h : at + 8 ≤ length o₀) (f : o₁ ≡ paste o₀ at (bytes 4 id) 4) where
   pub modify-put : (o₃ : List ℕ) → o₂ ≡ paste o₁ (at + 4) (bytes 4 16842752) 4 → o₃ ≡ paste o₂ (at + 8) (bytes 8 0) 8
-      → o₃ ≡ put o₀ at (payload_of true id p)
+      → o₃ ≡ put o₀ at (payload_of Modify id p)
   unfolding payload_of bytes
   modify-put o₃ g k =
       let f₁ = f ∙ put-paste o₀ at (bytes 4 id) 4 (length-bytes 4 id) in
@@ -196,28 +223,30 @@ module _ (o₀ o₁ o₂ : List ℕ) (at id : ℕ) (p : Place) (h : at + 8 ≤ l
       put-number o₀ o₂ o₃ at 8 8 0 (bytes 4 id ++ bytes 4 16842752) (simp length-append) h f₂ k
 
   pub register-put : o₂ ≡ paste o₁ (at + 4) (bytes 4 (p.isc.0 * 16777216 + (one_if p.maskable * 65536 + one_if p.swap * 256 + one_if p.suppressible))) 4
-      → p.isc.0 ≤ 7 → o₂ ≡ put o₀ at (payload_of false id p)
+      → p.isc.0 ≤ 7 → o₂ ≡ put o₀ at (payload_of Register id p)
   unfolding payload_of
   register-put g k =
       put-number o₀ o₁ o₂ at 4 4 _ (bytes 4 id) (length-bytes 4 id) (omega arith) (f ∙ put-paste o₀ at (bytes 4 id) 4 (length-bytes 4 id)) g
       ∙ rw (four_bytes p.isc.0 (one_if p.maskable) (one_if p.swap) (one_if p.suppressible) (omega arith) (flag-le p.maskable) (flag-le p.swap) (flag-le p.suppressible))
 
+pub ruleset payload = (modify-put, register-put, flag)
+
 -- the payloads of all adapters' entries have one length each
-pub each-size : (modify : Bool) (id : ℕ) (image : List ℕ)
-    → let es = by_rising_id (entry_of modify) id (places_of image) in length (payloads es) ≡ size_of modify * length es
+pub each-size : (entry : Entry) (id : ℕ) (image : List ℕ)
+    → let es = by_rising_id (entry_of entry) id (places_of image) in length (payloads es) ≡ size_of entry * length es
 unfolding places_of by_rising_id payloads
-each-size modify id [] = omega arith
-each-size modify id (b ∷ image) =
-    let x = maybe (is_written modify (unpacked b)) (entry_at modify id (unpacked b)) in
-    let es = by_rising_id (entry_of modify) (suc id) (places_of image) in
+each-size entry id [] = omega arith
+each-size entry id (b ∷ image) =
+    let x = maybe (is_written entry (unpacked b)) (entry_at entry id (unpacked b)) in
+    let es = by_rising_id (entry_of entry) (suc id) (places_of image) in
     rw (
-      by_place modify id (unpacked b) (places_of image),
+      by_place entry id (unpacked b) (places_of image),
       payloads-append x es,
       length-append (payloads x) (payloads es),
       length-append x es,
-      mul-add (size_of modify) (length x) (length es),
-      each-size modify (suc id) image,
-      maybe-size (entry_at modify id (unpacked b)) (is_written modify (unpacked b)),
-      maybe-length (entry_at modify id (unpacked b)) (is_written modify (unpacked b)),
-      length-payload modify id (unpacked b),
+      mul-add (size_of entry) (length x) (length es),
+      each-size entry (suc id) image,
+      maybe-size (entry_at entry id (unpacked b)) (is_written entry (unpacked b)),
+      maybe-length (entry_at entry id (unpacked b)) (is_written entry (unpacked b)),
+      length-payload entry id (unpacked b),
     )

@@ -1,14 +1,15 @@
 -- Laws of a list's parts put one after another, and of what is counted of them.
 use Rattle.numbers.proofs.Basics.{◌≡◌, refl, sym, ap, ◌∙◌, Bool, true, false, ◌&&◌, ◌||◌, List, [], ◌∷◌, ◌++◌}
-use Rattle.numbers.proofs.Basics.{flatten, append_assoc, append-nil, ℕ, ◌+◌, ◌-◌, ◌*◌, ◌/◌, ◌%◌, ◌^◌, ◌≤◌, ◌<◌}
+use Rattle.numbers.proofs.Basics.{flatten, append_assoc, append-nil, ℕ, ◌+◌, ◌-◌, ◌*◌, ◌≤◌, ◌<◌}
 use Rattle.numbers.proofs.Basics.{zero-add, arith, length, take, drop, length-append, length-drop, drop_of_length-le}
 use Rattle.numbers.proofs.Basics.{take_all, drop-drop, ltb, lt-ltb, le-leb, lt-leb}
-use Rattle.rules.specs.{Bytes.choose, Bytes.bytes, State.Limits, State.State, State.Pending, State.Record, State.listing, Outcome.result, Requests.non_zero, Machine.answer_of}
+use Rattle.rules.specs.{Bytes.choose, State.Limits, State.State, State.Pending, State.Record, State.listing, Outcome.result, Requests.non_zero, Machine.answer_of}
 use Rattle.rules.specs.MoveList.{ListRequest, one_if, by_rising_id, register_request, modify_request, enqueue_request, aism_all_request, apf_request, list_requests, payloads, written_table, total, move_list, writes}
 use Rattle.rules.proofs.{Checks.passes, Checks.fails, Decode.length-table}
-use Rattle.answers.specs.{declared.Answer.Answer, Answers.Answers, Answers.answered}
+use Rattle.answers.specs.{Answers.Answers, Answers.answered}
 use Rattle.adapters.specs.{declared.Device.Device, Values.device_of}
 use Rattle.list_image.specs.Places.{places_of}
+use Rattle.list_write.specs.declared.Entry.TheVariants.{Register, Modify}
 use Rattle.list_write.specs.{Parts.put, Parts.five, Parts.each, declared.Parts.Parts}
 use Rattle.list_write.proofs.Entries.{put-put, length-five, maybe, maybe-length, maybe-payloads, maybe-size, maybe-table, payloads-append, table-append, each-size}
 use Rattle.list_write.specs.Write.{mask_entry, adapter_entries, other_entries, entries_from, other_count, count_of, bytes_of, Counted, WholeListing}
@@ -68,11 +69,11 @@ module _ (rs : List Record) (n : ℕ) (w : WholeListing rs n) where
 
 -- ---- how many they are, and how long
 module _ (image : List ℕ) (p : Parts) (k : Counted image p) where
-  pub registers-size : length (payloads (each false image)) ≡ 8 * p.registers
-  registers-size = rw k.registers (each-size false 0 image)
+  pub registers-size : length (payloads (each Register image)) ≡ 8 * p.registers
+  registers-size = rw k.registers (each-size Register 0 image)
 
-  modifies-size : length (payloads (each true image)) ≡ 16 * p.modifies
-  modifies-size = rw k.modifies (each-size true 0 image)
+  modifies-size : length (payloads (each Modify image)) ≡ 16 * p.modifies
+  modifies-size = rw k.modifies (each-size Modify 0 image)
 
   pub adapters-count : length (adapter_entries image) ≡ p.registers + p.modifies
   unfolding adapter_entries
@@ -80,7 +81,7 @@ module _ (image : List ℕ) (p : Parts) (k : Counted image p) where
 
   pub adapters-size : length (payloads (adapter_entries image)) ≡ 8 * p.registers + 16 * p.modifies
   unfolding adapter_entries
-  adapters-size = rw (payloads-append (each false image) (each true image), length-append, registers-size, modifies-size)
+  adapters-size = rw (payloads-append (each Register image) (each Modify image), length-append, registers-size, modifies-size)
 
   module _ (rs : List Record) (simm nimm : ℕ) (w : WholeListing rs p.records) where
     others-count : length (other_entries rs p.masks simm nimm p.apf) ≡ other_count p
@@ -103,19 +104,12 @@ module _ (image : List ℕ) (p : Parts) (k : Counted image p) where
         rw (payloads-append (adapter_entries image) (other_entries rs p.masks simm nimm p.apf), length-append, adapters-size, others-size) (omega arith)
 
 -- ---- where the listing is put
-pub listing-put : (b ys fs : List ℕ) (at n : ℕ) → at + n ≤ length b → length fs ≡ n → ys ≡ fs ++ drop n (take (length b - at) (drop at b))
+pub listing_put : (b ys fs : List ℕ) (at n : ℕ) → at + n ≤ length b → length fs ≡ n → ys ≡ fs ++ drop n (take (length b - at) (drop at b))
     → take at b ++ (ys ++ drop (length b - at) (drop at b)) ≡ put b at fs
 unfolding put
-listing-put b ys fs at n h e p =
+listing_put b ys fs at n h e p =
     let long : length (drop at b) ≤ length b - at = rw length-drop (omega arith) in
     rw (p, drop_of_length-le (drop at b) {i = length b - at} long, append-nil, take_all (length b - at) (drop at b) long, drop-drop n at b, e)
-
-pub two_bytes : (a b : ℕ) → a < 256 → b < 256 → bytes 2 (a * 256 + b) ≡ a ∷ b ∷ []
-unfolding bytes
-two_bytes a b h k =
-    let e₁ : (a * 256 + b) / 256 ^ 1 % 256 ≡ a = omega arith in
-    let e₂ : (a * 256 + b) / 256 ^ 0 % 256 ≡ b = omega arith in
-    λ i. e₁ i ∷ e₂ i ∷ []
 
 -- ---- the whole list
 pub entries-are : (s : State) (ais : Bool) (image : List ℕ) (p : Pending) (d : Device) (masks : Bool) → s.ais ≡ ais → s.adapters ≡ places_of image
@@ -126,7 +120,7 @@ entries-are s ais image p d masks e1 e2 e3 e4 em =
     (λ i. by_rising_id register_request 0 (e2 i)
     ++ (by_rising_id modify_request 0 (e2 i)
     ++ (enqueue_request (listing (e3 i)) ++ (aism_all_request (e1 i) (e4 i).simm (e4 i).nimm ++ apf_request (e4 i).apf))))
-    ∙ rw em (sym (append_assoc (each false image) (each true image) _))
+    ∙ rw em (sym (append_assoc (each Register image) (each Modify image) _))
 
 at-start : (b x : List ℕ) → put b 0 x ≡ x ++ drop (length x) b
 unfolding put
@@ -145,17 +139,17 @@ module _ (ais : Bool) (es : List ListRequest) (o₀ o₁ o₂ o₃ : List ℕ) (
       f₂ ∙ rw x (at-start o₀ (move_list ais es))
 
 -- the answer where the list does not fit, and where it does
-module _ (L : Limits) (s : State) (b : List ℕ) (a : Answer) (t : ℕ) (es : List ListRequest) (e : es ≡ list_requests s) (et : t ≡ total es) where
-  pub too_short : length b < t → a ≡ answered 12 0 → Answers L s b (writes s b) a s b
+module _ (L : Limits) (s : State) (b : List ℕ) (t : ℕ) (es : List ListRequest) (e : es ≡ list_requests s) (et : t ≡ total es) where
+  pub too_short : length b < t → Answers L s b (writes s b) (answered 12 0) s b
   unfolding writes result
-  too_short h f = ap (answer_of L s b) (fails _ _ _ (lt-leb (total (list_requests s)) (length b) (rw (← e, ← et) h))) ∙ rw f
+  too_short h = ap (answer_of L s b) (fails _ _ _ (lt-leb (total (list_requests s)) (length b) (rw (← e, ← et) h)))
 
-  pub written : (out : List ℕ) (ais : Bool) → s.ais ≡ ais → t ≤ length b → a ≡ answered 0 t
-      → out ≡ move_list ais es ++ drop (length (move_list ais es)) b → Answers L s b (writes s b) a s out
+  pub written : (out : List ℕ) (ais : Bool) → s.ais ≡ ais → t ≤ length b
+      → out ≡ move_list ais es ++ drop (length (move_list ais es)) b → Answers L s b (writes s b) (answered 0 t) s out
   unfolding writes result
-  written out ais ea h f g =
+  written out ais ea h g =
       ap (answer_of L s b) (passes _ _ _ (le-leb (total (list_requests s)) (length b) (rw (← e, ← et) h)))
-      ∙ rw (f, ← e, ea) (rw (← et, g))
+      ∙ rw (← e, ea) (rw (← et, g))
 
 -- ---- what the calls put
 module _ (p : Parts) (rs : List Record) (simm nimm : ℕ) (w : WholeListing rs p.records) where
@@ -178,18 +172,18 @@ module _ (p : Parts) (rs : List Record) (simm nimm : ℕ) (w : WholeListing rs p
       (rw (apf-is p.apf, maybe-table of_apf p.apf (pay + 72 * p.records + 2 * m)) k)
       ∙ ap (λ (es : List ListRequest). put o₀ at (written_table pay es)) (append_assoc E M (apf_request p.apf))
 
-  pub payloads-put : (image : List ℕ) → Counted image p → (start : ℕ) (o₀ o₁ o₂ o₃ o₄ : List ℕ) → start + bytes_of p ≤ length o₀
-      → o₁ ≡ put o₀ start (payloads (each false image)) → o₂ ≡ put o₁ (start + 8 * p.registers) (payloads (each true image))
+  pub payloads_put : (image : List ℕ) → Counted image p → (start : ℕ) (o₀ o₁ o₂ o₃ o₄ : List ℕ) → start + bytes_of p ≤ length o₀
+      → o₁ ≡ put o₀ start (payloads (each Register image)) → o₂ ≡ put o₁ (start + 8 * p.registers) (payloads (each Modify image))
       → o₃ ≡ put o₂ (start + 8 * p.registers + 16 * p.modifies) (flatten rs)
       → o₄ ≡ put o₃ (start + 8 * p.registers + 16 * p.modifies + 72 * p.records) (choose p.masks (simm ∷ nimm ∷ []) [])
       → o₄ ≡ put o₀ start (payloads (entries_from image rs p.masks simm nimm p.apf))
   unfolding adapter_entries other_entries
-  payloads-put image k start o₀ o₁ o₂ o₃ o₄ h f g i j =
+  payloads_put image k start o₀ o₁ o₂ o₃ o₄ h f g i j =
       let A = adapter_entries image in
       let E = enqueue_request rs in
       let M = mask_entry p.masks simm nimm in
       let s = adapters-size image p k in
-      let g₂ = payloads-next o₀ o₁ o₂ start (each false image) (each true image) _ _ (registers-size image p k) (omega arith) refl f g in
+      let g₂ = payloads-next o₀ o₁ o₂ start (each Register image) (each Modify image) _ _ (registers-size image p k) (omega arith) refl f g in
       let g₃ = payloads-next o₀ o₂ o₃ start A E _ (start + 8 * p.registers + 16 * p.modifies) s (omega arith) (omega arith) g₂ (rw (enqueue-payloads rs) i) in
       let y : length (payloads (A ++ E)) ≡ 8 * p.registers + 16 * p.modifies + 72 * p.records = rw (payloads-append A E, length-append, s, enqueue-size rs p.records w) in
       payloads-next o₀ o₃ o₄ start (A ++ E) M _ (start + 8 * p.registers + 16 * p.modifies + 72 * p.records) y (omega arith) (omega arith) g₃ (rw (maybe-payloads (of_masks simm nimm) p.masks) j)

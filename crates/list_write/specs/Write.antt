@@ -1,13 +1,14 @@
 -- 01, 'Move list', written: the entries of a list, by what the code counts of them.
-use Rattle.std.specs.Prelude.{ℕ, ◌+◌, ◌*◌, ◌≤◌, ◌≡◌, Bool, true, false, length, ltb}
+use Rattle.std.specs.Prelude.{ℕ, ◌+◌, ◌*◌, ◌≤◌, ◌≡◌, Bool, length, ltb, Result, OnErr}
 use mathlib.Core.List.{List, [], ◌∷◌, ◌++◌, flatten}
 use Rattle.rules.specs.Bytes.{choose}
 use Rattle.rules.specs.State.{Limits, State, Pending, Record, record_bytes}
 use Rattle.rules.specs.MoveList.{ListRequest, one_if, enqueue_request, apf_request, writes}
 use Rattle.list_write.specs.Parts.{each}
+use Rattle.list_write.specs.declared.Entry.TheVariants.{Register, Modify}
 use Rattle.list_write.specs.declared.Parts.{Parts}
-use Rattle.answers.specs.declared.Answer.{Answer}
-use Rattle.answers.specs.Answers.{Answers}
+use Rattle.answers.specs.declared.Refusal.{Refusal}
+use Rattle.answers.specs.Answers.{Answers, as_answer}
 use Rattle.adapters.specs.declared.Device.{Device}
 use Rattle.adapters.specs.Values.{device_of}
 use Rattle.list_image.specs.Image.{image_size}
@@ -21,7 +22,7 @@ mask_entry masks simm nimm = choose masks (record { group = 11; attr = 0; payloa
 -- the entries REGISTER and MODIFY of an image's adapters; the entries ENQUEUE of the records, AISM_ALL and APF_ENABLE;
 -- all of these
 unfoldable pub adapter_entries : List ℕ → List ListRequest
-adapter_entries image = each false image ++ each true image
+adapter_entries image = each Register image ++ each Modify image
 
 unfoldable pub other_entries : List Record → Bool → ℕ → ℕ → Bool → List ListRequest
 other_entries rs masks simm nimm apf = enqueue_request rs ++ (mask_entry masks simm nimm ++ apf_request apf)
@@ -49,8 +50,8 @@ most_payload = (8 + 16) * image_size + record_bytes * most_pending + 2
 -- the counts of a whole image's entries, with their bounds and that of the records
 pub record Counted (image : List ℕ) (p : Parts) : Type 0 where
   pub whole : length image ≡ image_size
-  pub registers : p.registers ≡ length (each false image)
-  pub modifies : p.modifies ≡ length (each true image)
+  pub registers : p.registers ≡ length (each Register image)
+  pub modifies : p.modifies ≡ length (each Modify image)
   pub few_registers : p.registers ≤ image_size
   pub few_modifies : p.modifies ≤ image_size
   pub few_records : p.records ≤ most_pending
@@ -61,7 +62,8 @@ pub record WholeListing (rs : List Record) (n : ℕ) : Type 0 where
   pub size : length (flatten rs) ≡ record_bytes * n
 
 -- writing a list: p is what is pending, the table is given as an image, and the device record by value
-pub record Written (ais : Bool) (d : Device) (image : List ℕ) (p : Pending) (b b' : List ℕ) (r : Answer) : Type 0 where
+pub record Written (ais : Bool) (d : Device) (image : List ℕ) (p : Pending) (b b' : List ℕ) (r : Result ℕ Refusal)
+    : Type 0 where
   pub answer : (L : Limits) (s : State) → s.ais ≡ ais → s.adapters ≡ places_of image → s.pending ≡ p
-      → s.device ≡ device_of d → Answers L s b (writes s b) r s b'
-  pub kept : (r.code ≡ 0 → ⊥) → b' ≡ b
+      → s.device ≡ device_of d → Answers L s b (writes s b) (as_answer r) s b'
+  pub kept : OnErr r (b' ≡ b)

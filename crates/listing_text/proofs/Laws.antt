@@ -1,12 +1,15 @@
 -- What a played list prints.
 use Rattle.numbers.proofs.Basics.{◌≡◌, sym, ◌∙◌, List, ◌++◌, ℕ, ◌≤◌, ◌<◌, zero-add, length, take, drop, take-length}
-use Rattle.numbers.proofs.Basics.{length-take-le, eqb, lt-ltb, le-ltb}
+use Rattle.numbers.proofs.Basics.{length-take-le, eqb, lt-ltb, le-ltb, arith, length-paste}
 use Rattle.rules.specs.{Bytes.choose, State.Pending, State.listing, Listing.shown, Listing.refusal, Listing.told, Listing.most_bytes, Listing.printed}
 use Rattle.rules.proofs.Checks.{chosen, passed}
 use Rattle.list_fresh.specs.Fresh.{PlayedFresh}
 use Rattle.answers.specs.declared.Answer.{Answer}
 use Rattle.listing_text.specs.Wrote.{Wrote}
-use Rattle.listing_text.proofs.Text.{wrote-long}
+
+-- the buffer is as long as it was
+wrote-long : {d e : List ℕ} {at : ℕ} {t : List ℕ} {i : ℕ} → Wrote d e at t i → length e ≡ length d
+wrote-long {d} {e} {at} {t} w = rw w.now (length-paste d at t (length t) (omega (arith, w.ends, w.fits)) (omega arith))
 
 -- text from the buffer's start
 pub whole : {d e t : List ℕ} {n : ℕ} (u : List ℕ) → Wrote d e 0 t n → u ≡ t

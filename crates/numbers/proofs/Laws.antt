@@ -1,49 +1,19 @@
--- Laws of lists that are mapped, of copies within a list, of big-endian numbers, and of the eight subclasses.
-use mathlib.Core.{Path.◌≡◌, Path.refl, Path.sym, Path.ap, Path.◌∙◌, List.List, List.[], List.◌∷◌, List.◌++◌, List.append_assoc, List.append-nil, List.map}
+-- Laws of copies within a list, of big-endian numbers, of the eight subclasses, and of a flag as a number.
+use mathlib.Core.{Bool.Bool, Bool.true, Bool.false, Path.◌≡◌, Path.refl, Path.sym, Path.ap, Path.◌∙◌, List.List, List.[], List.◌∷◌, List.◌++◌, List.append_assoc}
 use Prim.Native.Nat.{ℕ, zero, suc, ◌+◌, ◌-◌, ◌*◌, ◌/◌, ◌%◌, ◌^◌, ◌≤◌, ◌<◌}
-use native.Mathlib.Nat.{zero-add, suc-add, not-suc-le-zero, le_of_suc-le-suc, add-zero, add-suc, mul-one, pow-zero, mul_assoc, pow-suc, pow-le-pow_right, div-div-eq-div-mul}
+use native.Mathlib.Nat.{add-zero, add-suc, mul-one, pow-zero, mul_assoc, pow-suc, pow-le-pow_right, div-div-eq-div-mul}
 use native.Mathlib.{Numerals.add-one, Omega.arith}
-use lib.ListN.{length, take, drop, get_or, set, length-drop, length-append, length-set, drop_of_length-le}
-use lib.Seq.{take-nil, take_at, drop_at, take-append-le, take-take, take_all, take-suc, take-add, drop-cons, drop-drop, drop-paste, get_or-drop, length-take-le, set_at, paste, paste-zero, paste-suc}
-use Rattle.rules.specs.Bytes.{number, part, field}
-
--- ---- a function on every element
-module _ {A B : Type 0} (f : A → B) where
-  pub map-take : (n : ℕ) (l : List A) → map f (take n l) ≡ take n (map f l)
-  map-take zero l = refl
-  map-take (suc n) [] = refl
-  map-take (suc n) (x ∷ l) = rw (map-take n l)
-
-  pub map-drop : (n : ℕ) (l : List A) → map f (drop n l) ≡ drop n (map f l)
-  map-drop zero l = refl
-  map-drop (suc n) [] = refl
-  map-drop (suc n) (x ∷ l) = map-drop n l
-
-  pub map-set : (l : List A) (i : ℕ) (x : A) → map f (set l i x) ≡ set (map f l) i (f x)
-  map-set [] i x = refl
-  map-set (y ∷ l) zero x = refl
-  map-set (y ∷ l) (suc i) x = rw (map-set l i x)
-
-  pub get_d_map : (l : List A) (k : ℕ) (d : A) (z : B) → k < length l → get_or (map f l) k z ≡ f (get_or l k d)
-  get_d_map [] k d z h = absurd (not-suc-le-zero h)
-  get_d_map (x ∷ l) zero d z h = refl
-  get_d_map (x ∷ l) (suc k) d z h = get_d_map l k d z (le_of_suc-le-suc h)
+use lib.ListN.{length, take, drop, get_or, set, length-drop, length-append, length-set}
+use lib.Seq.{take_at, drop_at, take-append-le, take-take, take_all, take-suc, take-add, drop-cons, drop-drop, drop-paste, get_or-drop, length-take-le, set_at, paste, paste-zero, paste-suc}
+pub use Rattle.std.proofs.lemmas.List.{take-map, drop-map, map-set, drop-take}
+use Rattle.std.specs.Int.{from_bool}
+use Rattle.rules.specs.{Bytes.number, Bytes.part, Bytes.field, MoveList.one_if}
 
 -- ---- copies
-module _ {ℓ} {A : Type ℓ} where
-  pub drop-take : (n m : ℕ) (l : List A) → drop n (take (n + m) l) ≡ take m (drop n l)
-  drop-take zero m l = rw zero-add
-  drop-take (suc n) m [] = rw suc-add (sym (take-nil m))
-  drop-take (suc n) m (x ∷ l) = rw suc-add (drop-take n m l)
-
-  -- a copy of nothing, and one over all of d
+module _ {A : Type 0} where
+  -- a copy of nothing
   pub paste_none : (d : List A) (at : ℕ) (s : List A) (n : ℕ) → n ≡ 0 → d ≡ paste d at s n
   paste_none d at s n e = rw e (paste-zero d at s)
-
-  pub paste_all : (b d s : List A) (i n : ℕ) → i ≡ n → length d ≡ n → b ≡ paste d 0 s i → b ≡ take n s
-  paste_all b d s i n k h e =
-      let h' : length d ≤ 0 + n = omega arith in
-      rw (e, k, drop_of_length-le d h', append-nil)
 
   -- a turn of a loop that copies m elements upwards, b so far: b stays as long as it was, and has one element more
   pub paste_more : (b d : List A) (at : ℕ) (s : List A) (j i m : ℕ) (z : A) → i ≡ at + j → i < length d → j < length s → j < m → length b ≡ length d → b ≡ paste d at s j
@@ -150,3 +120,8 @@ each-subclass P a b c d e f g h (suc (suc (suc (suc (suc zero))))) k = f
 each-subclass P a b c d e f g h (suc (suc (suc (suc (suc (suc zero)))))) k = g
 each-subclass P a b c d e f g h (suc (suc (suc (suc (suc (suc (suc zero))))))) k = h
 each-subclass P a b c d e f g h (suc (suc (suc (suc (suc (suc (suc (suc i)))))))) k = absurd (omega arith)
+
+-- ---- the number that std makes of a flag
+pub flag : (b : Bool) → from_bool b ≡ one_if b
+flag true = refl
+flag false = refl

@@ -60,42 +60,32 @@ pub const COUNTS: usize = QUEUES + 2;
 pub const SINGLES_BYTES: usize = 2 * 72 + 2;
 
 // An adapter's id: a place in the adapter table, and nothing else.
-#[derive(Clone, Copy)]
+#[derive(Clone, Copy, Debug, PartialEq, Eq)]
 pub struct AdapterId(pub u64);
 
 // 2^32: an id that no table has. A request that is about no adapter is looked up under it.
 pub const NO_ADAPTER: u64 = 4294967296;
 
-// An interruption subclass, 0 to 7: it alone names an I/O queue or a bit of a mask.
+// An interruption subclass, 0 to 7: it alone names an I/O queue or a bit of a mask. The type does not say that it is
+// below 8, nor Queue that it is below 9: C lends places with any byte for it, and each byte names a queue.
 #[repr(C)]
-#[derive(Clone, Copy)]
+#[derive(Clone, Copy, Debug, PartialEq, Eq)]
 pub struct Subclass(pub u8);
 
 // One of the nine queues: 0 to 7 are those of the subclasses, 8 has the finished page faults.
-#[derive(Clone, Copy)]
+#[derive(Clone, Copy, Debug, PartialEq, Eq)]
 pub struct Queue(pub usize);
 
 // A subchannel: its id and its number as one word, the id in front.
-#[derive(Clone, Copy)]
+#[derive(Clone, Copy, Debug, PartialEq, Eq)]
 pub struct Subchannel(pub u64);
 
-pub fn wide(x: u8) -> u64
-    ensures { (result ≡ x) × (result < 256) }
-{
-    x as u64
-}
-
 // A subclass as a list's writer and the listing program write it.
+// Not From: u64::from takes any number, and tests/kinds-apart wants another kind refused by its name.
 pub fn subclass_byte(isc: Subclass) -> u64
     ensures { (result ≡ isc.0) × (result < 256) }
 {
-    wide(isc.0)
-}
-
-pub fn index(x: u8) -> usize
-    ensures { (result ≡ x) × (result < 256) }
-{
-    x as usize
+    u64::from(isc.0)
 }
 
 // The number that the n bytes from index at say, the first byte highest.
@@ -104,10 +94,8 @@ pub fn read_be(b: &[u8], at: usize, n: usize) -> u64
     ensures { (result ≡ field at n b.now) × (result < 256 ^ n) }
 {
     let mut v: u64 = 0;
-    let mut i = 0;
-    while i < n {
-        v = v * 256 + wide(b[at + i]);
-        i += 1;
+    for x in &b[at..at + n] {
+        v = v * 256 + u64::from(*x);
     }
     v
 }
@@ -135,11 +123,9 @@ pub fn write_be(b: &mut [u8], at: usize, n: usize, v: u64)
     ensures { b.new ≡ paste b.old at (bytes n v) n }
 {
     let mut w = v;
-    let mut i = n;
-    while 0 < i {
-        i -= 1;
+    for i in (0..n).rev() {
         b[at + i] = (w % 256) as u8;
-        w = w / 256;
+        w /= 256;
     }
 }
 
@@ -149,10 +135,9 @@ pub fn load(src: &[u8], from: usize) -> [u8; 72]
     ensures { result ≡ part from 72 src.now }
 {
     let mut r = [0u8; 72];
-    let mut i = 0;
-    while i < 72 {
+    // A loop, not copy_from_slice: the loop compiles to vector moves, that call to a copy byte by byte.
+    for i in 0..72 {
         r[i] = src[from + i];
-        i += 1;
     }
     r
 }
@@ -162,9 +147,8 @@ pub fn save(dst: &mut [u8], at: usize, r: [u8; 72])
     requires { at + 72 ≤ length dst.old }
     ensures { dst.new ≡ paste dst.old at r 72 }
 {
-    let mut i = 0;
-    while i < 72 {
+    // A loop for the same reason as in load.
+    for i in 0..72 {
         dst[at + i] = r[i];
-        i += 1;
     }
 }

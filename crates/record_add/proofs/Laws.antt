@@ -7,14 +7,16 @@ use Rattle.rules.specs.{Bytes.choose, Bytes.bytes, Bytes.part, Bytes.field, Outc
 use Rattle.rules.specs.State as rules
 use Rattle.rules.specs.State.{Limits, State, Record, Pending, with_pending, kind, subclass, add_io, add_as, add, add_all, first_or, merged_or, queued}
 use Rattle.rules.specs.Requests.{records_in, kind_accepted, all_accepted, wants, all_want, enqueue_bytes, enqueue, enqueues, adapter_interrupt, request}
-use Rattle.rules.proofs.Checks.{passes, fails, both}
+use Rattle.rules.proofs.Checks.{passes, fails}
 use Rattle.store_queues.specs.Queues.{total, queues, Held}
 use Rattle.store_queues.proofs.Laws.{length-queues, flatten-queues, length-flatten-queues}
 use Rattle.store_singles.specs.Singles.{service_of, mchk_of}
 use Rattle.numbers.specs.declared.Subclass.{Subclass}
-use Rattle.answers.specs.{declared.Answer.Answer, Answers.Answers, Answers.answered}
-use Rattle.answers.proofs.Laws.{refused, accepted}
-use Rattle.record_add.specs.{declared.Kind.Kind, declared.Kind.TheVariants.Io, declared.Kind.TheVariants.Done, declared.Kind.TheVariants.Service, declared.Kind.TheVariants.MachineCheck, declared.Kind.TheVariants.Other, declared.Checked.Checked, declared.Checked.TheVariants.Good, declared.Checked.TheVariants.BadAt, Cases.as_case, Cases.kind_case, Cases.check_from, Cases.answer_to}
+use Rattle.numbers.proofs.Basics.{subst}
+use Rattle.std.specs.Prelude.{Result, Ok, Err}
+use Rattle.answers.specs.{declared.Refusal.Refusal, declared.Refusal.TheVariants.Busy, Answers.Answers, Answers.as_answer, Answers.code_of}
+use Rattle.answers.proofs.Laws.{refuses, accepts}
+use Rattle.record_add.specs.{declared.Kind.Kind, declared.Kind.TheVariants.Io, declared.Kind.TheVariants.Done, declared.Kind.TheVariants.Service, declared.Kind.TheVariants.MachineCheck, declared.Kind.TheVariants.Other, declared.BadRecord.BadRecord, Cases.as_case, Cases.kind_case, Cases.check_from, Cases.answer_to}
 use Rattle.store.specs.Memory.{pending_of}
 
 -- ---- a record within bytes
@@ -73,13 +75,6 @@ records-next i n b h =
     let f : (i + 1) * 72 ≡ i * 72 + 72 = omega arith in
     rw (e, f, ← drop-drop 72 (i * 72) b)
 
-pub records-all : (n : ℕ) (b : List ℕ) → records_from 0 n b ≡ records_in n b
-records-all n b = ap (λ (k : ℕ). records_in k b) (omega arith)
-
-pub add_none : (b : List ℕ) (p : Pending) → add_all (records_in 0 b) p ≡ p
-unfolding records_in add_all
-add_none b p = refl
-
 pub records-none : (i n : ℕ) (b : List ℕ) → n ≤ i → records_from i n b ≡ []
 unfolding records_in
 records-none i n b h =
@@ -92,61 +87,44 @@ length-records zero b = refl
 length-records (suc n) b = ap suc (length-records n (drop 72 b))
 
 -- ---- the check
-step-good : (t : Bool) (x : Checked) (place w : ℕ) → Good w ≡ choose t x (BadAt place) → (t ≡ true) × (Good w ≡ x)
-unfolding choose
-step-good true x place w e = (refl, e)
-step-good false x place w e = let z : ◌≡◌ {A = ℕ} 0 1 = cc in absurd (omega arith)
+-- what a result says of records: whether every one has an accepted type, and how many go to a queue
+abbrev pub Says : Bool → ℕ → Result ℕ BadRecord → Type 0
+Says accepted n (Ok w) = (accepted ≡ true) × (w ≡ n)
+Says accepted n (Err bad) = accepted ≡ false
 
-pub check-good : (rs : List Record) (place n w : ℕ) → Good w ≡ check_from place n rs → (all_accepted rs ≡ true) × (w ≡ n + all_want rs)
+says-more : (t a : Bool) (m n : ℕ) (x : Result ℕ BadRecord) (bad : BadRecord) → m ≡ n → Says a m x → Says (t && a) n (choose t x (Err bad))
+unfolding choose
+says-more true a m n (Ok w) bad e h = (h.0, h.1 ∙ e)
+says-more true a m n (Err x) bad e h = h
+says-more false a m n x bad e h = refl
+
+check-says : (rs : List Record) (place n : ℕ) → Says (all_accepted rs) (n + all_want rs) (check_from place n rs)
 unfolding check_from all_accepted all_want
-check-good [] place n w e = (refl, let f : w ≡ n = cc in omega arith)
-check-good (r ∷ rs) place n w e =
-    let s = step-good (kind_accepted (kind r)) (check_from (suc place) (n + wants (kind r)) rs) place w e in
-    let t = check-good rs (suc place) (n + wants (kind r)) w s.1 in
-    (both (kind_accepted (kind r)) (all_accepted rs) s.0 t.0, omega arith)
+check-says [] place n = (refl, omega arith)
+check-says (r ∷ rs) place n =
+    says-more (kind_accepted (kind r)) (all_accepted rs) _ _ (check_from (suc place) (n + wants (kind r)) rs) _ (omega arith)
+    (check-says rs (suc place) (n + wants (kind r)))
 
-step-bad : (t a : Bool) (x : Checked) (place j : ℕ) → BadAt j ≡ choose t x (BadAt place) → (BadAt j ≡ x → a ≡ false) → (t && a) ≡ false
-unfolding choose
-step-bad true a x place j e f = f e
-step-bad false a x place j e f = refl
-
-pub check-bad : (rs : List Record) (place n j : ℕ) → BadAt j ≡ check_from place n rs → all_accepted rs ≡ false
-unfolding check_from all_accepted
-check-bad [] place n j e = let z : ◌≡◌ {A = ℕ} 0 1 = cc in absurd (omega arith)
-check-bad (r ∷ rs) place n j e =
-    step-bad (kind_accepted (kind r)) (all_accepted rs) (check_from (suc place) (n + wants (kind r)) rs) place j e
-    (check-bad rs (suc place) (n + wants (kind r)) j)
+checked : (rs : List Record) (x : Result ℕ BadRecord) → x ≡ check_from 0 0 rs → Says (all_accepted rs) (all_want rs) x
+checked rs x e = let z : 0 + all_want rs ≡ all_want rs = omega arith in rw e (rw z at (check-says rs 0 0))
 
 -- what the answer to checked records tells: all are taken and there is room, or the rules refuse them with its code
-module _ (rs : List Record) (n q room : ℕ) (a : Answer) where
-  pub data Told : Type 0 where
-    good : a ≡ answered 0 n → all_accepted rs ≡ true → q + all_want rs ≤ room → Told
-    bad : (k : ℕ) → 0 < k → a ≡ answered k 0 → ((L : Limits) (s : State) → queued s.pending ≡ q → L.room ≡ room → enqueues L s rs ≡ refuse k) → Told
+module _ (rs : List Record) (n q room : ℕ) where
+  abbrev pub Told : Result ℕ Refusal → Type 0
+  Told (Ok m) = (m ≡ n) × (all_accepted rs ≡ true) × (q + all_want rs ≤ room)
+  Told (Err r) = (L : Limits) (s : State) → queued s.pending ≡ q → L.room ≡ room → enqueues L s rs ≡ refuse (code_of r)
 
-  pub told : a ≡ answer_to (check_from 0 0 rs) n q room → Told
+  pub told : (x : Result ℕ Refusal) → x ≡ answer_to (check_from 0 0 rs) n q room → Told x
   unfolding choose answer_to enqueues
-  told e = go (check_from 0 0 rs) refl e
+  told x e = subst Told (sym e) (go (check_from 0 0 rs) (checked rs _ refl))
     where
-      by-room : (w : ℕ) → Good w ≡ check_from 0 0 rs → (t : Bool) → leb (q + w) room ≡ t → a ≡ choose t (answered 0 n) (answered 16 0) → Told
-      by-room w c true r e = let g = check-good rs 0 0 w c in good e g.0 (omega (arith, leb-true (q + w) room r))
-      by-room w c false r e =
-          let g = check-good rs 0 0 w c in
-          bad 16 (omega arith) e (λ L s eq er. passes _ _ _ g.0 ∙ fails _ _ _ (lt-leb _ L.room (omega (arith, leb-false (q + w) room r))))
+      by-room : (w : ℕ) → Says (all_accepted rs) (all_want rs) (Ok w) → (t : Bool) → leb (q + w) room ≡ t → Told (choose t (Ok n) (Err Busy))
+      by-room w g true k = (refl, g.0, omega (arith, leb-true (q + w) room k, g.1))
+      by-room w g false k = λ L s eq er. passes _ _ _ g.0 ∙ fails _ _ _ (lt-leb _ L.room (omega (arith, leb-false (q + w) room k, g.1)))
 
-      go : (x : Checked) → x ≡ check_from 0 0 rs → a ≡ answer_to x n q room → Told
-      go (Good w) c e = by-room w c (leb (q + w) room) refl e
-      go (BadAt j) c e = bad 22 (omega arith) e (λ L s eq er. fails _ _ _ (check-bad rs 0 0 j c))
-
-  pub answer-good : Told → a.code ≡ 0 → (a ≡ answered 0 n) × (all_accepted rs ≡ true) × (q + all_want rs ≤ room)
-  answer-good (good e t r) h = (e, t, r)
-  answer-good (bad k p e f) h = absurd (omega (arith, ap (λ (x : Answer). x.code) e))
-
-  pub answer-bad : Told → (a.code ≡ 0 → ⊥) → (L : Limits) (s : State) → queued s.pending ≡ q → L.room ≡ room
-      → (a ≡ answered a.code 0) × (enqueues L s rs ≡ refuse a.code)
-  answer-bad (good e t r) h L s eq er = absurd (h (ap (λ (x : Answer). x.code) e))
-  answer-bad (bad k p e f) h L s eq er =
-      let c : k ≡ a.code = sym (ap (λ (x : Answer). x.code) e) in
-      (e ∙ ap (λ (x : ℕ). answered x 0) c, f L s eq er ∙ ap refuse c)
+      go : (x : Result ℕ BadRecord) → Says (all_accepted rs) (all_want rs) x → Told (answer_to x n q room)
+      go (Ok w) g = by-room w g (leb (q + w) room) refl
+      go (Err bad) g = λ L s eq er. fails _ _ _ g
 
 -- a record wants at most one place
 wants-few : (k : rules.Kind) → wants k ≤ 1
@@ -162,8 +140,8 @@ unfolding all_want
 all-want-few [] = omega arith
 all-want-few (r ∷ rs) = omega (arith, wants-few (kind r), all-want-few rs)
 
-pub good-few : (n w : ℕ) (b : List ℕ) → Good w ≡ check_from 0 0 (records_in n b) → w ≤ n
-good-few n w b e = omega (arith, (check-good (records_in n b) 0 0 w e).1, all-want-few (records_in n b), length-records n b)
+pub good-few : (n w : ℕ) (b : List ℕ) → Ok w ≡ check_from 0 0 (records_in n b) → w ≤ n
+good-few n w b e = omega (arith, (checked (records_in n b) (Ok w) e).1, all-want-few (records_in n b), length-records n b)
 
 -- a turn of the check, and its ends
 module _ (i n w : ℕ) (b : List ℕ) where
@@ -172,11 +150,11 @@ module _ (i n w : ℕ) (b : List ℕ) where
   unfolding check_from choose
   check-next w' h k e = rw (records-next i n b h, k, e, add-one)
 
-  pub check-stops : i < n → kind_accepted (kind (part (i * 72) 72 b)) ≡ false → check_from i w (records_from i n b) ≡ BadAt i
+  pub check-stops : i < n → kind_accepted (kind (part (i * 72) 72 b)) ≡ false → check_from i w (records_from i n b) ≡ Err (record { at = i })
   unfolding check_from choose
   check-stops h k = rw (records-next i n b h, k)
 
-  pub check-ends : n ≤ i → check_from i w (records_from i n b) ≡ Good w
+  pub check-ends : n ≤ i → check_from i w (records_from i n b) ≡ Ok w
   unfolding check_from
   check-ends h = rw (records-none i n b h)
 
@@ -259,22 +237,18 @@ module _ (L : Limits) (s : State) (attr : ℕ) (b : List ℕ) (h : attr ≡ 0 �
   enqueuing = passes _ _ _ (rw (ne_eqb attr 0 h, le-leb attr enqueue_bytes k, eq-eqb (attr % 72) 0 e))
 
   -- the answer to the records of the payload, where q are queued
-  module _ (f : attr ≤ length b) (q : ℕ) (eq : queued s.pending ≡ q) (a : Answer)
-      (ea : a ≡ answer_to (check_from 0 0 (records_in (attr / 72) b)) (attr / 72) q L.room) (p : Pending) where
+  module _ (f : attr ≤ length b) (q : ℕ) (eq : queued s.pending ≡ q) (room : ℕ) (er : L.room ≡ room) where
     checking : request L s enqueue attr b ≡ enqueues L s (records_in (attr / 72) b)
     checking = enqueuing ∙ passes _ _ _ (le-leb attr (length b) f)
 
-    decided : Told (records_in (attr / 72) b) (attr / 72) q L.room a
-    decided = told (records_in (attr / 72) b) (attr / 72) q L.room a ea
-
-    pub enqueue-good : a.code ≡ 0 → p ≡ add_all (records_in (attr / 72) b) s.pending → Answers L s b (request L s enqueue attr b) a (with_pending p s) b
+    pub enqueue-good : (m : ℕ) → Ok m ≡ answer_to (check_from 0 0 (records_in (attr / 72) b)) (attr / 72) q room
+        → (p : Pending) → p ≡ add_all (records_in (attr / 72) b) s.pending → Answers L s b (request L s enqueue attr b) (as_answer (Ok m)) (with_pending p s) b
     unfolding enqueues
-    enqueue-good h ep =
-        let g = answer-good _ _ _ _ _ decided h in
-        accepted L s b _ a (attr / 72) (with_pending p s) [] b
-        (checking ∙ passes _ _ _ g.1 ∙ passes _ _ _ (le-leb _ L.room (omega (arith, eq, g.2))) ∙ rw (length-records (attr / 72) b, ep)) g.0 refl
+    enqueue-good m ea p ep =
+        let g = told (records_in (attr / 72) b) (attr / 72) q room (Ok m) ea in
+        accepts L s b _ m (with_pending p s) [] b
+        (checking ∙ passes _ _ _ g.1 ∙ passes _ _ _ (le-leb _ L.room (omega (arith, eq, er, g.2))) ∙ rw (length-records (attr / 72) b, g.0, ep)) refl
 
-    pub enqueue-bad : (a.code ≡ 0 → ⊥) → p ≡ s.pending → Answers L s b (request L s enqueue attr b) a (with_pending p s) b
-    enqueue-bad h ep =
-        let g = answer-bad _ _ _ _ _ decided h L s eq refl in
-        refused L s b _ a a.code p (sym ep) (checking ∙ g.1) g.0
+    pub enqueue-bad : (r : Refusal) → Err r ≡ answer_to (check_from 0 0 (records_in (attr / 72) b)) (attr / 72) q room
+        → (p : Pending) → s.pending ≡ p → Answers L s b (request L s enqueue attr b) (as_answer (Err r)) (with_pending p s) b
+    enqueue-bad r ea p ep = refuses L s b _ r p ep (checking ∙ told (records_in (attr / 72) b) (attr / 72) q room (Err r) ea L s eq er)

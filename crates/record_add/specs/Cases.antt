@@ -1,16 +1,14 @@
 -- What each case of the code's enums stands for.
-use Rattle.std.specs.Prelude.{ℕ, suc, ◌+◌, List, [], ◌∷◌, leb}
+use Rattle.std.specs.Prelude.{ℕ, suc, ◌+◌, List, [], ◌∷◌, leb, Result, Ok, Err}
 use Rattle.rules.specs.Bytes.{choose}
 use Rattle.rules.specs.State as rules
 use Rattle.rules.specs.State.{Record, kind, subclass}
-use Rattle.rules.specs.Outcome.{EINVAL, EBUSY}
 use Rattle.rules.specs.Requests.{kind_accepted, wants}
-use Rattle.answers.specs.declared.Answer.{Answer}
+use Rattle.answers.specs.declared.Refusal.{Refusal}
+use Rattle.answers.specs.declared.Refusal.TheVariants.{Busy, Invalid}
 use Rattle.record_add.specs.declared.Kind.{Kind}
 use Rattle.record_add.specs.declared.Kind.TheVariants.{Io, Done, Service, MachineCheck, Other}
-use Rattle.record_add.specs.declared.Checked.{Checked}
-use Rattle.record_add.specs.declared.Checked.TheVariants.{Good, BadAt}
-use Rattle.answers.specs.Answers.{answered}
+use Rattle.record_add.specs.declared.BadRecord.{BadRecord}
 
 -- 01, 'What it holds': a record's kind, with the subclass of an I/O record
 unfoldable pub as_case : rules.Kind → ℕ → Kind
@@ -25,13 +23,12 @@ kind_case r = as_case (kind r) (subclass r)
 
 -- 01, group 2: the check of records from a place on, after n that go to a queue. Either every record has an accepted
 -- type, and the result is how many go to a queue; or it is the index of the first record of another type.
-unfoldable pub check_from : ℕ → ℕ → List Record → Checked
-check_from place n [] = Good n
+unfoldable pub check_from : ℕ → ℕ → List Record → Result ℕ BadRecord
+check_from place n [] = Ok n
 check_from place n (r ∷ rs) =
-    choose (kind_accepted (kind r)) (check_from (suc place) (n + wants (kind r)) rs) (BadAt place)
+    choose (kind_accepted (kind r)) (check_from (suc place) (n + wants (kind r)) rs) (Err (record { at = place }))
 
 -- 01, group 2 and 'Codes and the order of checks': the answer to n checked records, by the types, then by the room
-unfoldable pub answer_to : Checked → (n queued room : ℕ) → Answer
-answer_to (BadAt place) n queued room = answered EINVAL 0
-answer_to (Good wanted) n queued room =
-    choose (leb (queued + wanted) room) (answered 0 n) (answered EBUSY 0)
+unfoldable pub answer_to : Result ℕ BadRecord → (n queued room : ℕ) → Result ℕ Refusal
+answer_to (Err bad) n queued room = Err Invalid
+answer_to (Ok wanted) n queued room = choose (leb (queued + wanted) room) (Ok n) (Err Busy)

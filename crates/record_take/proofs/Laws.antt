@@ -3,13 +3,16 @@ use Rattle.numbers.proofs.Basics.{◌≡◌, refl, sym, ap, ◌∙◌, Bool, tru
 use Rattle.numbers.proofs.Basics.{Option, none, some, List, [], ◌∷◌, ◌++◌, flatten, append_assoc, append-nil, ℕ, zero}
 use Rattle.numbers.proofs.Basics.{suc, ◌+◌, ◌*◌, ◌/◌, ◌%◌, ◌≤◌, ◌<◌, not-suc-le-zero, arith, length, take, drop, get_or}
 use Rattle.numbers.proofs.{Basics.length-append, Basics.length-take, Basics.length-drop, Basics.take_all, Basics.take_at, Basics.drop_at, Basics.drop-drop, Basics.take-set-le, Basics.take-set-lt, Basics.get_or-take, Basics.get_or-set_same, Basics.get_or-set_other, Basics.paste, Basics.length-paste, Basics.eqb, Basics.bit_and, Basics.le-leb, Basics.lt-leb, Basics.ne_eqb}
-use Rattle.rules.specs.{Bytes.choose, Bytes.byte, Bytes.part, Bytes.field, Outcome.refuse, Outcome.accept, MoveList.one_if, Invariant.All, Invariant.Whole}
+use Rattle.rules.specs.{Bytes.choose, Bytes.byte, Bytes.part, Bytes.field, Outcome.refuse, Outcome.accept, Invariant.All, Invariant.Whole}
 use Rattle.rules.specs.State.{Limits, State, Record, Pending, nothing, with_pending, single, listing}
 use Rattle.rules.specs.Requests.{is_zero, without_first, request, clear_io_irq, clears_io, removes, clears, gets_all}
 use Rattle.rules.specs.Take.{first_allowed, or_else, hand_mchk, hand_service, hand_done, hand_io, handed, hands_out, takes}
 use Rattle.rules.proofs.{Checks.passes, Checks.fails, Lists.all_append, Lists.flatten-append}
-use Rattle.answers.specs.{Answers.Answers, Answers.answered, declared.Answer.Answer}
-use Rattle.answers.proofs.Laws.{same-state, accepted}
+use Rattle.std.specs.Prelude.{Ok, Some}
+use Rattle.std.specs.Int.{from_bool}
+use Rattle.answers.specs.Answers.{Answers, as_answer}
+use Rattle.answers.proofs.Laws.{same-state, accepts}
+use Rattle.numbers.specs.declared.Queue.{Queue}
 use Rattle.store_queues.specs.{Slots.slot_count, Slots.remove_at, Queues.total, Queues.waiting, Queues.queues, Queues.without_at, Queues.Held}
 use Rattle.store_queues.proofs.{Slots.length-slot, Laws.length-queues, Laws.length-queue, Laws.flatten-queues, Laws.length-flatten-queues, Laws.all-queued, Counts.waiting-bit}
 use Rattle.store_singles.specs.Singles.{if_there, service_of, mchk_of}
@@ -17,8 +20,7 @@ use Rattle.store_singles.proofs.Laws.{absent-if, there-if}
 use Rattle.store_search.specs.{declared.Found.Found, declared.Found.TheVariants.At, declared.Found.TheVariants.None, Search.is_for_word, Search.left_at, Search.handed_at}
 use Rattle.store_search.proofs.Laws.{has_both, same-mask}
 use Rattle.store.specs.Memory.{pending_of}
-use Rattle.record_take.specs.{declared.Next.Next, Next.with_queues, Next.hands_queued, Next.handed_next}
-use Rattle.record_take.specs.declared.Next.TheVariants as next
+use Rattle.record_take.specs.Next.{with_queues, hands_queued, handed_next}
 
 -- ---- the listing of nine queues and two records
 module _ (o c b g : List ℕ) (h : Held o c) where
@@ -31,7 +33,7 @@ module _ (o c b g : List ℕ) (h : Held o c) where
   pub length-listing : length (listing (pending_of o c b g)) ≡ total c + length (single (service_of g)) + length (single (mchk_of g))
   length-listing = rw (listing-is, length-append, length-append, length-flatten-queues o c h b)
 
--- what has_service and has_mchk say
+-- what is_there says of the two
 module _ (g : List ℕ) (t : Bool) where
   pub service-there : (r : Record) → t ≡ not (eqb (byte 144 g) 0) → t ≡ true → r ≡ part 0 72 g → service_of g ≡ some r
   unfolding service_of
@@ -50,12 +52,12 @@ module _ (g : List ℕ) (t : Bool) where
   mchk-absent = absent-if (byte 145 g) (part 72 72 g) t
 
 -- one for a record that is there
-one-there : (n : ℕ) (r : Record) (t : Bool) → t ≡ not (eqb n 0) → one_if t ≡ length (single (if_there n r))
+one-there : (n : ℕ) (r : Record) (t : Bool) → t ≡ not (eqb n 0) → from_bool t ≡ length (single (if_there n r))
 one-there n r true e = rw (there-if n r true e refl)
 one-there n r false e = rw (absent-if n r false e refl)
 
 pub count-is : (o c b g : List ℕ) (q x y : ℕ) (t u : Bool) → Held o c → q ≡ total c → t ≡ not (eqb (byte 144 g) 0)
-    → u ≡ not (eqb (byte 145 g) 0) → x ≡ one_if t → y ≡ one_if u → q + x + y ≡ length (listing (pending_of o c b g))
+    → u ≡ not (eqb (byte 145 g) 0) → x ≡ from_bool t → y ≡ from_bool u → q + x + y ≡ length (listing (pending_of o c b g))
 unfolding service_of mchk_of
 count-is o c b g q x y t u h eq et eu ex ey =
     rw (eq, ex, ey, one-there (byte 144 g) (part 0 72 g) t et, one-there (byte 145 g) (part 72 72 g) u eu) (sym (length-listing o c b g h))
@@ -80,25 +82,26 @@ pub record Wrote (out d : List ℕ) (l : List Record) (n : ℕ) : Type 0 where
   pub count : n ≡ 72 * length l
   pub long : length d ≡ length out
 
+-- a record that may be there: if it is, it is written at n, and what stands in out then goes on at n'
 module _ (out d : List ℕ) (l : List Record) (n : ℕ) (w : Wrote out d l n) (x : Option Record) where
-  pub none_more : x ≡ none → Wrote out d (l ++ single x) n
-  none_more e = rw (e, append-nil) w
+  pub one_more : (r : Record) → x ≡ some r → 72 * length (l ++ single x) ≤ length out → n + 72 ≤ length d
+  one_more r e h = omega (arith, rw (e, length-append) at h, w.count, w.long)
 
-  pub one_more : (r : Record) → x ≡ some r → length r ≡ 72 → n + 72 ≤ length out → Wrote out (paste d n r 72) (l ++ single x) (n + 72)
+  pub written : (d' : List ℕ) (n' : ℕ) → 72 * length (l ++ single x) ≤ length out
+      → ((r : Record) × (x ≡ some r) × (length r ≡ 72) × (d' ≡ paste d n r 72) × (n' ≡ n + 72)) ⊎ ((x ≡ none) × (d' ≡ d) × (n' ≡ n)) → Wrote out d' (l ++ single x) n'
   unfolding flatten
-  one_more r e f h =
-      let k : flatten (l ++ single x) ≡ flatten l ++ r = rw (e, flatten-append) (ap (λ (t : Record). flatten l ++ t) (append-nil r)) in
+  written d' n' h (inr (e, f, g)) = rw (e, append-nil, f, g) w
+  written d' n' h (inl (r, e, f, g, k)) =
+      let m : n + 72 ≤ length d = one_more r e h in
+      let t : flatten (l ++ single x) ≡ flatten l ++ r = rw (e, flatten-append) (ap (λ (t : Record). flatten l ++ t) (append-nil r)) in
       let front : take n d ≡ flatten l = rw w.text (take_at (flatten l) (drop n out) n w.size) in
       let back : drop (n + 72) d ≡ drop (n + 72) out = sym (drop-drop 72 n d) ∙ rw (w.text, drop_at (flatten l) (drop n out) n w.size) (drop-drop 72 n out) in
-      record {
-        text = rw (k, front, back, take_all 72 r (omega arith));
-        size = rw (k, length-append, w.size, f);
+      rw (g, k) (record {
+        text = rw (t, front, back, take_all 72 r (omega arith));
+        size = rw (t, length-append, w.size, f);
         count = rw (e, length-append) (omega (arith, w.count));
-        long = length-paste d n r 72 (omega (arith, w.long)) (omega arith) ∙ w.long;
-      }
-
-  pub room-more : (r : Record) → x ≡ some r → (m : ℕ) → 72 * length (l ++ single x) ≤ m → n + 72 ≤ m
-  room-more r e m h = omega (arith, rw (e, length-append) at h, w.count)
+        long = length-paste d n r 72 m (omega arith) ∙ w.long;
+      })
 
 pub front : (k l : List Record) (m : ℕ) → 72 * length (k ++ l) ≤ m → 72 * length k ≤ m
 front k l m h = omega (arith, rw length-append at h)
@@ -159,16 +162,15 @@ module _ (b : List ℕ) (w : ℕ) (e : w ≡ field 0 2 b * 65536 + field 2 2 b) 
         passes _ _ _ (le-leb 4 attr h) ∙ passes _ _ _ (le-leb 4 (length b) k) ∙ passes _ _ _ (ap not (word_some f))
         ∙ rw (ep, ← x, ← y, t)
 
-    pub clears-none : (v : Found) → v ≡ None → without_first (is_for_word w) (take 8 (queues o c m)) ≡ left_at v (take 8 (queues o c m)) → request L s clear_io_irq attr b ≡ accept 0 (with_pending (pending_of o c m g) s) []
+    pub clears-none : without_first (is_for_word w) (take 8 (queues o c m)) ≡ none → request L s clear_io_irq attr b ≡ accept 0 (with_pending (pending_of o c m g) s) []
     unfolding removes
-    clears-none v ev t = clears-by None (t ∙ ap (λ (u : Found). left_at u (take 8 (queues o c m))) ev) ∙ ap (λ (t : State). accept 0 t []) (sym (same-state s (pending_of o c m g) ep))
+    clears-none t = clears-by None t ∙ ap (λ (t : State). accept 0 t []) (sym (same-state s (pending_of o c m g) ep))
 
-    pub clears-one : (v : Found) (i j : ℕ) (u d : List ℕ) → v ≡ At (record { 0 = i }) j → i < 8
-        → without_first (is_for_word w) (take 8 (queues o c m)) ≡ left_at v (take 8 (queues o c m))
+    pub clears-one : (i j : ℕ) (u d : List ℕ) → i < 8 → without_first (is_for_word w) (take 8 (queues o c m)) ≡ some (without_at i j (take 8 (queues o c m)))
         → queues u d m ≡ without_at i j (queues o c m) → request L s clear_io_irq attr b ≡ accept 1 (with_pending (pending_of u d m g) s) []
     unfolding removes
-    clears-one v i j u d ev l t q =
-        clears-by (At (record { 0 = i }) j) (t ∙ ap (λ (u : Found). left_at u (take 8 (queues o c m))) ev)
+    clears-one i j u d l t q =
+        clears-by (At (record { 0 = i }) j) t
         ∙ rw (queues-left o c u d m g _ q, eight-left (queues o c m) i j l, ninth-left (queues o c m) i j l, ep) (unfold pending_of in refl)
 
 -- ---- the take: a class of records that hands nothing out
@@ -198,14 +200,14 @@ module _ (o c b g : List ℕ) (h : Held o c) where
   first_of [] k p = absurd (not-suc-le-zero k)
   first_of (x ∷ q) k p = refl
 
-  pub next-done : (v : Next) (m : ℕ) (e : Bool) → e ≡ true → 0 < get_or c 8 0 → v ≡ next.At (record { 0 = 8 }) 0
-      → hands_queued (pending_of o c b g) m e ≡ handed_next v (queues o c b) (pending_of o c b g)
+  pub next-done : (m : ℕ) (e : Bool) → e ≡ true → 0 < get_or c 8 0
+      → hands_queued (pending_of o c b g) m e ≡ handed_next (Some (record { 0 = 8 }, 0)) (queues o c b) (pending_of o c b g)
   unfolding pending_of or_else choose without_at
-  next-done v m e ee k ev =
+  next-done m e ee k =
       let qs = queues o c b in
       let f = first_of (get_or qs 8 []) (rw (length-queue o c h b 8 (omega arith)) k) (pending_of o c b g) in
       let l : 8 < length qs = omega (arith, length-queues o c h b) in
-      rw (ev, ee, f, take-set-le 8 qs 8 (remove_at 0 (get_or qs 8 [])) (omega arith), get_or-set_same qs 8 (remove_at 0 (get_or qs 8 [])) [] l)
+      rw (ee, f, take-set-le 8 qs 8 (remove_at 0 (get_or qs 8 [])) (omega arith), get_or-set_same qs 8 (remove_at 0 (get_or qs 8 [])) [] l)
 
   -- no finished page fault
   none_first : (q : List Record) → length q ≡ 0 → (p : Pending) → hand_done p q ≡ none
@@ -228,19 +230,20 @@ module _ (o c b g : List ℕ) (h : Held o c) where
       let e : 0 + i ≡ i = omega arith in
       rw e (has_both i m (waiting c) (omega arith) (waiting-bit c h.counted i (omega arith) n)))
 
-  module _ (m w : ℕ) (e : Bool) (ew : w ≡ bit_and m (waiting c)) (nd : choose e (hand_done (pending_of o c b g) (pending_of o c b g).done) none ≡ none) (u : Found)
-      (eu : first_allowed 0 w (take 8 (queues o c b)) ≡ handed_at u (take 8 (queues o c b))) where
-    by-search : hands_queued (pending_of o c b g) m e ≡ hand_io (pending_of o c b g) (handed_at u (take 8 (queues o c b)))
+  module _ (m w : ℕ) (e : Bool) (ew : w ≡ waiting c) (nd : (e ≡ false) ⊎ (get_or c 8 0 ≡ 0)) where
+    by-search : (u : Found) → first_allowed 0 (bit_and m w) (take 8 (queues o c b)) ≡ handed_at u (take 8 (queues o c b))
+        → hands_queued (pending_of o c b g) m e ≡ hand_io (pending_of o c b g) (handed_at u (take 8 (queues o c b)))
     unfolding or_else pending_of
-    by-search = rw (nd, ← same_first m, ← ew, eu)
+    by-search u eu = rw (no-done e nd, ← same_first m, ← ew, eu)
 
-    pub next-none : (v : Next) → v ≡ next.None → u ≡ None → hands_queued (pending_of o c b g) m e ≡ handed_next v (queues o c b) (pending_of o c b g)
-    next-none v ev f = by-search ∙ rw (f, ev)
+    pub next-none : first_allowed 0 (bit_and m w) (take 8 (queues o c b)) ≡ none → hands_queued (pending_of o c b g) m e ≡ none
+    next-none = by-search None
 
-    pub next-io : (v : Next) (i k : ℕ) → v ≡ next.At (record { 0 = i }) k → u ≡ At (record { 0 = i }) k → i < 8
-        → hands_queued (pending_of o c b g) m e ≡ handed_next v (queues o c b) (pending_of o c b g)
-    next-io v i k ev f l =
-        by-search ∙ rw (f, ev, eight-left (queues o c b) i k l, ninth-left (queues o c b) i k l, get_or-take 8 (queues o c b) i [] l) (unfold pending_of in refl)
+    pub next-io : (i k : ℕ) → i < 8 → first_allowed 0 (bit_and m w) (take 8 (queues o c b)) ≡ handed_at (At (record { 0 = i }) k) (take 8 (queues o c b))
+        → hands_queued (pending_of o c b g) m e ≡ handed_next (Some (record { 0 = i }, k)) (queues o c b) (pending_of o c b g)
+    next-io i k l eu =
+        by-search (At (record { 0 = i }) k) eu
+        ∙ rw (eight-left (queues o c b) i k l, ninth-left (queues o c b) i k l, get_or-take 8 (queues o c b) i [] l) (unfold pending_of in refl)
 
 -- the three cases: what is handed out, and what is left
 module _ (o c b g : List ℕ) (m : ℕ) (e k : Bool) where
@@ -255,30 +258,28 @@ module _ (o c b g : List ℕ) (m : ℕ) (e k : Bool) where
     unfolding handed or_else choose pending_of
     hands-service d r f u x y = rw (f, x, y, n₁, u)
 
-    module _ (n₂ : NoService (pending_of o c b g) e) (v : Next) (t : hands_queued (pending_of o c b g) m e ≡ handed_next v (queues o c b) (pending_of o c b g)) where
-      by_next : handed (pending_of o c b g) m e k ≡ handed_next v (queues o c b) (pending_of o c b g)
+    module _ (n₂ : NoService (pending_of o c b g) e) where
+      pub hands-nothing : hands_queued (pending_of o c b g) m e ≡ none → handed (pending_of o c b g) m e k ≡ none
       unfolding handed or_else
-      by_next = rw (n₁, n₂) (unfold or_else in t)
+      hands-nothing t = rw (n₁, n₂) (unfold or_else in t)
 
-      pub hands-nothing : v ≡ next.None → handed (pending_of o c b g) m e k ≡ none
-      hands-nothing ev = by_next ∙ rw ev
-
-      pub hands-queued : (q n : ℕ) (u d r : List ℕ) → v ≡ next.At (record { 0 = q }) n → r ≡ get_or (get_or (queues o c b) q []) n [] → queues u d b ≡ without_at q n (queues o c b)
+      pub hands-queued : (q : Queue) (n : ℕ) (u d r : List ℕ) → hands_queued (pending_of o c b g) m e ≡ handed_next (Some (q, n)) (queues o c b) (pending_of o c b g)
+          → r ≡ get_or (get_or (queues o c b) q.0 []) n [] → queues u d b ≡ without_at q.0 n (queues o c b)
           → handed (pending_of o c b g) m e k ≡ some (record { given = r; left = pending_of u d b g })
-      hands-queued q n u d r ev er eq = by_next ∙ rw (ev, er, queues-left o c u d b g _ eq)
+      unfolding handed or_else
+      hands-queued q n u d r t er eq = rw (n₁, n₂, er, queues-left o c u d b g _ eq) (unfold or_else in t)
 
 -- from what is handed out to the answer
-module _ (L : Limits) (s : State) (p : Pending) (m : ℕ) (e k : Bool) (b : List ℕ) (a : Answer) (x : s.pending ≡ p) (h : 72 ≤ length b) where
-  pub hands : (d r : List ℕ) (q : Pending) → length r ≡ 72 → handed p m e k ≡ some (record { given = r; left = q })
-      → (a ≡ answered 0 1) × (d ≡ r ++ drop 72 b) → Answers L s b (takes s m e k b) a (with_pending q s) d
+module _ (L : Limits) (s : State) (p : Pending) (m : ℕ) (e k : Bool) (b : List ℕ) (x : s.pending ≡ p) (h : 72 ≤ length b) where
+  pub hands : (d r : List ℕ) (q : Pending) (n : ℕ) → length r ≡ 72 → handed p m e k ≡ some (record { given = r; left = q })
+      → (n ≡ 1) × (d ≡ r ++ drop 72 b) → Answers L s b (takes s m e k b) (as_answer (Ok n)) (with_pending q s) d
   unfolding takes hands_out
-  hands d r q l f w =
-      accepted L s b _ a 1 (with_pending q s) r d (passes _ _ _ (le-leb 72 (length b) h) ∙ rw (x, f)) w.0 (rw l w.1)
+  hands d r q n l f w =
+      accepts L s b _ n (with_pending q s) r d (passes _ _ _ (le-leb 72 (length b) h) ∙ rw (x, f, w.0)) (rw l w.1)
 
-  pub hands_none : handed p m e k ≡ none → a ≡ answered 0 0 → Answers L s b (takes s m e k b) a (with_pending p s) b
+  pub hands_none : handed p m e k ≡ none → Answers L s b (takes s m e k b) (as_answer (Ok 0)) (with_pending p s) b
   unfolding takes hands_out
-  hands_none f w =
-      accepted L s b _ a 0 (with_pending p s) [] b (passes _ _ _ (le-leb 72 (length b) h) ∙ rw (x, f)) w refl
+  hands_none f = accepts L s b _ 0 (with_pending p s) [] b (passes _ _ _ (le-leb 72 (length b) h) ∙ rw (x, f)) refl
 
 -- ---- CLEAR_IRQS
 pub clears-all : (s : State) (p q : Pending) (n : ℕ) → s.pending ≡ p → n ≡ length (listing p) → q ≡ nothing → clears s ≡ accept n (with_pending q s) []

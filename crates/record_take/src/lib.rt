@@ -2,253 +2,228 @@
 // guest take.
 #![tactic(auto)]
 
-ghost use Rattle.std.specs.Prelude.{◌≡◌, ℕ, ◌*◌, ◌≤◌, length, drop};
+ghost use Rattle.std.specs.Prelude.{◌≡◌, ℕ, ◌*◌, ◌≤◌, ◌<◌, length, drop, get_or, OnErr};
 ghost use mathlib.Core.List.{List, ◌++◌, flatten};
 ghost use Rattle.rules.specs.State.{Limits, State, with_pending, listing};
 ghost use Rattle.rules.specs.Requests.{clear_irqs, get_all_irqs, clear_io_irq, request};
-ghost use Rattle.rules.specs.MoveList.{one_if};
 ghost use Rattle.rules.specs.Take.{takes};
 ghost use Rattle.rules.specs.Invariant.{All, Whole};
 ghost use Rattle.store_queues.specs.Slots.{slot_count, most_pending};
 ghost use Rattle.store_queues.specs.Queues.{queues, Counted, Held};
-ghost use Rattle.answers.specs.Answers.{Answers, answered};
-ghost use Rattle.store.specs.Memory.{pending_of};
+ghost use Rattle.answers.specs.Answers.{Answers, as_answer};
+ghost use Rattle.store.specs.Memory.{pending_of, pending_in};
 ghost use Rattle.record_take.specs.Next.{NextIn, hands_queued, handed_next};
-ghost use Rattle.store.specs.Lent.{before, HeldAfter, Stays};
 
-use answers::{Answer, EFAULT, EINVAL, ENOMEM};
-use numbers::{COUNTS, ORDER_BYTES, Queue, SINGLES_BYTES, SLOT_BYTES, Subchannel};
+use answers::Refusal;
+use numbers::{Queue, Subchannel};
+use store::Controller;
 use store_search::Found;
-
-// 1 if it holds, else 0.
-fn one_if(t: bool) -> usize
-    ensures { (result ≡ one_if t) × (result ≤ 1) }
-{
-    if t { 1 } else { 0 }
-}
+use store_singles::Single;
 
 // How many records are pending.
-pub fn pending(counts: &[usize; COUNTS], singles: &[u8; SINGLES_BYTES]) -> usize
-    requires { Counted counts.now }
-    ensures { ((order slots : List ℕ) → Held order counts.now
-        → result ≡ length (listing (pending_of order counts.now slots singles.now)))
-        × (result ≤ most_pending) }
+pub fn pending(c: &Controller) -> usize
+    requires { Counted c.now.counts }
+    ensures count { (order slots : List ℕ) → Held order c.now.counts
+        → result ≡ length (listing (pending_of order c.now.counts slots c.now.singles)) }
+    ensures few { result ≤ most_pending }
 {
-    store_queues::queued(counts)
-        + one_if(store_singles::has_service(singles))
-        + one_if(store_singles::has_mchk(singles))
+    store_queues::queued(&c.counts)
+        + usize::from(store_singles::is_there(&c.singles, Single::Service))
+        + usize::from(store_singles::is_there(&c.singles, Single::MachineCheck))
 }
 
-// How many records are pending, every one of 72 bytes. The slots and their order come as slices: of a slice it is known
-// that each byte is below 256, so that it names a slot.
-pub fn pending_whole(
-    slots: &[u8],
-    order: &[u8],
-    counts: &[usize; COUNTS],
-    singles: &[u8; SINGLES_BYTES],
-) -> usize
-    requires { Held order.now counts.now × (length slots.now ≡ slot_count * 72) }
-    ensures { (result ≡ length (listing (before order.now counts.now slots.now singles.now)))
-        × All Whole (listing (before order.now counts.now slots.now singles.now)) × (result ≤ most_pending) }
+// Each byte names a slot. The order comes as a slice: of a slice's bytes a proof knows that they are below 256, and of
+// an array's it does not.
+fn name_slots(order: &[u8])
+    ensures { (k : ℕ) → get_or order.now k 0 < slot_count }
+{}
+
+// How many records are pending, every one of 72 bytes.
+pub fn pending_whole(c: &Controller) -> usize
+    requires { Held c.now.order c.now.counts }
+    ensures count { result ≡ length (listing (pending_in c.now)) }
+    ensures whole { All Whole (listing (pending_in c.now)) }
+    ensures few { result ≤ most_pending }
 {
-    // Borrowed as a slice: the proof learns the array's length from the borrow.
-    let _g: &[u8] = singles;
-    pending(counts, singles)
+    name_slots(&c.order);
+    pending(c)
 }
 
 // Group 3: every pending record is removed.
-pub fn clear_irqs(
-    order: &mut [u8; ORDER_BYTES],
-    counts: &mut [usize; COUNTS],
-    singles: &mut [u8; SINGLES_BYTES],
-    attr: u64,
-) -> Answer
-    requires { Held order.old counts.old }
-    ensures { ((L : Limits) (s : State) (slots b : List ℕ)
-        → s.pending ≡ pending_of order.old counts.old slots singles.old
-        → Answers L s b (request L s clear_irqs attr b) result
-        (with_pending (pending_of order.new counts.new slots singles.new) s) b)
-        × (HeldAfter order.new counts.new × ((result.code ≡ 0 → ⊥) → Stays order.old order.new
-        × Stays counts.old counts.new × Stays singles.old singles.new)) }
+pub fn clear_irqs(c: &mut Controller, attr: u64) -> Result<u64, Refusal>
+    requires { Held c.old.order c.old.counts }
+    ensures answer { (L : Limits) (s : State) (slots b : List ℕ)
+        → s.pending ≡ pending_of c.old.order c.old.counts slots c.old.singles
+        → Answers L s b (request L s clear_irqs attr b) (as_answer result)
+        (with_pending (pending_of c.new.order c.new.counts slots c.new.singles) s) b }
+    ensures held { Held c.new.order c.new.counts }
+    ensures others { (c.new.slots ≡ c.old.slots) × (c.new.ais ≡ c.old.ais) }
+    ensures kept { OnErr result (c.new ≡ c.old) }
 {
     if attr != 0 {
-        return answers::refuse(EINVAL);
+        return Err(Refusal::Invalid);
     }
-    let n = pending(counts, singles);
-    store_queues::clear(order, counts);
-    store_singles::drop_service(singles);
-    store_singles::drop_mchk(singles);
-    answers::accept(n as u64) // those removed
+    let n = pending(c);
+    store_queues::clear(&mut c.order, &mut c.counts);
+    store_singles::remove(&mut c.singles, Single::Service);
+    store_singles::remove(&mut c.singles, Single::MachineCheck);
+    Ok(n as u64) // those removed
 }
 
 // Writes the listing to the start of out.
-pub fn list_all(
-    slots: &[u8; SLOT_BYTES],
-    order: &[u8; ORDER_BYTES],
-    counts: &[usize; COUNTS],
-    singles: &[u8; SINGLES_BYTES],
-    out: &mut [u8],
-)
-    requires { Held order.now counts.now
-        × (72 * length (listing (pending_of order.now counts.now slots.now singles.now)) ≤ length out.old) }
-    ensures { out.new ≡ flatten (listing (before order.now counts.now slots.now singles.now))
-        ++ drop (72 * length (listing (before order.now counts.now slots.now singles.now))) out.old }
+pub fn list_all(c: &Controller, out: &mut [u8])
+    requires { Held c.now.order c.now.counts
+        × (72 * length (listing (pending_in c.now)) ≤ length out.old) }
+    ensures { out.new ≡ flatten (listing (pending_in c.now))
+        ++ drop (72 * length (listing (pending_in c.now))) out.old }
 {
-    store_queues::list(slots, order, counts, out);
-    let mut at = store_queues::queued(counts) * 72;
-    if store_singles::has_service(singles) {
-        numbers::save(out, at, store_singles::read_service(singles));
+    store_queues::list(&c.slots, &c.order, &c.counts, out);
+    let mut at = store_queues::queued(&c.counts) * 72;
+    if store_singles::is_there(&c.singles, Single::Service) {
+        numbers::save(out, at, store_singles::read(&c.singles, Single::Service));
         at += 72;
     }
-    if store_singles::has_mchk(singles) {
-        numbers::save(out, at, store_singles::read_mchk(singles));
+    if store_singles::is_there(&c.singles, Single::MachineCheck) {
+        numbers::save(
+            out,
+            at,
+            store_singles::read(&c.singles, Single::MachineCheck),
+        );
     }
 }
 
 // Group 1: the listing.
-pub fn get_all(
-    slots: &[u8; SLOT_BYTES],
-    order: &[u8; ORDER_BYTES],
-    counts: &[usize; COUNTS],
-    singles: &[u8; SINGLES_BYTES],
-    attr: u64,
-    out: &mut [u8],
-) -> Answer
-    requires { Held order.now counts.now }
-    ensures answer { (L : Limits) (s : State) → s.pending ≡ before order.now counts.now slots.now singles.now
-        → Answers L s out.old (request L s get_all_irqs attr out.old) result s out.new }
-    ensures kept { (result.code ≡ 0 → ⊥) → Stays out.old out.new }
+pub fn get_all(c: &Controller, attr: u64, out: &mut [u8]) -> Result<u64, Refusal>
+    requires { Held c.now.order c.now.counts }
+    ensures answer { (L : Limits) (s : State) → s.pending ≡ pending_in c.now
+        → Answers L s out.old (request L s get_all_irqs attr out.old) (as_answer result) s out.new }
+    ensures kept { OnErr result (out.new ≡ out.old) }
 {
     if attr == 0 {
-        return answers::refuse(EINVAL);
+        return Err(Refusal::Invalid);
     }
     let lent = out.len() as u64;
     if lent < attr {
-        return answers::refuse(EFAULT);
+        return Err(Refusal::Fault);
     }
-    let n = pending(counts, singles);
+    let n = pending(c);
     if attr < (n * 72) as u64 {
-        return answers::refuse(ENOMEM);
+        return Err(Refusal::NoMemory);
     }
-    list_all(slots, order, counts, singles, out);
-    answers::accept(n as u64) // those listed
+    list_all(c, out);
+    Ok(n as u64) // those listed
 }
 
 // Group 8: the first I/O record in listing order for a subchannel is removed.
-pub fn clear_io(
-    slots: &[u8; SLOT_BYTES],
-    order: &mut [u8; ORDER_BYTES],
-    counts: &mut [usize; COUNTS],
-    attr: u64,
-    payload: &[u8],
-) -> Answer
-    requires { Held order.old counts.old }
-    ensures { ((L : Limits) (s : State) (singles : List ℕ)
-        → s.pending ≡ pending_of order.old counts.old slots.now singles
-        → Answers L s payload.now (request L s clear_io_irq attr payload.now) result
-        (with_pending (pending_of order.new counts.new slots.now singles) s)
-        payload.now)
-        × (HeldAfter order.new counts.new × ((result.code ≡ 0 → ⊥) → Stays order.old order.new
-        × Stays counts.old counts.new)) }
+pub fn clear_io(c: &mut Controller, attr: u64, payload: &[u8]) -> Result<u64, Refusal>
+    requires { Held c.old.order c.old.counts }
+    ensures answer { (L : Limits) (s : State) (singles : List ℕ)
+        → s.pending ≡ pending_of c.old.order c.old.counts c.old.slots singles
+        → Answers L s payload.now (request L s clear_io_irq attr payload.now) (as_answer result)
+        (with_pending (pending_of c.new.order c.new.counts c.new.slots singles) s)
+        payload.now }
+    ensures held { Held c.new.order c.new.counts }
+    ensures others { (c.new.slots ≡ c.old.slots) × (c.new.singles ≡ c.old.singles)
+        × (c.new.ais ≡ c.old.ais) }
+    ensures kept { OnErr result (c.new ≡ c.old) }
 {
     if attr < 4 {
-        return answers::refuse(EINVAL);
+        return Err(Refusal::Invalid);
     }
     if payload.len() < 4 {
-        return answers::refuse(EFAULT);
+        return Err(Refusal::Fault);
     }
     let word = numbers::read_word(payload, 0);
     if word == 0 {
-        return answers::refuse(EINVAL);
+        return Err(Refusal::Invalid);
     }
-    let Found::At(isc, at) = store_search::find(slots, order, counts, 255, false, Subchannel(word))
-    else {
-        return answers::accept(0); // no record is for it
+    let Found::At(isc, at) = store_search::find(
+        &c.slots,
+        &c.order,
+        &c.counts,
+        255,
+        false,
+        Subchannel(word),
+    ) else {
+        return Ok(0); // no record is for it
     };
-    store_queues::remove(order, counts, store_queues::of(isc), at);
-    answers::accept(1)
+    store_queues::remove(&mut c.order, &mut c.counts, store_queues::of(isc), at);
+    Ok(1)
 }
 
-// Writes a record to the buffer's start.
-fn hand(out: &mut [u8], r: [u8; 72]) -> Answer
+// Writes a record to the buffer's start. The answer is how many records that are.
+fn hand(out: &mut [u8], r: [u8; 72]) -> u64
     requires { 72 ≤ length out.old }
-    ensures { (result ≡ answered 0 1) × (out.new ≡ r ++ drop 72 out.old) }
+    ensures { (result ≡ 1) × (out.new ≡ r ++ drop 72 out.old) }
 {
     numbers::save(out, 0, r);
-    answers::accept(1) // one record
+    1 // one record
 }
 
-// The record of the nine queues that a take hands out: its queue and its place there, or none.
-#[derive(Drop)]
-enum Next {
-    At(Queue, usize),
-    None,
-}
-
-// The oldest finished page fault, where external interrupts are allowed, else the first I/O record that is allowed.
-fn next_queued(
-    slots: &[u8; SLOT_BYTES],
-    order: &[u8; ORDER_BYTES],
-    counts: &[usize; COUNTS],
-    subclasses: u8,
-    external: bool,
-) -> Next
-    requires { Held order.now counts.now }
-    ensures place { NextIn counts.now result }
+// The record of the nine queues that a take hands out, its queue and its place there, or none: the oldest finished page
+// fault, where external interrupts are allowed, else the first I/O record that is allowed.
+fn next_queued(c: &Controller, subclasses: u8, external: bool) -> Option<(Queue, usize)>
+    requires { Held c.now.order c.now.counts }
+    ensures place { NextIn c.now.counts result }
     ensures hands { (singles : List ℕ)
-        → hands_queued (pending_of order.now counts.now slots.now singles)
+        → hands_queued (pending_of c.now.order c.now.counts c.now.slots singles)
         subclasses external
-        ≡ handed_next result (queues order.now counts.now slots.now)
-        (pending_of order.now counts.now slots.now singles) }
+        ≡ handed_next result (queues c.now.order c.now.counts c.now.slots)
+        (pending_of c.now.order c.now.counts c.now.slots singles) }
 {
-    if external && 0 < store_queues::count(counts, store_queues::done()) {
-        return Next::At(store_queues::done(), 0);
+    if external && 0 < store_queues::count(&c.counts, store_queues::done()) {
+        return Some((store_queues::done(), 0));
     }
-    let allowed = subclasses & store_queues::nonempty(counts);
-    let Found::At(isc, at) = store_search::find(slots, order, counts, allowed, true, Subchannel(0))
-    else {
-        return Next::None;
+    let allowed = subclasses & store_queues::nonempty(&c.counts);
+    let Found::At(isc, at) = store_search::find(
+        &c.slots,
+        &c.order,
+        &c.counts,
+        allowed,
+        true,
+        Subchannel(0),
+    ) else {
+        return None;
     };
-    Next::At(store_queues::of(isc), at)
+    Some((store_queues::of(isc), at))
 }
 
 // The guest take. A record is written to the buffer before it is removed: its bytes then go from slot to buffer.
 pub fn take(
-    slots: &[u8; SLOT_BYTES],
-    order: &mut [u8; ORDER_BYTES],
-    counts: &mut [usize; COUNTS],
-    singles: &mut [u8; SINGLES_BYTES],
+    c: &mut Controller,
     subclasses: u8,
     external: bool,
     mcheck: bool,
     out: &mut [u8],
-) -> Answer
-    requires { Held order.old counts.old }
-    ensures { ((L : Limits) (s : State) → s.pending ≡ before order.old counts.old slots.now singles.old
-        → Answers L s out.old (takes s subclasses external mcheck out.old) result
-        (with_pending (pending_of order.new counts.new slots.now singles.new) s)
-        out.new)
-        × (HeldAfter order.new counts.new
-        × ((result.code ≡ 0 → ⊥) → Stays order.old order.new × Stays counts.old counts.new
-        × Stays singles.old singles.new × Stays out.old out.new)) }
+) -> Result<u64, Refusal>
+    requires { Held c.old.order c.old.counts }
+    ensures answer { (L : Limits) (s : State) → s.pending ≡ pending_in c.old
+        → Answers L s out.old (takes s subclasses external mcheck out.old) (as_answer result)
+        (with_pending (pending_in c.new) s) out.new }
+    ensures held { Held c.new.order c.new.counts }
+    ensures others { (c.new.slots ≡ c.old.slots) × (c.new.ais ≡ c.old.ais) }
+    ensures kept { OnErr result ((c.new ≡ c.old) × (out.new ≡ out.old)) }
 {
     if out.len() < 72 {
-        return answers::refuse(EFAULT);
+        return Err(Refusal::Fault);
     }
-    if mcheck && store_singles::has_mchk(singles) {
-        let a = hand(out, store_singles::read_mchk(singles));
-        store_singles::drop_mchk(singles);
-        return a;
+    if mcheck && store_singles::is_there(&c.singles, Single::MachineCheck) {
+        let count = hand(out, store_singles::read(&c.singles, Single::MachineCheck));
+        store_singles::remove(&mut c.singles, Single::MachineCheck);
+        return Ok(count);
     }
-    if external && store_singles::has_service(singles) {
-        let a = hand(out, store_singles::read_service(singles));
-        store_singles::drop_service(singles);
-        return a;
+    if external && store_singles::is_there(&c.singles, Single::Service) {
+        let count = hand(out, store_singles::read(&c.singles, Single::Service));
+        store_singles::remove(&mut c.singles, Single::Service);
+        return Ok(count);
     }
-    let Next::At(q, at) = next_queued(slots, order, counts, subclasses, external) else {
-        return answers::accept(0); // the buffer is not touched
+    let Some((q, at)) = next_queued(c, subclasses, external) else {
+        return Ok(0); // the buffer is not touched
     };
-    let a = hand(out, store_queues::read(slots, order, counts, q, at));
-    store_queues::remove(order, counts, q, at);
-    a
+    let count = hand(
+        out,
+        store_queues::read(&c.slots, &c.order, &c.counts, q, at),
+    );
+    store_queues::remove(&mut c.order, &mut c.counts, q, at);
+    Ok(count)
 }

@@ -3,7 +3,7 @@ use Rattle.numbers.proofs.Basics.{◌≡◌, refl, sym, ap, ◌∙◌, true, Lis
 use Rattle.numbers.proofs.{Basics.◌^◌, Basics.◌≤◌, Basics.◌<◌, Basics.not-suc-le-zero, Basics.le_of_suc-le-suc, Basics.div-div-eq-div-mul, Basics.pow-suc, Basics.take-set-lt, Basics.take-set-le, Basics.length-take-le, Basics.get_or-take, Basics.get_or-drop, Basics.get_or-set_same, Basics.get_or-set_other, Basics.drop-drop, Basics.eq-eqb, Laws.each-subclass}
 use Rattle.numbers.proofs.Basics.{mul_comm, add-one, arith, length, take, drop, get_or, set, replicate, length-set}
 use Rattle.rules.specs.State.{has_bit, bit}
-use Rattle.store_queues.specs.{Slots.slot_count, Queues.each, Queues.total, Queues.waiting, Queues.sum, Queues.some, Queues.bits, Queues.Counted}
+use Rattle.store_queues.specs.{Slots.slot_count, Queues.each, Queues.total, Queues.waiting, Queues.sum, Queues.some, Queues.bits, Queues.Counted, Queues.Held}
 
 -- ---- sums
 pub sum-at : (ns : List ℕ) (i : ℕ) → get_or ns i 0 ≤ sum ns
@@ -159,3 +159,7 @@ module _ (c : List ℕ) (h : Counted c) (i m t w : ℕ) (k : i < 9) (c' : List �
         few = omega (arith, d.total-is);
         marked = rw (d.each-is, d.waiting-is) (omega (arith, rw e at (bits-set 128 (each c) i m l), h.marked));
       }
+
+-- what a queue holds is at most what all hold, and that at most the slots
+pub held_few : (o c : List ℕ) (q : ℕ) → Held o c → q < 9 → (get_or c q 0 ≤ get_or c 9 0) × (get_or c 9 0 ≤ slot_count)
+held_few o c q h k = (count_small c h.counted q k, h.counted.few)

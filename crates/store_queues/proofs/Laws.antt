@@ -1,12 +1,13 @@
 -- Laws of the queues: what the order and the counts say of them, and what a record more and a record less leave.
 use Rattle.numbers.proofs.Basics.{◌≡◌, refl, sym, ap, ◌∙◌, subst, Bool, true, false, List, [], ◌∷◌, ◌++◌, flatten}
-use Rattle.numbers.proofs.Basics.{map, map-append, append_assoc, append-nil, zero-add, ℕ, zero, suc, ◌+◌, ◌-◌, ◌*◌, ◌/◌, ◌^◌}
+use Rattle.numbers.proofs.Basics.{map, map-append, append-nil, zero-add, ℕ, zero, suc, ◌+◌, ◌-◌, ◌*◌, ◌/◌, ◌^◌}
 use Rattle.numbers.proofs.Basics.{◌≤◌, ◌<◌, not-suc-le-zero, le_of_suc-le-suc, add-one, arith, length, take, drop}
 use Rattle.numbers.proofs.Basics.{get_or, set, replicate, length-append, length-drop, length-map, length-set, get_or-take}
-use Rattle.numbers.proofs.Basics.{get_or-drop, take_all, take-suc, paste, length-paste, take-paste, eqb, eqb-true}
-use Rattle.numbers.proofs.{Basics.ne_eqb, Laws.map-set, Laws.get_d_map, Laws.part_same, Laws.drop_past}
+use Rattle.numbers.proofs.Basics.{get_or-drop, take_all, take-suc, paste, length-paste, eqb, eqb-true}
+use Rattle.numbers.proofs.{Basics.ne_eqb, Laws.map-set, Laws.part_same}
 use Rattle.rules.specs.{Bytes.choose, State.Record, Invariant.All}
 use Rattle.rules.proofs.Lists.{all_append, flatten-append}
+use Rattle.std.proofs.lemmas.{List.get_or-map, List.Edits.paste-paste}
 use Rattle.store_queues.specs.Slots.{slot_count, remove_at, slot, occurs, Apart, Stored}
 use Rattle.store_queues.proofs.{Slots.map-remove_at, Slots.occurs-append, Slots.occurs-out, Slots.occurs-self, Slots.occurs-set, Slots.maps-lack, Counts.sum-next, Counts.length-each, Counts.count_small, Counts.Changed, Counts.counted-again, Counts.some_one, Counts.all-zero}
 use Rattle.store_queues.specs.Queues.{row, rows, each, total, waiting, used, spare, listed, queues, without_at, sum, some, bits, up_from, Held, Appended, Removed, Emptied}
@@ -32,7 +33,7 @@ module _ (b o : List ℕ) (q : ℕ) (h : q * slot_count + slot_count ≤ length 
   pub named-at : (at : ℕ) → at < n → get_or (listed b (row o q n)) at [] ≡ slot 72 b (get_or o (q * slot_count + at) 0)
   named-at at f =
       let l : length (row o q n) ≡ n = length-row o q h n k in
-      get_d_map (slot 72 b) (row o q n) at 0 [] (omega arith) ∙ ap (slot 72 b) (row_at o q h n at f)
+      get_or-map (slot 72 b) (row o q n) at 0 [] (omega arith) ∙ ap (slot 72 b) (row_at o q h n at f)
 
 module _ (o c : List ℕ) (h : Held o c) where
   eachs : length (each c) ≡ 9
@@ -44,6 +45,9 @@ module _ (o c : List ℕ) (h : Held o c) where
 
   pub count_fits : (q : ℕ) → q < 9 → get_or c q 0 ≤ slot_count
   count_fits q k = omega (arith, count_small c h.counted q k, h.counted.few)
+
+  pub each_fits : (q : ℕ) → q < 9 → get_or (each c) q 0 ≤ slot_count
+  each_fits q k = rw (get_or-take 9 c q 0 k) (count_fits q k)
 
   row-used : (q : ℕ) → q < 9 → get_or (used o c) q [] ≡ row o q (get_or c q 0)
   row-used q k = rows_at o 0 (each c) q (omega (arith, eachs)) ∙ rw (get_or-take 9 c q 0 k, zero-add q)
@@ -63,7 +67,7 @@ module _ (o c : List ℕ) (h : Held o c) where
 
     queue-is : (q : ℕ) → q < 9 → get_or (queues o c b) q [] ≡ listed b (row o q (get_or c q 0))
     unfolding queues
-    queue-is q k = get_d_map (listed b) (used o c) q [] [] (omega (arith, length-used)) ∙ ap (listed b) (row-used q k)
+    queue-is q k = get_or-map (listed b) (used o c) q [] [] (omega (arith, length-used)) ∙ ap (listed b) (row-used q k)
 
     pub length-queue : (q : ℕ) → q < 9 → length (get_or (queues o c b) q []) ≡ get_or c q 0
     length-queue q k = rw (queue-is q k) (length-named b o q (within q (omega arith)) (get_or c q 0) (count_fits q k))
@@ -113,7 +117,7 @@ module _ (o c : List ℕ) (h : Held o c) where
           ∙ rows-changed u o 0 (each c) q (get_or c q 0 + 1) _ (omega (arith, eachs))
           (rw (zero-add q) (row-stored o q (within q (omega arith)) (get_or c q 0) next not_full))
           (λ j ne l. row-beside o (0 + j) q (get_or c q 0) next _ (λ e. ne (omega (arith, e))) not_full
-          (rw (get_or-take 9 c j 0 (omega (arith, eachs))) (count_fits j (omega (arith, eachs)))))
+          (each_fits j (omega (arith, eachs))))
 
       spare-less : spare u c' ≡ row o 9 (slot_count - (n + 1))
       spare-less =
@@ -198,7 +202,7 @@ module _ (o c : List ℕ) (h : Held o c) where
           (λ j ne l.
           let j9 : j < 9 = omega (arith, eachs, l) in
           let z : 0 + j ≡ j = omega arith in
-          let m : get_or (each c) j 0 ≤ slot_count = rw (get_or-take 9 c j 0 j9) (count_fits j j9) in
+          let m : get_or (each c) j 0 ≤ slot_count = each_fits j j9 in
           rw z (kept j _ j9 m ∙ beside j _ ne m))
 
       spare_more : spare y c' ≡ spare o c ++ (freed ∷ [])
@@ -312,53 +316,41 @@ reset-leaves o u c l eu ec =
     })
 
 -- ---- the listing
--- a copy, and behind it another
-paste-on : (d g r : List ℕ) (at m w : ℕ) → length g ≡ m → length r ≡ w → at + m + w ≤ length d → paste (paste d at g m) (at + m) r w ≡ paste d at (g ++ r) (m + w)
-paste-on d g r at m w lg lr h =
-    let e : at + m + w ≡ at + (m + w) = omega arith in
-    rw (
-      take-paste d at g m (omega arith) (omega arith),
-      drop_past d at g m (at + m + w) (omega arith) (omega arith) (omega arith),
-      take_all m g (omega arith),
-      take_all w r (omega arith),
-      take_all (m + w) (g ++ r) (rw length-append (omega arith)),
-      e,
-      append_assoc (take at d) g r,
-    )
-
 -- the records of one queue, one by one, from index at
 module _ (l : List (List ℕ)) (out d : List ℕ) (at k : ℕ) (h : k < length l) (lr : length (get_or l k []) ≡ 72) (lf : length (flatten (take k l)) ≡ k * 72) (fits : at + k * 72 + 72 ≤ length out) where
   pub list-turn : d ≡ paste out at (flatten (take k l)) (k * 72)
       → (length (flatten (take (k + 1) l)) ≡ (k + 1) * 72) × (paste d (at + k * 72) (get_or l k []) 72 ≡ paste out at (flatten (take (k + 1) l)) ((k + 1) * 72))
   list-turn e =
       let m : (k + 1) * 72 ≡ k * 72 + 72 = omega arith in
-      (rw (flatten-next l k h, length-append, lf, lr, m), rw (e, flatten-next l k h, m) (paste-on out (flatten (take k l)) (get_or l k []) at (k * 72) 72 lf lr fits))
+      (rw (flatten-next l k h, length-append, lf, lr, m), rw (e, flatten-next l k h, m) (paste-paste out at (flatten (take k l)) (get_or l k []) (k * 72) 72 (sym lf) (sym lr) (omega arith)))
+
+-- there is room for the next queue's records
+pub queue_fits : (o c : List ℕ) (i at n : ℕ) → Held o c → i < 9 → at ≡ sum (take i (each c)) * 72 → total c * 72 ≤ n
+    → (at + get_or (each c) i 0 * 72 ≤ n) × (get_or (each c) i 0 ≤ slot_count)
+queue_fits o c i at n h k ea fits =
+    (omega (arith, (sum-next (each c) i (omega (arith, length-each c h.counted))).1, h.counted.all, ea, fits), each_fits o c h i k)
 
 -- the queues one by one
 module _ (o c b : List ℕ) (hd : Held o c) (out d : List ℕ) (i at : ℕ) (h : i < 9) (ea : at ≡ sum (take i (each c)) * 72) (fits : total c * 72 ≤ length out) where
   abbrev qs : List (List (List ℕ))
   qs = queues o c b
 
-  pub queue-fits : at + get_or c i 0 * 72 ≤ length out
-  queue-fits =
-      omega (arith, (rw (get_or-take 9 c i 0 h) at (sum-next (each c) i (omega (arith, length-each c hd.counted)))).1, hd.counted.all, ea, fits)
-
   pub queues-turn : (e : List ℕ) → length (flatten (flatten (take i qs))) ≡ at → d ≡ paste out 0 (flatten (flatten (take i qs))) at
-      → length (flatten (listed b (row o i (get_or c i 0)))) ≡ get_or c i 0 * 72 → e ≡ paste d at (flatten (listed b (row o i (get_or c i 0)))) (get_or c i 0 * 72)
-      → (at + get_or c i 0 * 72 ≡ sum (take (i + 1) (each c)) * 72) × (length (flatten (flatten (take (i + 1) qs))) ≡ at + get_or c i 0 * 72)
-      × (e ≡ paste out 0 (flatten (flatten (take (i + 1) qs))) (at + get_or c i 0 * 72))
+      → length (flatten (listed b (row o i (get_or (each c) i 0)))) ≡ get_or (each c) i 0 * 72 → e ≡ paste d at (flatten (listed b (row o i (get_or (each c) i 0)))) (get_or (each c) i 0 * 72)
+      → (at + get_or (each c) i 0 * 72 ≡ sum (take (i + 1) (each c)) * 72) × (length (flatten (flatten (take (i + 1) qs))) ≡ at + get_or (each c) i 0 * 72)
+      × (e ≡ paste out 0 (flatten (flatten (take (i + 1) qs))) (at + get_or (each c) i 0 * 72))
   queues-turn e lg ed lr ee =
-      let r : List ℕ = flatten (listed b (row o i (get_or c i 0))) in
+      let r : List ℕ = flatten (listed b (row o i (get_or (each c) i 0))) in
       let g : List ℕ = flatten (flatten (take i qs)) in
-      let n : ℕ = get_or c i 0 in
+      let n : ℕ = get_or (each c) i 0 in
       let more : flatten (flatten (take (i + 1) qs)) ≡ g ++ r =
-      ap flatten (flatten-next qs i (rw (length-queues o c hd b) (omega arith)) ∙ ap (λ (t : List (List ℕ)). flatten (take i qs) ++ t) (queue-is o c hd b i h))
-      ∙ flatten-append (flatten (take i qs)) (listed b (row o i n)) in
+      ap flatten (flatten-next qs i (rw (length-queues o c hd b) (omega arith)) ∙ ap (λ (t : List (List ℕ)). flatten (take i qs) ++ t) (queue-is o c hd b i h ∙ ap (λ (n : ℕ). listed b (row o i n)) (sym (get_or-take 9 c i 0 h))))
+      ∙ flatten-append (flatten (take i qs)) (listed b (row o i (get_or (each c) i 0))) in
       let z : 0 + at ≡ at = omega arith in (
-        omega (arith, (rw (get_or-take 9 c i 0 h) at (sum-next (each c) i (omega (arith, length-each c hd.counted)))).0, ea),
+        omega (arith, (sum-next (each c) i (omega (arith, length-each c hd.counted))).0, ea),
         rw (more, length-append) (omega (arith, lg, lr)),
         ee ∙ ap (λ (t : List ℕ). paste t at r (n * 72)) ed ∙ ap (λ (j : ℕ). paste (paste out 0 g at) j r (n * 72)) (sym z)
-            ∙ paste-on out g r 0 at (n * 72) lg lr (omega (arith, queue-fits)) ∙ ap (λ (t : List ℕ). paste out 0 t (at + n * 72)) (sym more),
+            ∙ paste-paste out 0 g r at (n * 72) (sym lg) (sym lr) (omega arith) ∙ ap (λ (t : List ℕ). paste out 0 t (at + n * 72)) (sym more),
       )
 
 pub list-leaves : (o c b out d : List ℕ) (at : ℕ) → Held o c → at ≡ sum (take 9 (each c)) * 72 → length (flatten (flatten (take 9 (queues o c b)))) ≡ at

@@ -1,31 +1,29 @@
 -- Laws of slots and of lists of slot numbers.
-use Rattle.numbers.proofs.Basics.{◌≡◌, refl, sym, ap, ◌∙◌, Bool, true, false, List, [], ◌∷◌, ◌++◌, map, map-append}
-use Rattle.numbers.proofs.Basics.{flatten, ℕ, zero, suc, ◌+◌, ◌-◌, ◌*◌, ◌≤◌, ◌<◌, zero-add, suc-add, not-suc-le-zero}
+use Rattle.numbers.proofs.Basics.{◌≡◌, refl, sym, ap, Bool, true, false, List, [], ◌∷◌, ◌++◌, map, map-append}
+use Rattle.numbers.proofs.Basics.{flatten, ℕ, zero, suc, ◌+◌, ◌*◌, ◌≤◌, ◌<◌, zero-add, suc-add, not-suc-le-zero}
 use Rattle.numbers.proofs.Basics.{le_of_suc-le-suc, suc-mul, mul-le-mul_right, add-one, dec_lt, arith, length, take}
-use Rattle.numbers.proofs.Basics.{drop, get_or, set, length-drop, split_at, get_or-drop, length-take-le, paste, eqb}
-use Rattle.numbers.proofs.{Basics.eqb-false, Basics.eq-eqb, Laws.map-take, Laws.map-drop, Laws.paste_more, Laws.drop_past, Laws.get_d_past, Laws.part-before}
+use Rattle.numbers.proofs.Basics.{◌-◌, drop, get_or, set, length-drop, split_at, get_or-drop, length-take-le, paste, eqb}
+use Rattle.numbers.proofs.{Basics.eqb-false, Basics.eq-eqb, Laws.take-map, Laws.drop-map, Laws.drop_past, Laws.get_d_past, Laws.part-before}
+use Rattle.std.proofs.lemmas.List.Edits.{paste_more}
 use Rattle.rules.specs.Bytes.{choose}
 use Rattle.store_queues.specs.Slots.{remove_at, slot, occurs}
 
 -- ---- a turn of move_down
-module _ {ℓ} {A : Type ℓ} where
-  pub down_turn : (b d : List A) (lo end i : ℕ) (z : A) → lo ≤ i → i < end → end + 1 ≤ length d → length b ≡ length d → b ≡ paste d lo (drop (lo + 1) d) (i - lo)
-      → (lo ≤ i + 1) × (i + 1 ≤ end) × (length (set b i (get_or b (i + 1) z)) ≡ length d) × (set b i (get_or b (i + 1) z) ≡ paste d lo (drop (lo + 1) d) (i + 1 - lo))
-  down_turn b d lo end i z h k f l e =
-      let s : List A = drop (lo + 1) d in
-      let ls : length s ≡ length d - (lo + 1) = length-drop (lo + 1) d in
-      let next : i + 1 - lo ≡ i - lo + 1 = omega arith in
-      let at : i + 1 ≡ lo + 1 + (i - lo) = omega arith in
-      let v : get_or b (i + 1) z ≡ get_or s (i - lo) z =
-      rw (e, get_d_past d lo s (i - lo) (i + 1) z (omega arith) (omega arith) (omega arith), at) (sym (get_or-drop (lo + 1) d (i - lo) z)) in
-      let t = paste_more b d lo s (i - lo) i (end - lo) z (omega arith) (omega arith) (omega arith) (omega arith) l e in
-      (omega arith, omega arith, rw v t.1, rw (v, next) t.2)
+pub down_turn : (b d : List ℕ) (lo i j n : ℕ) → i ≡ lo + j → n ≡ j + 1 → i + 1 < length d → b ≡ paste d lo (drop (lo + 1) d) j
+    → set b i (get_or b (i + 1) 0) ≡ paste d lo (drop (lo + 1) d) n
+down_turn b d lo i j n p q h e =
+    let s : List ℕ = drop (lo + 1) d in
+    let ls : length s ≡ length d - (lo + 1) = length-drop (lo + 1) d in
+    let at : i + 1 ≡ lo + 1 + j = omega arith in
+    let v : get_or b (i + 1) 0 ≡ get_or s j 0 =
+    rw (e, get_d_past d lo s j (i + 1) 0 (omega arith) (omega arith) (omega arith), at) (sym (get_or-drop (lo + 1) d j 0)) in
+    rw (v, q, e, p) (paste_more d lo s j 0 (omega arith) (omega arith))
 
 -- ---- one less
 module _ {A B : Type 0} (f : A → B) where
   pub map-remove_at : (k : ℕ) (l : List A) → map f (remove_at k l) ≡ remove_at k (map f l)
   unfolding remove_at
-  map-remove_at k l = map-append f (take k l) (drop (k + 1) l) ∙ (λ i. map-take f k l i ++ map-drop f (k + 1) l i)
+  map-remove_at k l = rw (map-append, take-map, drop-map)
 
 -- ---- how often an entry stands
 choose-add : (t : Bool) (m n : ℕ) → choose t (suc (m + n)) (m + n) ≡ choose t (suc m) m + n

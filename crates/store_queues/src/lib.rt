@@ -1,4 +1,6 @@
 // Inner crate: nine queues. Each is a row of slot numbers, oldest first, with a count. One more row has the free slots.
+// Arrays of fixed size, as C lends them. A function is lent those that it works on, and no struct with more: of what it
+// is not lent no clause has to say that it stays.
 #![tactic(auto)]
 
 ghost use Rattle.std.specs.Prelude.{◌≡◌, ◌+◌, ◌-◌, ◌≤◌, ◌*◌, ◌<◌, length, drop, get_or};
@@ -15,10 +17,9 @@ pub fn move_down(o: &mut [u8], lo: usize, end: usize)
     requires { (lo ≤ end) × (end + 1 ≤ length o.old) }
     ensures { o.new ≡ paste o.old lo (drop (lo + 1) o.old) (end - lo) }
 {
-    let mut i = lo;
-    while i < end {
+    // A loop, not copy_within: that call becomes a memmove, and flic.h says that the library needs none.
+    for i in lo..end {
         o[i] = o[i + 1];
-        i += 1;
     }
 }
 
@@ -26,21 +27,21 @@ pub fn move_down(o: &mut [u8], lo: usize, end: usize)
 pub fn write_slot(b: &mut [u8; SLOT_BYTES], s: u8, r: [u8; 72])
     ensures { Stored s r b.old b.new }
 {
-    numbers::save(b, numbers::index(s) * 72, r);
+    numbers::save(b, usize::from(s) * 72, r);
 }
 
 // The record in slot s.
 pub fn read_slot(b: &[u8; SLOT_BYTES], s: u8) -> [u8; 72]
     ensures { result ≡ slot 72 b.now s }
 {
-    numbers::load(b, numbers::index(s) * 72)
+    numbers::load(b, usize::from(s) * 72)
 }
 
-// The queue of a subclass.
+// The queue of a subclass. Not From, for the reason that numbers::subclass_byte has.
 pub fn of(isc: Subclass) -> Queue
     ensures { result ≡ record { 0 = isc.0 } }
 {
-    Queue(numbers::index(isc.0))
+    Queue(usize::from(isc.0))
 }
 
 // The queue of finished page faults.
@@ -85,6 +86,7 @@ pub fn slot_of(o: &[u8; ORDER_BYTES], q: Queue, at: usize) -> u8
 
 // Appends r to a queue. The queues hold n records together. The record is written before the order and the counts, so
 // that its bytes go straight from registers to the slot.
+#[tactic(auto, using(crate::proofs::Counts::held_few))]
 pub fn append(
     b: &mut [u8; SLOT_BYTES],
     o: &mut [u8; ORDER_BYTES],
@@ -111,6 +113,7 @@ pub fn append(
 }
 
 // Takes the record at a place out of its queue. Its slot is then free, and is the next one to be used.
+#[tactic(auto, using(crate::proofs::Counts::held_few))]
 pub fn remove(o: &mut [u8; ORDER_BYTES], c: &mut [usize; COUNTS], q: Queue, at: usize)
     requires { (q.0 < 9) × (at < get_or c.old q.0 0) × Held o.old c.old }
     ensures { Removed q.0 at o.old c.old o.new c.new }
@@ -131,6 +134,7 @@ pub fn remove(o: &mut [u8; ORDER_BYTES], c: &mut [usize; COUNTS], q: Queue, at: 
 }
 
 // The record at a place of a queue.
+#[tactic(auto, using(crate::proofs::Counts::held_few))]
 pub fn read(
     b: &[u8; SLOT_BYTES],
     o: &[u8; ORDER_BYTES],
@@ -159,26 +163,22 @@ fn list_queue(
         ≡ paste out.old at (flatten (listed b.now (row o.now q.0 n))) (n * 72) }
     ensures long { length (flatten (listed b.now (row o.now q.0 n))) ≡ n * 72 }
 {
-    let mut k = 0;
-    while k < n {
+    for k in 0..n {
         numbers::save(out, at + k * 72, read_slot(b, slot_of(o, q, k)));
-        k += 1;
     }
 }
 
 // Writes all records to out, one after the other, in listing order.
+#[tactic(auto, using(crate::proofs::Laws::queue_fits))]
 pub fn list(b: &[u8; SLOT_BYTES], o: &[u8; ORDER_BYTES], c: &[usize; COUNTS], out: &mut [u8])
     requires { Held o.now c.now × (total c.now * 72 ≤ length out.old) }
     ensures { out.new ≡ flatten (flatten (queues o.now c.now b.now))
         ++ drop (total c.now * 72) out.old }
 {
     let mut at = 0;
-    let mut i = 0;
-    while i < QUEUES {
-        let n = c[i];
+    for (i, &n) in c[..QUEUES].iter().enumerate() {
         list_queue(b, o, Queue(i), n, out, at);
         at += n * 72;
-        i += 1;
     }
 }
 
@@ -187,10 +187,8 @@ fn free_all(o: &mut [u8])
     requires { length o.old ≡ 10 * slot_count }
     ensures { o.new ≡ paste o.old (9 * slot_count) (up_from 0 slot_count) slot_count }
 {
-    let mut i = 0;
-    while i < ROOM {
+    for i in 0..ROOM {
         o[QUEUES * ROOM + i] = i as u8;
-        i += 1;
     }
 }
 

@@ -1,11 +1,11 @@
 -- Laws of the search over queues, and of what the rules do at the place that it finds.
 use Rattle.numbers.proofs.Basics.{◌≡◌, refl, sym, ap, ◌∙◌, Bool, true, false, ◌&&◌, none, some, List, [], ◌∷◌, ℕ}
-use Rattle.numbers.proofs.Basics.{zero, suc, ◌+◌, ◌-◌, ◌*◌, ◌/◌, ◌%◌, ◌^◌, ◌≤◌, ◌<◌, min, add-one, arith, length}
+use Rattle.numbers.proofs.Basics.{suc, ◌+◌, ◌-◌, ◌*◌, ◌/◌, ◌%◌, ◌^◌, ◌≤◌, ◌<◌, min, add-one, arith, length}
 use Rattle.numbers.proofs.Basics.{take, drop, get_or, length-take, drop_of_length-le, drop-cons, get_or-take, eqb, bit_and}
 use Rattle.numbers.proofs.{Basics.and_step, Basics.eqb-true, Basics.eqb-false, Basics.eq-eqb, Basics.ne_eqb, Laws.field-part, Laws.each-subclass}
 use Rattle.rules.specs.{Bytes.choose, Bytes.field, State.Record, State.bit, State.has_bit, Requests.cons_to, Requests.without, Requests.or_in, Requests.without_first, Take.first_allowed, Take.keep}
 use Rattle.store_queues.specs.{Slots.remove_at, Slots.slot, Queues.without_at}
-use Rattle.store_queues.proofs.Counts.{halves}
+use Rattle.std.proofs.lemmas.Nat.{and_shr}
 use Rattle.store_search.specs.{declared.Found.Found, declared.Found.TheVariants.At, declared.Found.TheVariants.None, Search.is_for_word, Search.wanted, Search.search_queue, Search.search_queues, Search.left_at, Search.handed_at}
 
 -- ---- a record is for a subchannel by one word of its slot, which is two halves
@@ -30,22 +30,24 @@ module _ (qs : List (List Record)) (f : Record → Bool) (subclasses i : ℕ) wh
   abbrev pub later : Found
   later = search_queues f subclasses (i + 1) (drop (i + 1) (take 8 qs))
 
-  pub search-queue : i < 8 → length qs ≡ 9 → search_queues f subclasses i (drop i (take 8 qs)) ≡ choose (has_bit i subclasses) (search_queue f i 0 (get_or qs i []) later) later
+  -- a subclass that is passed over, and one whose queue is searched
+  pub search-turn : (t : Bool) → i < 8 → length qs ≡ 9 → t ≡ has_bit i subclasses
+      → search_queues f subclasses i (drop i (take 8 qs)) ≡ choose t (search_queue f i 0 (get_or qs i []) later) later
   unfolding search_queues
-  search-queue h nine =
+  search-turn t h nine e =
       let n : i < length (take 8 qs) = rw length-take (omega arith) in
-      rw (add-one, drop-cons (take 8 qs) i [] n, get_or-take 8 qs i [] h)
+      rw (add-one, drop-cons (take 8 qs) i [] n, get_or-take 8 qs i [] h, e)
 
   module _ (k : ℕ) where
     pub search-end : length (get_or qs i []) ≤ k → search_queue f i k (drop k (get_or qs i [])) later ≡ later
     unfolding search_queue
     search-end l = rw (drop_of_length-le (get_or qs i []) {i = k} l)
 
-    pub search-record : (w : Found) (on x : Bool) → w ≡ choose on (search_queue f i k (drop k (get_or qs i [])) later) later → on ≡ true
-        → k < length (get_or qs i []) → f (get_or (get_or qs i []) k []) ≡ x
-        → w ≡ choose x (At (record { 0 = i }) k) (search_queue f i (k + 1) (drop (k + 1) (get_or qs i [])) later)
-    unfolding search_queue choose
-    search-record w on x ew t l ex = rw (ew, t, add-one k, drop-cons (get_or qs i []) k [] l, ex)
+    pub search-record : (x : Bool) → k < length (get_or qs i []) → f (get_or (get_or qs i []) k []) ≡ x
+        → search_queue f i k (drop k (get_or qs i [])) later
+        ≡ choose x (At (record { 0 = i }) k) (search_queue f i (k + 1) (drop (k + 1) (get_or qs i [])) later)
+    unfolding search_queue
+    search-record x l ex = rw (add-one k, drop-cons (get_or qs i []) k [] l, ex)
 
 -- ---- what is found by a search that starts at subclass n is of a subclass from n on
 abbrev From : ℕ → Found → Type 0
@@ -165,16 +167,8 @@ module _ (any : Bool) (word subclasses : ℕ) (qs : List (List Record)) (v : Fou
       ∙ ap (λ (u : Found). handed_at u (take 8 qs)) (past-none _ ∙ sym (e ∙ (λ i. search_queues (wanted (a i) word) subclasses 0 (take 8 qs))))
 
 -- ---- a mask without the subclasses that have no records
-one-digit : (a b : ℕ) → min (a % 2) (b % 2) < 2
-one-digit a b = omega arith
-
 digit_and : (k a b : ℕ) → bit_and a b / 2 ^ k % 2 ≡ min (a / 2 ^ k % 2) (b / 2 ^ k % 2)
-digit_and zero a b =
-    let e : (n : ℕ) → n / 2 ^ 0 ≡ n = λ n. omega arith in
-    rw (e (bit_and a b), e a, e b) (omega (arith, and_step a b, one-digit a b))
-digit_and (suc k) a b =
-    let e : bit_and a b / 2 ≡ bit_and (a / 2) (b / 2) = omega (arith, and_step a b, one-digit a b) in
-    rw (← halves (bit_and a b) k, ← halves a k, ← halves b k, e) (digit_and k (a / 2) (b / 2))
+digit_and k a b = rw and_shr (omega (arith, and_step (a / 2 ^ k) (b / 2 ^ k)))
 
 bit-and : (a b i : ℕ) → i ≤ 7 → bit_and a b / bit i % 2 ≡ min (a / bit i % 2) (b / bit i % 2)
 bit-and a b =

@@ -11,7 +11,8 @@ ghost use Rattle.store_search.specs.Search.{is_for_word, FoundIn, left_at, hande
 use numbers::{COUNTS, ORDER_BYTES, SLOT_BYTES, Subchannel, Subclass};
 
 // What a search found: a record's subclass and its place in the queue of that subclass, or none.
-#[derive(Drop)]
+// An enum of its own, not an Option: the project names At or None, and a loop left by its label, as the search's form.
+#[derive(Clone, Copy, Debug, PartialEq, Eq)]
 pub enum Found {
     At(Subclass, usize),
     None,
@@ -21,7 +22,7 @@ pub enum Found {
 fn is_for(b: &[u8; SLOT_BYTES], s: u8, word: Subchannel) -> bool
     ensures { result ≡ is_for_word word.0 (slot 72 b.now s) }
 {
-    numbers::read_word(b, numbers::index(s) * 72 + 8) == word.0
+    Subchannel(numbers::read_word(b, usize::from(s) * 72 + 8)) == word
 }
 
 // The first record in listing order of one of the subclasses, and for the subchannel unless any will do.
@@ -43,20 +44,17 @@ pub fn find(
     ensures place { FoundIn c.now result }
 {
     let mut found = Found::None;
-    let mut isc: u8 = 0;
-    'search: while isc < 8 {
+    'search: for isc in 0..8 {
+        if !adapters::has_bit(Subclass(isc), subclasses) {
+            continue;
+        }
         let q = store_queues::of(Subclass(isc));
-        let n = store_queues::count(c, q);
-        let allowed = adapters::has_bit(Subclass(isc), subclasses);
-        let mut k = 0;
-        while allowed && k < n {
+        for k in 0..store_queues::count(c, q) {
             if any || is_for(b, store_queues::slot_of(o, q, k), word) {
                 found = Found::At(Subclass(isc), k);
                 break 'search;
             }
-            k += 1;
         }
-        isc += 1;
     }
     found
 }

@@ -1,10 +1,14 @@
 -- Laws of the two records in their bytes, and of the merge.
 use Rattle.numbers.proofs.Basics.{◌≡◌, refl, sym, ap, ◌∙◌, Bool, true, false, not, none, some, List, [], ◌∷◌, ◌++◌}
-use Rattle.numbers.proofs.Basics.{zip_with, append_assoc, ℕ, zero, suc, ◌+◌, ◌-◌, ◌≤◌, ◌<◌, min, dec_lt, arith, length}
-use Rattle.numbers.proofs.Basics.{take, drop, get_or, set, length-take, length-drop, drop_of_length-le, take-add}
-use Rattle.numbers.proofs.{Basics.take_all, Basics.take_at, Basics.drop_at, Basics.take-take, Basics.take-set-le, Basics.drop-drop, Basics.get_or-drop, Basics.get_or-set_same, Basics.get_or-set_other, Basics.set_out, Basics.length-take-le, Basics.length-paste, Basics.paste, Basics.eqb, Basics.bit_or, Basics.eqb-true, Basics.eqb-false, Basics.not-true, Basics.not-false, Laws.drop-take, Laws.paste_more, Laws.part_same, Laws.part-before, Laws.get_d_past}
+use Rattle.numbers.proofs.Basics.{zip_with, append_assoc, ℕ, zero, suc, ◌+◌, ◌-◌, ◌≤◌, ◌<◌, min, arith, length}
+use Rattle.numbers.proofs.Basics.{take, drop, get_or, set, length-take, length-drop, take-add}
+use Rattle.numbers.proofs.{Basics.take_at, Basics.drop_at, Basics.take-take, Basics.take-set-le, Basics.drop-drop, Basics.get_or-drop, Basics.get_or-set_same, Basics.get_or-set_other, Basics.length-take-le, Basics.length-paste, Basics.paste, Basics.eqb, Basics.bit_or, Basics.eqb-true, Basics.eqb-false, Basics.not-true, Basics.not-false, Laws.drop-take, Laws.part_same, Laws.part-before, Laws.drop_past, Laws.get_d_past}
+use Rattle.std.proofs.lemmas.List.Edits.{paste_more}
 use Rattle.rules.specs.{Bytes.byte, Bytes.part, State.Record, State.merged, State.merged_or}
-use Rattle.store_singles.specs.Singles.{if_there, service_of, mchk_of}
+use Rattle.store_singles.specs.Singles.{if_there, service_of, mchk_of, flag_of, start_of, single_of}
+use Rattle.store_singles.specs.{Singles.other as other_of}
+use Rattle.store_singles.specs.declared.Single.{Single}
+use Rattle.store_singles.specs.declared.Single.TheVariants.{Service, MachineCheck}
 
 pub absent : (n : ℕ) (r : Record) → n ≡ 0 → if_there n r ≡ none
 unfolding if_there
@@ -15,19 +19,25 @@ unfolding if_there
 there zero r h = absurd (h refl)
 there (suc n) r h = refl
 
--- what a caller of has_service or has_mchk knows of the record
+-- what a caller of is_there knows of the record
 pub absent-if : (n : ℕ) (r : Record) (b : Bool) → b ≡ not (eqb n 0) → b ≡ false → if_there n r ≡ none
 absent-if n r b e f = absent n r (eqb-true n 0 (not-false (eqb n 0) (sym e ∙ f)))
 
 pub there-if : (n : ℕ) (r : Record) (b : Bool) → b ≡ not (eqb n 0) → b ≡ true → if_there n r ≡ some r
 there-if n r b e f = there n r (eqb-false n 0 (not-true (eqb n 0) (sym e ∙ f)))
 
--- a byte that is not 0 is within the list; one that was cleared is 0, within or not
-within : (g : List ℕ) (i : ℕ) → (byte i g ≡ 0 → ⊥) → i < length g
-within [] i h = absurd (h refl)
-within (x ∷ g) zero h = omega arith
-within (x ∷ g) (suc i) h = omega (arith, within g i h)
+module _ (g : List ℕ) (b : Bool) where
+  pub single-absent : (w : Single) → b ≡ not (eqb (byte (flag_of w) g) 0) → b ≡ false → single_of w g ≡ none
+  unfolding service_of mchk_of
+  single-absent Service = absent-if (byte 144 g) _ b
+  single-absent MachineCheck = absent-if (byte 145 g) _ b
 
+  pub single-there : (w : Single) → b ≡ not (eqb (byte (flag_of w) g) 0) → b ≡ true → single_of w g ≡ some (part (start_of w) 72 g)
+  unfolding service_of mchk_of
+  single-there Service = there-if (byte 144 g) _ b
+  single-there MachineCheck = there-if (byte 145 g) _ b
+
+-- a byte that was cleared is 0, within the list or not
 cleared : (g : List ℕ) (i : ℕ) → byte i (set g i 0) ≡ 0
 cleared [] i = refl
 cleared (x ∷ g) zero = refl
@@ -58,6 +68,20 @@ stored g at r j h k w from i f b n e =
 pub dropped : (g : List ℕ) (at j i : ℕ) (r : Record) → at + 72 ≤ j → (i ≡ j → ⊥)
     → (if_there (byte j (set g j 0)) r ≡ none) × (if_there (byte i (set g j 0)) (part at 72 (set g j 0)) ≡ if_there (byte i g) (part at 72 g))
 dropped g at j i r h n = (absent _ r (cleared g j), other g at j 0 h i n)
+
+pub put_one : (g r : List ℕ) (w : Single) → length g ≡ 146 → length r ≡ 72 → let d = set (paste g (start_of w) r 72) (flag_of w) 1 in
+    (single_of w d ≡ some r) × (single_of (other_of w) d ≡ single_of (other_of w) g)
+unfolding service_of mchk_of
+put_one g r Service l k =
+    stored g 0 r 144 (omega arith) (omega arith) k 72 145 (omega arith) (omega arith) (omega arith) (ap (take 72) (drop_past g 0 r 72 72 (omega arith) (omega arith) (omega arith)))
+put_one g r MachineCheck l k =
+    stored g 72 r 145 (omega arith) (omega arith) k 0 144 (omega arith) (omega arith) (omega arith) (part-before g 72 r 72 0 72 (omega arith) (omega arith))
+
+pub removed : (g : List ℕ) (w : Single)
+    → (single_of w (set g (flag_of w) 0) ≡ none) × (single_of (other_of w) (set g (flag_of w) 0) ≡ single_of (other_of w) g)
+unfolding service_of mchk_of
+removed g Service = dropped g 72 144 145 _ (omega arith) (omega arith)
+removed g MachineCheck = dropped g 0 145 144 _ (omega arith) (omega arith)
 
 module _ (f : ℕ → ℕ → ℕ) where
   length-zip_with : (xs ys : List ℕ) → length (zip_with f xs ys) ≡ min (length xs) (length ys)
@@ -90,47 +114,39 @@ both g r = take 80 g ++ (zip_with bit_or (part 80 16 g) (part 8 16 r) ++ drop 96
 pub merge-all : (g r : List ℕ) → paste g 80 (ors g r) 16 ≡ both g r
 merge-all g r = rw (append_assoc, take-zip_with)
 
-module _ (g r : List ℕ) (k : length r ≡ 72) where
+module _ (g r : List ℕ) (k : length r ≡ 72) (h : 96 ≤ length g) where
   length-ors : length (ors g r) ≡ min (length g - 80) 64
   length-ors = simp (length-zip_with, length-drop) (omega arith)
 
   -- a turn of merge, b so far
-  pub merge-turn : (b : List ℕ) (i : ℕ) → i < 16 → length b ≡ length g → b ≡ paste g 80 (ors g r) i
+  pub merge-turn : (b : List ℕ) (i : ℕ) → i < 16 → b ≡ paste g 80 (ors g r) i
       → set b (80 + i) (bit_or (byte (80 + i) b) (byte (8 + i) r)) ≡ paste g 80 (ors g r) (i + 1)
-  merge-turn b i f l e =
+  merge-turn b i f e =
       let n : length (ors g r) ≡ min (length g - 80) 64 = length-ors in
-      elim (dec_lt (80 + i) (length g)) [
-        | yes h ↦
-            let x : get_or (ors g r) i 0 ≡ bit_or (byte (80 + i) g) (byte (8 + i) r) =
-            get_or-zip_with bit_or (drop 80 g) (drop 8 r) i (simp length-drop (omega arith)) (simp length-drop (omega arith)) ∙ simp get_or-drop in
-            let y : byte (80 + i) b ≡ byte (80 + i) g = rw e (get_d_past g 80 (ors g r) i (80 + i) 0 (omega arith) (omega arith) (omega arith)) in
-            rw (y, ← x) (paste_more b g 80 (ors g r) i (80 + i) 16 0 refl h (omega arith) f l e).2
-        | no h ↦
-            set_out b (80 + i) _ (omega arith) ∙ e ∙ rw (take_all i (ors g r) (omega arith), take_all (i + 1) (ors g r) (omega arith), drop_of_length-le g {i = 80 + i} (omega arith), drop_of_length-le g {i = 80 + (i + 1)} (omega arith))
-      ]
+      let x : get_or (ors g r) i 0 ≡ bit_or (byte (80 + i) g) (byte (8 + i) r) =
+      get_or-zip_with bit_or (drop 80 g) (drop 8 r) i (simp length-drop (omega arith)) (simp length-drop (omega arith)) ∙ simp get_or-drop in
+      let y : byte (80 + i) b ≡ byte (80 + i) g = rw e (get_d_past g 80 (ors g r) i (80 + i) 0 (omega arith) (omega arith) (omega arith)) in
+      rw (y, ← x, e) (paste_more g 80 (ors g r) i 0 (omega arith) (omega arith))
 
-  module _ (h : 96 ≤ length g) where
-    merged-flag : (i : ℕ) → 96 ≤ i → byte i (both g r) ≡ byte i g
-    merged-flag i f = rw (← merge-all g r) (get_d_past g 80 (ors g r) 16 i 0 f (omega arith) (omega (arith, length-ors)))
+  merged-flag : (i : ℕ) → 96 ≤ i → byte i (both g r) ≡ byte i g
+  merged-flag i f = rw (← merge-all g r) (get_d_past g 80 (ors g r) 16 i 0 f (omega arith) (omega (arith, length-ors)))
 
-    merged-part : part 72 72 (both g r) ≡ merged (part 72 72 g) r
-    unfolding merged
-    merged-part =
-        let m : List ℕ = zip_with bit_or (part 80 16 g) (part 8 16 r) in
-        let e : length m ≡ 16 = simp (length-zip_with, length-take, length-drop) (omega arith) in
-        let a : length (take 72 g) ≡ 72 = length-take-le 72 g (omega arith) in
-        let b : length (part 72 8 g) ≡ 8 = length-take-le 8 (drop 72 g) (simp length-drop (omega arith)) in
-        rw (take-add 72 8 g, append_assoc, drop_at (take 72 g) _ 72 a, take-add 8 64 (part 72 8 g ++ _), take_at (part 72 8 g) _ 8 b, drop_at (part 72 8 g) _ 8 b, take-add 16 48 (m ++ _), take_at m _ 16 e, drop_at m _ 16 e)
-        (rw (take-take 8 72 (drop 72 g) (omega arith), drop-take 8 64 (drop 72 g), take-take 16 64 _ (omega arith), drop-take 24 48 (drop 72 g), drop-drop 8 72 g, drop-drop 24 72 g))
+  merged-part : part 72 72 (both g r) ≡ merged (part 72 72 g) r
+  unfolding merged
+  merged-part =
+      let m : List ℕ = zip_with bit_or (part 80 16 g) (part 8 16 r) in
+      let e : length m ≡ 16 = simp (length-zip_with, length-take, length-drop) (omega arith) in
+      let a : length (take 72 g) ≡ 72 = length-take-le 72 g (omega arith) in
+      let b : length (part 72 8 g) ≡ 8 = length-take-le 8 (drop 72 g) (simp length-drop (omega arith)) in
+      rw (take-add 72 8 g, append_assoc, drop_at (take 72 g) _ 72 a, take-add 8 64 (part 72 8 g ++ _), take_at (part 72 8 g) _ 8 b, drop_at (part 72 8 g) _ 8 b, take-add 16 48 (m ++ _), take_at m _ 16 e, drop_at m _ 16 e)
+      (rw (take-take 8 72 (drop 72 g) (omega arith), drop-take 8 64 (drop 72 g), take-take 16 64 _ (omega arith), drop-take 24 48 (drop 72 g), drop-drop 8 72 g, drop-drop 24 72 g))
 
-  pub second-mchk : (byte 145 g ≡ 0 → ⊥) → mchk_of (both g r) ≡ some (merged_or (mchk_of g) r)
+  pub second-mchk : (t : Bool) → t ≡ not (eqb (byte 145 g) 0) → t ≡ true → mchk_of (both g r) ≡ some (merged_or (mchk_of g) r)
   unfolding mchk_of
-  second-mchk f =
-      let h : 96 ≤ length g = omega (arith, within g 145 f) in
-      rw (merged-flag h 145 (omega arith), merged-part h, there (byte 145 g) (part 72 72 g) f) (there (byte 145 g) (merged (part 72 72 g) r) f)
+  second-mchk t e f =
+      rw (merged-flag 145 (omega arith), merged-part, there-if (byte 145 g) (part 72 72 g) t e f) (there-if (byte 145 g) (merged (part 72 72 g) r) t e f)
 
-  pub second-service : (byte 145 g ≡ 0 → ⊥) → service_of (both g r) ≡ service_of g
+  pub second-service : service_of (both g r) ≡ service_of g
   unfolding service_of
-  second-service f =
-      let h : 96 ≤ length g = omega (arith, within g 145 f) in
-      rw (merged-flag h 144 (omega arith), ← merge-all g r) (ap (λ (l : List ℕ). if_there (byte 144 g) l) (part-before g 80 (ors g r) 16 0 72 (omega arith) (omega arith)))
+  second-service =
+      rw (merged-flag 144 (omega arith), ← merge-all g r) (ap (λ (l : List ℕ). if_there (byte 144 g) l) (part-before g 80 (ors g r) 16 0 72 (omega arith) (omega arith)))

@@ -2,38 +2,61 @@
 // from byte 0, the machine check from byte 72. Bytes 144 and 145 say whether each is there: 0 if not.
 #![tactic(auto)]
 
-ghost use Rattle.std.specs.Prelude.{◌≡◌, not, take, drop, eqb};
+ghost use Rattle.std.specs.Prelude.{◌≡◌, ◌+◌, ◌≤◌, ◌<◌, not, take, drop, eqb};
 ghost use mathlib.Core.Option.{none, some};
 ghost use mathlib.Core.List.{◌++◌, zip_with};
 ghost use Rattle.std.specs.Int.Bits.{bit_or};
 ghost use Rattle.rules.specs.Bytes.{byte, part};
 ghost use Rattle.rules.specs.State.{first_or, merged_or};
-ghost use Rattle.store_singles.specs.Singles.{service_of, mchk_of};
+ghost use Rattle.store_singles.specs.Singles.{service_of, mchk_of, flag_of, start_of, single_of, other};
 
 use numbers::SINGLES_BYTES;
 
-pub fn has_service(g: &[u8; SINGLES_BYTES]) -> bool
-    ensures { result ≡ not (eqb (byte 144 g.now) 0) }
-{
-    g[144] != 0
+// One of the two.
+#[derive(Clone, Copy)]
+pub enum Single {
+    Service,
+    MachineCheck,
 }
 
-pub fn has_mchk(g: &[u8; SINGLES_BYTES]) -> bool
-    ensures { result ≡ not (eqb (byte 145 g.now) 0) }
+// Where its record starts.
+fn start(which: Single) -> usize
+    ensures { (result ≡ start_of which) × (result + 72 ≤ 144) }
 {
-    g[145] != 0
+    match which {
+        Single::Service => 0,
+        Single::MachineCheck => 72,
+    }
 }
 
-pub fn read_service(g: &[u8; SINGLES_BYTES]) -> [u8; 72]
-    ensures { result ≡ part 0 72 g.now }
+// Where the byte stands that says whether it is there.
+fn flag(which: Single) -> usize
+    ensures { (result ≡ flag_of which) × (result < 146) }
 {
-    numbers::load(g, 0)
+    match which {
+        Single::Service => 144,
+        Single::MachineCheck => 145,
+    }
 }
 
-pub fn read_mchk(g: &[u8; SINGLES_BYTES]) -> [u8; 72]
-    ensures { result ≡ part 72 72 g.now }
+pub fn is_there(g: &[u8; SINGLES_BYTES], which: Single) -> bool
+    ensures { result ≡ not (eqb (byte (flag_of which) g.now) 0) }
 {
-    numbers::load(g, 72)
+    g[flag(which)] != 0
+}
+
+pub fn read(g: &[u8; SINGLES_BYTES], which: Single) -> [u8; 72]
+    ensures { result ≡ part (start_of which) 72 g.now }
+{
+    numbers::load(g, start(which))
+}
+
+// Writes r as one of the two. The other one stays.
+fn put(g: &mut [u8; SINGLES_BYTES], which: Single, r: [u8; 72])
+    ensures { (single_of which g.new ≡ some r) × (single_of (other which) g.new ≡ single_of (other which) g.old) }
+{
+    numbers::save(g, start(which), r);
+    g[flag(which)] = 1;
 }
 
 // Adds a service record. The first one stays.
@@ -41,9 +64,8 @@ pub fn add_service(g: &mut [u8; SINGLES_BYTES], r: [u8; 72])
     ensures { (service_of g.new ≡ some (first_or (service_of g.old) r))
         × (mchk_of g.new ≡ mchk_of g.old) }
 {
-    if g[144] == 0 {
-        numbers::save(g, 0, r);
-        g[144] = 1;
+    if !is_there(g, Single::Service) {
+        put(g, Single::Service, r);
     }
 }
 
@@ -52,10 +74,8 @@ fn merge(g: &mut [u8; SINGLES_BYTES], r: [u8; 72])
     ensures { g.new ≡ take 80 g.old
         ++ (zip_with bit_or (part 80 16 g.old) (part 8 16 r) ++ drop 96 g.old) }
 {
-    let mut i = 0;
-    while i < 16 {
-        g[80 + i] = g[80 + i] | r[8 + i];
-        i += 1;
+    for i in 0..16 {
+        g[80 + i] |= r[8 + i];
     }
 }
 
@@ -64,22 +84,16 @@ pub fn add_mchk(g: &mut [u8; SINGLES_BYTES], r: [u8; 72])
     ensures { (mchk_of g.new ≡ some (merged_or (mchk_of g.old) r))
         × (service_of g.new ≡ service_of g.old) }
 {
-    if g[145] == 0 {
-        numbers::save(g, 72, r);
-        g[145] = 1;
-    } else {
+    if is_there(g, Single::MachineCheck) {
         merge(g, r);
+    } else {
+        put(g, Single::MachineCheck, r);
     }
 }
 
-pub fn drop_service(g: &mut [u8; SINGLES_BYTES])
-    ensures { (service_of g.new ≡ none) × (mchk_of g.new ≡ mchk_of g.old) }
+// Removes one of the two. The other one stays.
+pub fn remove(g: &mut [u8; SINGLES_BYTES], which: Single)
+    ensures { (single_of which g.new ≡ none) × (single_of (other which) g.new ≡ single_of (other which) g.old) }
 {
-    g[144] = 0;
-}
-
-pub fn drop_mchk(g: &mut [u8; SINGLES_BYTES])
-    ensures { (mchk_of g.new ≡ none) × (service_of g.new ≡ service_of g.old) }
-{
-    g[145] = 0;
+    g[flag(which)] = 0;
 }

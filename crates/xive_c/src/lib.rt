@@ -1,5 +1,5 @@
 // The public calls of the POWER9 sources for C: libxive.a has these names, and include/xive.h declares them. Each is
-// the function of `xive` of its name, with its promise.
+// the function of `xive` of its name, with its promise: a crate is a library or C's archive, not both.
 #![tactic(auto)]
 
 ghost use Rattle.std.specs.Prelude.{◌≡◌, []};

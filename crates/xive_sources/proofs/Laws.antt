@@ -3,14 +3,14 @@ use Prim.Native.Nat.{ℕ, zero, suc, ◌+◌, ◌*◌, ◌/◌, ◌%◌, ◌<◌
 use mathlib.Core.Path.{◌≡◌, refl, sym, ap, ◌∙◌}
 use mathlib.Core.Bool.{Bool, true, false}
 use mathlib.Core.Option.{Option, none, some}
-use mathlib.Core.List.{List, [], ◌∷◌}
+use mathlib.Core.List.{List}
 use native.Mathlib.Omega.{arith}
 use borrow.Author.Tests.{ne_eqb, lt-ltb, le-ltb}
-use lib.ListN.{get_or, set, replicate, get_or-map}
+use lib.ListN.{get_or, replicate, get_or-map}
 use lib.Dec.{eqb}
 use Rattle.rules.specs.Bytes.{choose}
 use Rattle.xive_rules.specs.Words.{bits, kind_in, level_in, priority_in, server_in, mask_in, effective_in}
-use Rattle.xive_rules.specs.Sources.{Source, Sources, initial, targeted, source_at, values_of}
+use Rattle.xive_rules.specs.Sources.{Source, initial, targeted, source_at, values_of}
 use Rattle.xive_rules.proofs.Laws.{fields-whole}
 use Rattle.xive_sources.specs.Stored.{word_of, targeting_of, level_of, source_of, sources_of, Lacks, Finds}
 
@@ -127,17 +127,17 @@ pub too_large : (l : List ℕ) (n : ℕ) → 1024 ≤ n → Lacks l n 2
 unfolding source_at choose
 too_large l n h = let e = le-ltb n 1024 h in record { nothing = rw e; reason = rw e }
 
-pub not_there : (l : List ℕ) (n : ℕ) → n < 1024 → get_or l n 0 / 128 % 2 ≡ 0 → Lacks l n 22
+pub not_there : (l : List ℕ) (n v : ℕ) → n < 1024 → v ≡ get_or l n 0 → v / 128 % 2 ≡ 0 → Lacks l n 22
 unfolding source_at choose
-not_there l n h k =
+not_there l n v h g k =
     let e = lt-ltb n 1024 h in
-    record { nothing = rw e (at-number l n ∙ uninitialised _ k); reason = rw e }
+    record { nothing = rw (e, at-number l n, ← g) (uninitialised v k); reason = rw e }
 
-pub there : (l : List ℕ) (n : ℕ) → n < 1024 → (get_or l n 0 / 128 % 2 ≡ 0 → ⊥) → Finds l n (get_or l n 0)
+pub there : (l : List ℕ) (n v : ℕ) → n < 1024 → v ≡ get_or l n 0 → (v / 128 % 2 ≡ 0 → ⊥) → Finds l n v
 unfolding source_at choose
-there l n h k =
-    let is = as-initialised (get_or l n 0) (omega arith) in
-    record { known = h; source = _; stored = is; there = rw (lt-ltb n 1024 h) (at-number l n ∙ is) }
+there l n v h g k =
+    let is = as-initialised v (omega arith) in
+    record { known = h; source = _; stored = is; there = rw (lt-ltb n 1024 h, at-number l n, ← g) is }
 
 -- what is read of an initialised source
 pub masked-values : (v : ℕ) (x : Source) → source_of v ≡ some x → bits 8 1 v ≡ 0
@@ -150,12 +150,7 @@ pub targeted-values : (v : ℕ) (x : Source) → source_of v ≡ some x → (bit
 unfolding values_of
 targeted-values v x h k = rw (← source-of v x h, as-targeted v (omega arith))
 
--- one number stored anew; zeros
-pub set-stored : (l : List ℕ) (n v : ℕ) → sources_of (set l n v) ≡ set (sources_of l) n (source_of v)
-set-stored [] n v = refl
-set-stored (u ∷ l) zero v = refl
-set-stored (u ∷ l) (suc n) v = ap (λ (s : Sources). source_of u ∷ s) (set-stored l n v)
-
+-- zeros
 pub zeros-stored : (n : ℕ) → sources_of (replicate n 0) ≡ replicate n none
 zeros-stored zero = refl
 zeros-stored (suc n) = rw (uninitialised 0 refl, zeros-stored n)

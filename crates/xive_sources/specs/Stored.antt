@@ -6,14 +6,14 @@
 --
 -- A number whose bit 7 is 0, as 0 is, stands for a source that is not initialised, and every other one for a source
 -- that calls can leave so (proofs/Any).
-use Rattle.std.specs.Prelude.{ℕ, ◌<◌, ◌≡◌, List, map, eqb, ltb}
+use Rattle.std.specs.Prelude.{ℕ, ◌<◌, ◌≡◌, List, map, eqb, ltb, Result, Ok, Err}
 use mathlib.Core.Option.{Option, none, some}
 use Rattle.rules.specs.Bytes.{choose}
 use Rattle.rules.specs.Outcome.{EINVAL}
 use Rattle.xive_rules.specs.Words.{bits, targeting_word}
 use Rattle.xive_rules.specs.Sources.{ENOENT, ticket_limits, Source, Sources, source_at, Values}
-use Rattle.xive_sources.specs.declared.Look.{Look}
-use Rattle.xive_sources.specs.declared.Look.TheVariants.{At, Refused}
+use Rattle.answers.specs.declared.Refusal.{Refusal}
+use Rattle.answers.specs.Answers.{code_of}
 use Rattle.xive_sources.specs.declared.Reading.{Reading}
 
 abbrev pub word_of : ℕ → ℕ
@@ -46,9 +46,9 @@ pub record Finds (l : List ℕ) (n v : ℕ) : Type 0 where
   pub stored : source_of v ≡ some source
   pub there : source_at ticket_limits (sources_of l) n ≡ some source
 
-abbrev pub Looked : List ℕ → ℕ → Look → Type 0
-Looked l n (Refused code) = Lacks l n code
-Looked l n (At v) = Finds l n v
+abbrev pub Looked : List ℕ → ℕ → Result ℕ Refusal → Type 0
+Looked l n (Err refusal) = Lacks l n (code_of refusal)
+Looked l n (Ok v) = Finds l n v
 
 -- What a reading gives beside its code and count.
 abbrev pub values_in : Reading → Values

@@ -8,10 +8,7 @@ ghost use Rattle.xive_rules.specs.Words.{server_in, targeting_word, bits};
 ghost use Rattle.xive_rules.specs.Sources.{Source, ticket_limits, initial, targeted, values_of};
 ghost use Rattle.xive_sources.specs.Stored.{level_of, source_of, Looked, values_in};
 
-use answers::EINVAL;
-
-// Named and numbered as in errno.
-pub const ENOENT: u32 = 2;
+use answers::Refusal;
 
 pub const SOURCES: usize = 1024;
 
@@ -21,34 +18,27 @@ pub const SERVERS: u64 = 16;
 pub const WORD_BYTES: usize = 8;
 
 // The number of a source: a place in the lent array, and nothing else.
-#[derive(Drop)]
+#[derive(Clone, Copy, Debug, PartialEq, Eq)]
 pub struct SourceNumber(pub u64);
 
 // What the guest reads for the source.
-#[derive(Drop)]
+#[derive(Clone, Copy, Debug, PartialEq, Eq)]
 pub struct EffectiveNumber(pub u64);
 
 // The processor that handles the interrupt.
-#[derive(Drop)]
+#[derive(Clone, Copy, Debug, PartialEq, Eq)]
 pub struct Server(pub u64);
 
-#[derive(Drop)]
+#[derive(Clone, Copy, Debug, PartialEq, Eq)]
 pub struct Priority(pub u64);
 
 // The fields of a targeting word (002, group 3). The mask bit is kept and has no effect.
-#[derive(Drop)]
+#[derive(Clone, Copy, Debug, PartialEq, Eq)]
 pub struct Targeting {
     pub priority: Priority,
     pub server: Server,
     pub mask: u64,
     pub effective: EffectiveNumber,
-}
-
-// What a source number leads to: an initialised source as stored, or a refusal.
-#[derive(Drop)]
-pub enum Look {
-    At(u64),
-    Refused(u32),
 }
 
 // What a reading answers and gives.
@@ -92,18 +82,16 @@ pub fn targeted_with(stored: u64, word: u64) -> u64
 }
 
 // The stored number of an initialised source, or why there is none.
-pub fn look_up(sources: &[u64; SOURCES], number: SourceNumber) -> Look
+pub fn look_up(sources: &[u64; SOURCES], number: SourceNumber) -> Result<u64, Refusal>
     ensures { Looked sources.now number.0 result }
 {
-    let n = number.0;
-    if SOURCES as u64 <= n {
-        return Look::Refused(ENOENT);
-    }
-    let stored = sources[n as usize];
+    let Some(&stored) = sources.get(number.0 as usize) else {
+        return Err(Refusal::NoEntry);
+    };
     if stored / 128 % 2 == 0 {
-        return Look::Refused(EINVAL);
+        return Err(Refusal::Invalid);
     }
-    Look::At(stored)
+    Ok(stored)
 }
 
 pub fn store(sources: &mut [u64; SOURCES], number: SourceNumber, stored: u64)
@@ -133,19 +121,20 @@ pub fn word_of(targeting: Targeting) -> u64
     ensures { result ≡ targeting_word targeting.priority.0 targeting.server.0 targeting.mask
         targeting.effective.0 }
 {
-    let priority = targeting.priority;
-    let server = targeting.server;
-    let effective = targeting.effective;
-    effective.0 * 8589934592 + targeting.mask * 4294967296 + server.0 * 8 + priority.0
+    targeting.effective.0 * 8589934592
+        + targeting.mask * 4294967296
+        + targeting.server.0 * 8
+        + targeting.priority.0
 }
 
 pub fn level_of(stored: u64) -> u8
     ensures { result ≡ level_of stored }
 {
     if stored / 512 % 2 == 1 {
-        return (stored / 1024 % 2) as u8;
+        (stored / 1024 % 2) as u8
+    } else {
+        0
     }
-    0
 }
 
 // A reading of an initialised source.
@@ -153,29 +142,22 @@ pub fn read_out(stored: u64) -> Reading
     ensures { (result.code ≡ 0) × (result.count ≡ 0)
         × ((x : Source) → source_of stored ≡ some x → values_in result ≡ values_of (some x)) }
 {
-    let level = level_of(stored);
-    let kind = (stored / 512 % 2) as u8;
-    if stored / 256 % 2 == 0 {
-        return Reading {
-            code: 0,
-            level,
-            kind,
-            masked: true,
-            count: 0,
-            word: 0,
-        };
-    }
+    let masked = stored / 256 % 2 == 0;
     Reading {
         code: 0,
-        level,
-        kind,
-        masked: false,
+        level: level_of(stored),
+        kind: (stored / 512 % 2) as u8,
+        masked,
         count: 0,
-        word: word_of(targeting_of(stored)),
+        word: if masked {
+            0
+        } else {
+            word_of(targeting_of(stored))
+        },
     }
 }
 
-// A reading that is refused: every value is 0 or false.
+// A reading that is refused: every value is 0 or false. A code, not a Refusal: the promise is for every code.
 pub fn read_nothing(code: u32) -> Reading
     ensures { result ≡ record { code = code; level = 0; kind = 0; masked = false; count = 0; word = 0 } }
 {

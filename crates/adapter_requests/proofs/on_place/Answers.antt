@@ -1,5 +1,5 @@
 -- The two groups are the numbers whose half is 3.
-use Rattle.numbers.proofs.Basics.{◌≡◌, refl, true, ◌||◌, ℕ, ◌/◌, arith, dec_lt, eqb, eq-eqb, ne_eqb}
+use Rattle.numbers.proofs.Basics.{◌≡◌, ℕ, ◌/◌, arith, dec_lt, eqb, eq-eqb, ne_eqb}
 use Rattle.adapter_requests.specs.States.{on_place}
 use Rattle.adapter_requests.proofs.on_place.Goals as goal
 

@@ -15,6 +15,6 @@ returns-then-group-eq-AISM_ALL c = unfold request in let g = c.get_masks.ensures
 
 pub returns : goal.returns
 returns c = unfold request in record {
-  answer = λ s e1 e2 e3. refused _ s _ _ _ 22 _ refl (rw (no-get c.args.group c.if-group-eq-GET_ALL_IRQS.false c.if-group-eq-AISM_ALL.false)) c.refuse.ensures;
-  kept = λ k. refl;
+  answer = λ s e1 e2 e3. refused _ s _ _ _ 22 _ refl (rw (no-get c.args.group c.if-group-eq-GET_ALL_IRQS.false c.if-group-eq-AISM_ALL.false)) refl;
+  kept = refl;
 }

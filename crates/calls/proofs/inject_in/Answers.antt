@@ -1,20 +1,36 @@
 -- `calls::inject_in` meets its contract: the device record is noted where the count is 1.
 use Rattle.numbers.proofs.Basics.{refl, sym, ◌∙◌, eq-eqb, ne_eqb}
+use Rattle.std.specs.Prelude.{Ok, Err}
+use Rattle.std.proofs.lemmas.Result.{err_from_is_err_and}
 use Rattle.rules.proofs.Checks.{chosen, passed}
 use Rattle.calls.proofs.{Requests.set-injected}
 use Rattle.calls.proofs.inject_in.Goals as goal
 
-pub returns-then-answer-ne1 : goal.returns-then-answer-ne1
-returns-then-answer-ne1 c = let j = c in
-    let e = j.answer_inject-answer.ensures in record {
-      by_index = set-injected e.0 _ j.look_up-place.ensures.0 _ (passed _ _ _ (ne_eqb _ 1 c.if-answer-ne1.true));
-      held = (e.1.0, λ n. let k = e.1.1 n in (k.0, k.1, k.2, refl));
+pub returns-in_err-appended : goal.returns-in_err-appended
+returns-in_err-appended c =
+    let x = c.in_err-appended.field-0.0 in
+    let e = c.in_err-appended.ensures in
+    let p = err_from_is_err_and c.from_residual.result c.from_residual.ensures.1 in
+    rw (p.1, p.2) (
+    record {
+      by_index = λ b. rw e.others.0 (set-injected (Err x) e.injected _ c.look_up-place.ensures.0 _ (passed _ _ _ refl) c.args.c.now.singles b);
+      held = (e.held, e.others.1);
+      kept = (e.kept, refl);
+    })
+
+pub returns-then-appended-eq1 : goal.returns-then-appended-eq1
+returns-then-appended-eq1 c =
+    let e = c.in_ok-appended.ensures in record {
+      by_index = λ b. rw e.others.0
+          (set-injected (Ok _) e.injected _ c.look_up-place.ensures.0 _ (chosen _ _ _ (eq-eqb _ 1 c.if-appended-eq1.true) ∙ sym (rw e.others.1 at c.after_injection.ensures)) c.args.c.now.singles b);
+      held = (e.held, e.others.1);
+      kept = tt;
     }
 
-pub returns : goal.returns
-returns c = let j = c in
-    let e = j.answer_inject-answer.ensures in
-    let d = chosen _ _ _ (eq-eqb _ 1 c.if-answer-ne1.false) ∙ sym c.after_injection-noted.ensures in record {
-      by_index = set-injected e.0 _ j.look_up-place.ensures.0 _ d;
-      held = (e.1.0, λ n. let k = e.1.1 n in (k.0, k.1, k.2, sym d ∙ e.0.unnoted n));
+pub returns-else-appended-eq1 : goal.returns-else-appended-eq1
+returns-else-appended-eq1 c =
+    let e = c.in_ok-appended.ensures in record {
+      by_index = λ b. rw e.others.0 (set-injected (Ok _) e.injected _ c.look_up-place.ensures.0 _ (passed _ _ _ (ne_eqb _ 1 c.if-appended-eq1.false)) c.args.c.now.singles b);
+      held = (e.held, e.others.1);
+      kept = tt;
     }

@@ -7,7 +7,7 @@ use Rattle.flic.proofs.flic_get.Goals as goal
 pub returns-then-t-ne-PLACES : goal.returns-then-t-ne-PLACES
 returns-then-t-ne-PLACES c =
     let a = c.args in
-    rw c.refuse.ensures (wrong-promises a.c.now a.d.now a.t.now a.out.now (wrong-length a.c.now _ c.if-t-ne-PLACES.true) (get_attr a.group a.attr) tt)
+    rw c.from.ensures (wrong-promises a.c.now a.d.now a.t.now a.out.now (wrong-length a.c.now _ c.if-t-ne-PLACES.true) (get_attr a.group a.attr) tt)
 
 pub answer_get-requires : goal.answer_get-requires
 answer_get-requires c = (c.requires (right-length c.args.c.now _ c.if-t-ne-PLACES.false)).ready
@@ -16,5 +16,5 @@ pub returns : goal.returns
 returns c =
     let a = c.args in
     let right = right-length a.c.now _ c.if-t-ne-PLACES.false in
-    get-promises a.group a.attr a.c.now a.d.now a.t.now a.out.now _ c.answer_get.result right (c.requires right)
-    (rw c.read_device-device.ensures at c.answer_get.ensures)
+    rw c.from-2.ensures (get-promises a.group a.attr a.c.now a.d.now a.t.now a.out.now _ c.answer_get.result right (c.requires right)
+    (rw c.read_device-device.ensures at c.answer_get.ensures))

@@ -8,10 +8,10 @@ use Rattle.flic.proofs.flic_make.Goals as goal
 pub returns-then-t-ne-PLACES : goal.returns-then-t-ne-PLACES
 returns-then-t-ne-PLACES c =
     let a = c.args in
-    rw c.refuse.ensures (wrong-makes paper_limits a.ais a.c.now a.d.now a.t.now (λ e. c.if-t-ne-PLACES.true (e ∙ paper-sized.places)))
+    rw c.from.ensures (wrong-makes paper_limits a.ais a.c.now a.d.now a.t.now (λ e. c.if-t-ne-PLACES.true (e ∙ paper-sized.places)))
 
 pub returns : goal.returns
 returns c =
     let a = c.args in
-    rw (c.accept.ensures, c.clear.ensures, c.store_device.ensures, c.fresh_device.ensures)
-    (make-promises a.c.now _ a.d.now a.t.now (c.if-t-ne-PLACES.false ∙ sym paper-sized.places) c.fresh.ensures.0 c.fresh.ensures.1)
+    rw (c.from-2.ensures, c.clear.ensures, c.store_device.ensures, c.fresh_device.ensures)
+    (make-promises a.c.now _ a.d.now a.t.now (c.if-t-ne-PLACES.false ∙ sym paper-sized.places) c.fresh.ensures.fresh.0 c.fresh.ensures.fresh.1)

@@ -5,4 +5,5 @@ use Rattle.flic.proofs.flic_take.Goals as goal
 pub returns : goal.returns
 returns c =
     let a = c.args in
-    take-promises a.subclasses a.external a.mcheck a.c.now _ _ _ a.out.now _ c.take.result c.take.ensures
+    let e = c.take.ensures in
+    rw c.from.ensures (take-promises a.subclasses a.external a.mcheck a.c.now _ a.out.now _ c.take.result e.answer e.held e.others.1 e.kept)

@@ -8,7 +8,7 @@ use Rattle.flic.proofs.flic_write_list.Goals as goal
 pub returns-then-t-ne-PLACES : goal.returns-then-t-ne-PLACES
 returns-then-t-ne-PLACES c =
     let a = c.args in
-    rw c.refuse.ensures (wrong-promises a.c.now a.d.now a.t.now a.out.now (wrong-length a.c.now _ c.if-t-ne-PLACES.true) write_list tt)
+    rw c.from.ensures (wrong-promises a.c.now a.d.now a.t.now a.out.now (wrong-length a.c.now _ c.if-t-ne-PLACES.true) write_list tt)
 
 pub write_list-requires : goal.write_list-requires
 write_list-requires c = ((c.requires (right-length c.args.c.now _ c.if-t-ne-PLACES.false)).ready, search rules)
@@ -17,5 +17,5 @@ pub returns : goal.returns
 returns c =
     let a = c.args in
     let right = right-length a.c.now _ c.if-t-ne-PLACES.false in
-    write-promises a.c.now a.d.now a.t.now a.out.now _ c.write_list.result right (c.requires right)
-    (rw (c.read_device-device.ensures, c.snapshot-image.ensures) at c.write_list.ensures)
+    rw c.from-2.ensures (write-promises a.c.now a.d.now a.t.now a.out.now _ c.write_list.result right (c.requires right)
+    (rw (c.read_device-device.ensures, c.snapshot-image.ensures) at c.write_list.ensures))

@@ -1,13 +1,13 @@
--- `lent_requests::set_modes` meets its contract: refused with the code, or accepted with the record that it asks for.
+-- `lent_requests::set_modes` meets its contract: refused by the check, or accepted with the record that it asks for.
+use Rattle.std.proofs.lemmas.Result.{err_from_is_err_and}
 use Rattle.lent_requests.proofs.Laws.{modes-refused, modes-accepted}
 use Rattle.lent_requests.proofs.set_modes.Goals as goal
 
-pub returns-then-code-ne0 : goal.returns-then-code-ne0
-returns-then-code-ne0 c =
-    rw c.refuse.ensures
-    (modes-refused c.args.ais c.args.group c.args.attr c.args.d.now c.args.payload.now c.modes_code-code.result c.modes_code-code.ensures.0 c.if-code-ne0.true)
+pub returns-in_err-check_modes : goal.returns-in_err-check_modes
+returns-in_err-check_modes c =
+    let p = err_from_is_err_and c.from_residual.result c.from_residual.ensures.1 in
+    rw (p.1, p.2) (modes-refused c.args.ais c.args.group c.args.attr c.args.d.now c.args.payload.now _ c.in_err-check_modes.ensures.decides)
 
 pub returns : goal.returns
-returns c =
-    rw (c.accept.ensures, c.change_modes.ensures)
-    (modes-accepted c.args.ais c.args.group c.args.attr c.args.d.now c.args.payload.now c.modes_code-code.result c.modes_code-code.ensures.0 c.if-code-ne0.false)
+returns c = rw c.change_modes.ensures
+    (modes-accepted c.args.ais c.args.group c.args.attr c.args.d.now c.args.payload.now c.in_ok-check_modes.ensures.decides)

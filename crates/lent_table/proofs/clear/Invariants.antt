@@ -1,11 +1,8 @@
 -- `lent_table::clear`: the first i places are free.
-use Rattle.std.proofs.Common.{◌≡◌, ◌≤◌, ◌-◌, replicate}
+use Rattle.std.proofs.Common.{◌≡◌, replicate}
 use Rattle.list_image.specs.Image.{image_size}
 use Rattle.lent_table.specs.Table.{restored}
 use Rattle.lent_table.proofs.clear.Given as goal
 
 abbrev pub invariant-loop-i : goal.invariant-loop-i
-invariant-loop-i l = (l.i ≤ image_size) × (l.t ≡ restored l.fn.t (replicate image_size 0) l.i)
-
-abbrev pub decreases-loop-i : goal.decreases-loop-i
-decreases-loop-i l = image_size - l.i
+invariant-loop-i l = l.t ≡ restored l.fn.t (replicate image_size 0) l.i

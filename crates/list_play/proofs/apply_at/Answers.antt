@@ -24,10 +24,10 @@ returns c =
 
 pub slice_bounds-set_listed-end : goal.slice_bounds-set_listed-end
 slice_bounds-set_listed-end c =
-    omega (arith, size_is c.args.place _ c.args.list.now c.read_be.ensures.0, c.read_be-at.ensures.0, (slot-within c.args.list.now c.args.place c.requires.4 c.requires.5).0)
+    omega (arith, size_is c.args.place _ c.args.list.now c.read_be.ensures.0, c.read_be-at.ensures.0, (slot-within c.args.list.now c.args.place c.requires.2 c.requires.3).0)
 
 pub set_listed-requires : goal.set_listed-requires
 set_listed-requires c = let r = c in
     let f = r in
-    let m = ap movable (r.read_be-group.ensures.0 ∙ inside (20 + 24 * f.args.place) 4 4 f.args.list.now) ∙ (slot-within f.args.list.now f.args.place f.requires.4 f.requires.5).1 in
-    (f.requires.0, f.requires.1, f.requires.2, f.requires.3, λ z. true≢false (sym m ∙ ap movable z), λ z. true≢false (sym m ∙ ap movable z), λ z. true≢false (sym m ∙ ap movable z))
+    let m = ap movable (r.read_be-group.ensures.0 ∙ inside (20 + 24 * f.args.place) 4 4 f.args.list.now) ∙ (slot-within f.args.list.now f.args.place f.requires.2 f.requires.3).1 in
+    (f.requires.0, f.requires.1, λ z. true≢false (sym m ∙ ap movable z), λ z. true≢false (sym m ∙ ap movable z), λ z. true≢false (sym m ∙ ap movable z))

@@ -1,12 +1,7 @@
-use Rattle.numbers.proofs.Basics.{arith}
-use Rattle.listing_text.proofs.{Text.size-one, Text.size-next, Text.size-most}
+use Rattle.numbers.proofs.Basics.{sym}
+use Rattle.listing_text.proofs.{Lines.size-logarithm}
 use Rattle.listing_text.proofs.decimal_size.Goals as goal
 
-pub loop-w-init : goal.loop-w-init
-loop-w-init c = (omega arith, size-most 19 _ _ (omega arith))
-
-pub loop-w-preserved : goal.loop-w-preserved
-loop-w-preserved c = (omega (arith, size-next _ c.loop-w-test.true), c.loop-w.invariant.1)
-
 pub returns : goal.returns
-returns c = omega (arith, size-one c.loop-w.w c.loop-w.w (omega arith))
+returns c = let h = c.ilog10.ensures in
+    sym (size-logarithm _ c.args.v (rw c.max.ensures at h.power_le) (rw c.max.ensures at h.next_power_gt))

@@ -1,11 +1,10 @@
--- The n - i lowest digits of v stand in out from index at + i.
-use Rattle.numbers.proofs.Basics.{◌≡◌, ◌+◌, ◌-◌, ◌/◌, ◌^◌, ◌≤◌}
-use Rattle.numbers.proofs.{Basics.length, Basics.paste}
+-- The lowest digits of v stand at the end of out, from index i on.
+use Rattle.numbers.proofs.Basics.{◌≡◌, ◌-◌, ◌/◌, ◌^◌, length}
+use Rattle.numbers.proofs.{Basics.paste}
 use Rattle.rules.specs.Listing.{digits}
 use Rattle.listing_text.proofs.spell.Given as goal
 
 abbrev pub invariant-loop-i : goal.invariant-loop-i
-invariant-loop-i l = (l.i ≤ l.n) × (length l.out ≡ length l.initial.out) × (l.w ≡ l.v / l.base ^ (l.n - l.i)) × (l.out ≡ paste l.initial.out (l.at + l.i) (digits l.base (l.n - l.i) l.v) (l.n - l.i))
-
-abbrev pub decreases-loop-i : goal.decreases-loop-i
-decreases-loop-i l = l.i
+invariant-loop-i l =
+    let n = length l.initial.out - l.i in
+    (l.w ≡ l.v / l.base ^ n) × (l.out ≡ paste l.initial.out l.i (digits l.base n l.v) n)

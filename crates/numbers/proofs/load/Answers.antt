@@ -1,10 +1,13 @@
-use Rattle.numbers.proofs.Basics.{arith, length-drop, get_or-drop, rules}
-use Rattle.numbers.proofs.{Laws.paste_more, Laws.paste_all}
+use Rattle.numbers.proofs.Basics.{◌≡◌, ◌∙◌, List, ℕ, ◌+◌, ◌<◌, append-nil, arith, length, length-drop, get_or, get_or-drop, paste, set}
+use Rattle.std.proofs.lemmas.List.Edits.{paste_more}
 use Rattle.numbers.proofs.load.Goals as goal
+
+one_more : (b d s : List ℕ) (i j : ℕ) → i ≡ 0 + j → i < length d → i < length s → b ≡ paste d 0 s j → set b i (get_or s j 0) ≡ paste d 0 s (j + 1)
+one_more b d s i j p h k e = rw (e, p) (paste_more d 0 s j 0 (omega arith) (omega arith))
 
 pub loop-i-preserved : goal.loop-i-preserved
 loop-i-preserved c = let l = c.loop-i in
-    rw (← get_or-drop) (paste_more l.r _ 0 _ l.i l.i 72 0 (omega arith) (omega arith) (simp length-drop (omega arith)) (omega arith) l.invariant.1 l.invariant.2)
+    rw (← get_or-drop) (one_more l.r _ _ l.i l.i (omega arith) (omega arith) (simp length-drop (omega arith)) l.invariant)
 
 pub returns : goal.returns
-returns c = let l = c.loop-i in paste_all l.r _ _ l.i 72 (omega arith) (search rules) l.invariant.2
+returns c = let e : c.loop-i.i ≡ 72 = omega arith in rw e at c.loop-i.invariant ∙ append-nil _

@@ -12,6 +12,7 @@ returns-in-Io c =
     let k = io-told r _ c.in-Io.isc c.in-Io.ensures refl in record {
       pending = adds-io _ _ _ _ r _ c.load.ensures _ _ _ _ k.0 k.1 k.2 (rw c.of.ensures at c.append.ensures.queue);
       held = (c.append.ensures.held, omega (arith, c.requires.1, c.append.ensures.count), rw k.0);
+      others = refl;
     }
 
 pub returns-in-Done : goal.returns-in-Done
@@ -21,6 +22,7 @@ returns-in-Done c =
     let k : kind r ≡ kind_for Done = kind-known (kind r) (subclass r) _ c.in-Done.ensures in record {
       pending = adds-done _ _ _ _ r _ c.load-in-Done.ensures _ _ _ k c.requires.2 (rw c.done.ensures at c.append-in-Done.ensures.queue);
       held = (c.append-in-Done.ensures.held, omega (arith, c.requires.1, c.append-in-Done.ensures.count), rw k);
+      others = refl;
     }
 
 pub append-requires : goal.append-requires
@@ -41,6 +43,7 @@ returns-in-Service c = unfold wants in
     let k : kind r ≡ kind_for Service = kind-known (kind r) (subclass r) _ c.in-Service.ensures in record {
       pending = adds-service _ _ _ _ r _ c.load-in-Service.ensures _ k c.add_service.ensures;
       held = (c.requires.2, c.requires.1, rw k (omega arith));
+      others = refl;
     }
 
 pub returns-in-MachineCheck : goal.returns-in-MachineCheck
@@ -49,6 +52,7 @@ returns-in-MachineCheck c = unfold wants in
     let k : kind r ≡ kind_for MachineCheck = kind-known (kind r) (subclass r) _ c.in-MachineCheck.ensures in record {
       pending = adds-mchk _ _ _ _ r _ c.load-in-MachineCheck.ensures _ k c.add_mchk.ensures;
       held = (c.requires.2, c.requires.1, rw k (omega arith));
+      others = refl;
     }
 
 pub returns-in-Other : goal.returns-in-Other
@@ -57,4 +61,5 @@ returns-in-Other c = unfold wants in
     let k : kind r ≡ kind_for Other = kind-known (kind r) (subclass r) _ c.in-Other.ensures in record {
       pending = adds-other _ _ _ _ r _ refl k;
       held = (c.requires.2, c.requires.1, rw k (omega arith));
+      others = refl;
     }

@@ -1,86 +1,52 @@
 -- Machine check, service record, then the next of the queues; each is handed out and then removed.
-use Rattle.numbers.proofs.Basics.{◌≡◌, refl, length, lt-leb, rules}
+use Rattle.numbers.proofs.Basics.{◌≡◌, length, lt-leb, rules}
 use Rattle.rules.specs.Take.{takes}
 use Rattle.rules.proofs.Checks.{fails, passed}
-use Rattle.store.specs.Memory.{pending_of}
-use Rattle.answers.proofs.Laws.{refused, not-refused}
+use Rattle.store.specs.Memory.{pending_in}
+use Rattle.answers.specs.declared.Refusal.TheVariants.{Fault}
+use Rattle.answers.proofs.Laws.{refuses}
 use Rattle.record_take.proofs.Laws.{service-there, service-absent, mchk-there, mchk-absent, NoMchk, NoService, no-mchk, no-service, hands-mchk, hands-service, hands-nothing, hands-queued, hands, hands_none}
 use Rattle.record_take.proofs.take.Goals as goal
-use Rattle.record_take.proofs.take.Goals.{else-mcheck-via-then-mcheck+else-has_mchk, else-mcheck-via-else-mcheck, else-external-via-then-external+else-has_service, else-external-via-else-external}
+use Rattle.record_take.proofs.take.Goals.{Joined-else-mcheck, Joined-else-external, else-mcheck-via-then-mcheck+else-is_there, else-mcheck-via-else-mcheck, else-external-via-then-external+else-is_there-2, else-external-via-else-external}
 
-pub returns-then-out-lt72 : goal.returns-then-out-lt72
+-- where neither machine check nor service record was handed out
+no_mchk : (c : Joined-else-mcheck) → NoMchk (pending_in c.args.c.now) c.args.mcheck
+no_mchk c = elim c.else-mcheck.branch [
+  | else-mcheck-via-then-mcheck+else-is_there w ↦ no-mchk _ _ _ _ (mchk-absent _ _ w.is_there.ensures w.if-is_there.false) _
+  | else-mcheck-via-else-mcheck w ↦ passed _ _ _ w.if-mcheck.false
+]
+
+no_serv : (c : Joined-else-external) → NoService (pending_in c.args.c.now) c.args.external
+no_serv c = elim c.else-external.branch [
+  | else-external-via-then-external+else-is_there-2 w ↦ no-service _ _ _ _ (service-absent _ _ w.is_there-then-external.ensures w.if-is_there-2.false) _
+  | else-external-via-else-external w ↦ passed _ _ _ w.if-external.false
+]
+
+pub returns-then-out-lt72-clause-answer : goal.returns-then-out-lt72-clause-answer
 unfolding takes
-returns-then-out-lt72 c =
-    let f = c in
-    (λ L s e. refused L s _ _ _ 14 _ e (fails _ _ _ (lt-leb 72 _ c.if-out-lt72.true)) c.refuse.ensures, (f.requires, λ k. (refl, refl, refl, refl)))
+returns-then-out-lt72-clause-answer c = λ L s e. refuses L s _ _ Fault _ e (fails _ _ _ (lt-leb 72 _ c.if-out-lt72.true))
 
-pub returns-then-has_mchk : goal.returns-then-has_mchk
-returns-then-has_mchk c =
-    let n = c in
-    let r = n in
-    let t = r in
-    let m = t in
-    let i = m in
-    let l : length r.read_mchk.result ≡ 72 = search rules in (
-      λ L s e.
-          hands L s _ _ _ _ _ _ e i.if-out-lt72.false _ _ _ l
-          (hands-mchk _ _ _ _ _ _ _ _ _ c.if-mcheck.true (mchk-there _ _ _ m.has_mchk.ensures t.if-has_mchk.true r.read_mchk.ensures) c.drop_mchk.ensures.0 c.drop_mchk.ensures.1)
-          n.hand-a.ensures,
-      (i.requires, not-refused _ _ n.hand-a.ensures.0),
-    )
+pub returns-then-is_there-clause-answer : goal.returns-then-is_there-clause-answer
+returns-then-is_there-clause-answer c =
+    let l : length c.read.result ≡ 72 = search rules in
+    λ L s e. hands L s _ _ _ _ _ e c.if-out-lt72.false _ _ _ _ l
+    (hands-mchk _ _ _ _ _ _ _ _ _ c.if-mcheck.true (mchk-there _ _ _ c.is_there.ensures c.if-is_there.true c.read.ensures) c.remove.ensures.0 c.remove.ensures.1)
+    c.hand-count.ensures
 
-pub returns-then-has_service : goal.returns-then-has_service
-returns-then-has_service c =
-    let no_mchk : NoMchk (pending_of c.args.order.now c.args.counts.now c.args.slots.now c.args.singles.now) c.args.mcheck = elim c.else-mcheck.branch [ else-mcheck-via-then-mcheck+else-has_mchk w ↦ no-mchk _ _ _ _ (mchk-absent _ _ w.has_mchk.ensures w.if-has_mchk.false) _ | else-mcheck-via-else-mcheck w ↦ passed _ _ _ w.if-mcheck.false ] in
-    let n = c in
-    let r = n in
-    let t = r in
-    let m = t in
-    let i = m in
-    let j = i in
-    let l : length r.read_service.result ≡ 72 = search rules in (
-      λ L s e.
-          hands L s _ _ _ _ _ _ e j.if-out-lt72.false _ _ _ l
-          (hands-service _ _ _ _ _ _ _ no_mchk _ _ c.if-external.true (service-there _ _ _ m.has_service.ensures t.if-has_service.true r.read_service.ensures) c.drop_service.ensures.0 c.drop_service.ensures.1)
-          n.hand-a-then-has_service.ensures,
-      (j.requires, not-refused _ _ n.hand-a-then-has_service.ensures.0),
-    )
+pub returns-then-is_there-2-clause-answer : goal.returns-then-is_there-2-clause-answer
+returns-then-is_there-2-clause-answer c =
+    let l : length c.read-then-is_there-2.result ≡ 72 = search rules in
+    λ L s e. hands L s _ _ _ _ _ e c.if-out-lt72.false _ _ _ _ l
+    (hands-service _ _ _ _ _ _ _ (no_mchk (goal.at.returns-then-is_there-2-clause-answer c).Joined-else-mcheck) _ _ c.if-external.true (service-there _ _ _ c.is_there-then-external.ensures c.if-is_there-2.true c.read-then-is_there-2.ensures) c.remove-then-is_there-2.ensures.0 c.remove-then-is_there-2.ensures.1)
+    c.hand-count-then-is_there-2.ensures
 
-pub returns-in_default : goal.returns-in_default
-returns-in_default c =
-    let no_mchk : NoMchk (pending_of c.args.order.now c.args.counts.now c.args.slots.now c.args.singles.now) c.args.mcheck = elim c.else-mcheck.branch [ else-mcheck-via-then-mcheck+else-has_mchk w ↦ no-mchk _ _ _ _ (mchk-absent _ _ w.has_mchk.ensures w.if-has_mchk.false) _ | else-mcheck-via-else-mcheck w ↦ passed _ _ _ w.if-mcheck.false ] in
-    let no_serv : NoService (pending_of c.args.order.now c.args.counts.now c.args.slots.now c.args.singles.now) c.args.external = elim c.else-external.branch [ else-external-via-then-external+else-has_service w ↦ no-service _ _ _ _ (service-absent _ _ w.has_service.ensures w.if-has_service.false) _ | else-external-via-else-external w ↦ passed _ _ _ w.if-external.false ] in
-    let n = c in
-    let k = n in
-    let j = k in
-    let f = j in (
-      λ L s e.
-          hands_none L s _ _ _ _ _ _ e j.if-out-lt72.false
-          (hands-nothing _ _ _ _ _ _ _ no_mchk no_serv _ (c.in_default.ensures.hands _) refl)
-          c.accept.ensures,
-      (f.requires, λ k. (refl, refl, refl, refl)),
-    )
+pub returns-in_default-clause-answer : goal.returns-in_default-clause-answer
+returns-in_default-clause-answer c =
+    λ L s e. hands_none L s _ _ _ _ _ e c.if-out-lt72.false (hands-nothing _ _ _ _ _ _ _ (no_mchk (goal.at.returns-in_default-clause-answer c).Joined-else-mcheck) (no_serv (goal.at.returns-in_default-clause-answer c).Joined-else-external) (c.in_default.ensures.hands _))
 
-pub returns : goal.returns
-returns c =
-    let no_mchk : NoMchk (pending_of c.args.order.now c.args.counts.now c.args.slots.now c.args.singles.now) c.args.mcheck = elim c.else-mcheck.branch [ else-mcheck-via-then-mcheck+else-has_mchk w ↦ no-mchk _ _ _ _ (mchk-absent _ _ w.has_mchk.ensures w.if-has_mchk.false) _ | else-mcheck-via-else-mcheck w ↦ passed _ _ _ w.if-mcheck.false ] in
-    let no_serv : NoService (pending_of c.args.order.now c.args.counts.now c.args.slots.now c.args.singles.now) c.args.external = elim c.else-external.branch [ else-external-via-then-external+else-has_service w ↦ no-service _ _ _ _ (service-absent _ _ w.has_service.ensures w.if-has_service.false) _ | else-external-via-else-external w ↦ passed _ _ _ w.if-external.false ] in
-    let h = c in
-    let r = h in
-    let q = r in
-    let n = q in
-    let k = n in
-    let j = k in
-    let l : length r.read.result ≡ 72 = search rules in (
-      λ L s e.
-          hands L s _ _ _ _ _ _ e j.if-out-lt72.false _ _ _ l
-          (hands-queued _ _ _ _ _ _ _ no_mchk no_serv _ (c.in-At.ensures.hands _) _ _ _ _ _ refl r.read.ensures (c.remove.ensures.queue _))
-          h.hand-a-2.ensures,
-      (c.remove.ensures.held, not-refused _ _ h.hand-a-2.ensures.0),
-    )
-
-pub read-requires : goal.read-requires
-read-requires c = (c.in-At.ensures.place.0, c.in-At.ensures.place.1, c.requires)
-
-pub remove-requires : goal.remove-requires
-remove-requires c = (c.in-At.ensures.place.0, c.in-At.ensures.place.1, c.requires)
+pub returns-clause-answer : goal.returns-clause-answer
+returns-clause-answer c =
+    let l : length c.read-2.result ≡ 72 = search rules in
+    λ L s e. hands L s _ _ _ _ _ e c.if-out-lt72.false _ _ _ _ l
+    (hands-queued _ _ _ _ _ _ _ (no_mchk (goal.at.returns-clause-answer c).Joined-else-mcheck) (no_serv (goal.at.returns-clause-answer c).Joined-else-external) c.in-Some.q c.in-Some.at _ _ _ (c.in-Some.ensures.hands _) c.read-2.ensures (c.remove-2.ensures.queue _))
+    c.hand-count-2.ensures

@@ -3,5 +3,5 @@ use Rattle.list_image.proofs.Laws.{imaged-zeros}
 use Rattle.sample_list.proofs.main.Goals as goal
 
 -- src/main.rt:84:9
-pub make-device-requires : goal.make-device-requires
-make-device-requires c = (c.fresh.ensures.0, rw c.empty-image.ensures imaged-zeros)
+pub make-made-requires : goal.make-made-requires
+make-made-requires c = (c.fresh.ensures.fresh.0, rw c.empty-image.ensures imaged-zeros)

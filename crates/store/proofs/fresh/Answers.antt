@@ -3,9 +3,8 @@ use Rattle.numbers.proofs.Basics.{◌∙◌}
 use Rattle.store.proofs.{Laws.none_left}
 use Rattle.store.proofs.fresh.Goals as goal
 
-pub returns : goal.returns
-returns c = let v = c in
-    let q = v in (
-      q.reset.ensures.held,
-      λ slots. none_left _ _ slots _ (q.reset.ensures.queue slots) (c.drop_mchk.ensures.1 ∙ v.drop_service.ensures.0) c.drop_mchk.ensures.0,
-    )
+pub returns-clause-fresh : goal.returns-clause-fresh
+returns-clause-fresh c = (
+  c.reset.ensures.held,
+  λ slots. none_left _ _ slots _ (c.reset.ensures.queue slots) (c.remove-2.ensures.1 ∙ c.remove.ensures.0) c.remove-2.ensures.0,
+)

@@ -15,8 +15,8 @@ loop-k-preserved c =
     let at : r.read_slot.result ≡ get_or L l.k [] =
     rw r.slot_of.ensures at r.read_slot.ensures ∙ sym (named-at a.b.now a.o.now a.q.0 (omega arith) a.n f.requires.1 l.k (omega arith)) in
     let lr : length r.read_slot.result ≡ 72 = search rules in
-    let t = list-turn L a.out.now l.out a.at l.k (omega arith) (rw at at lr) l.invariant.2 (omega arith) l.invariant.3 in
-    (omega arith, search rules, t.0, rw (at, t.1) at c.save.ensures)
+    let t = list-turn L a.out.now l.out a.at l.k (omega arith) (rw at at lr) l.invariant.0 (omega arith) l.invariant.1 in
+    (t.0, rw (at, t.1) at c.save.ensures)
 
 pub returns : goal.returns
 returns c =
@@ -26,7 +26,7 @@ returns c =
     let n = length-named a.b.now a.o.now a.q.0 (omega arith) a.n f.requires.1 in
     let e : l.k ≡ a.n = omega arith in
     let z = take_all a.n (listed a.b.now (row a.o.now a.q.0 a.n)) (omega arith) in
-    record { out_after = rw (e, z) at l.invariant.3; long = rw (e, z) at l.invariant.2 }
+    record { out_after = rw (e, z) at l.invariant.1; long = rw (e, z) at l.invariant.0 }
 
 pub loop-k-init : goal.loop-k-init
-loop-k-init c = unfold flatten in (omega arith, refl, refl, paste-zero c.args.out.now c.args.at [])
+loop-k-init c = unfold flatten in (refl, paste-zero c.args.out.now c.args.at [])

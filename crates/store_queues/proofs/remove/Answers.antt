@@ -1,12 +1,8 @@
 -- The row closes up, the slot is the last of the free ones, and the counts follow.
 use Rattle.numbers.proofs.Basics.{List, ℕ, ◌<◌, ◌-◌, ◌/◌, ◌^◌, ◌≤◌, arith, get_or}
-use Rattle.store_queues.specs.{Slots.slot_count, Queues.waiting, Queues.Held}
-use Rattle.store_queues.proofs.{Counts.count_small, Counts.mask-stays, Counts.mask-set, Counts.some-zero, Counts.some_one, Counts.bit-there, Laws.remove-leaves}
+use Rattle.store_queues.specs.{Queues.waiting, Queues.Held}
+use Rattle.store_queues.proofs.{Counts.mask-stays, Counts.mask-set, Counts.some-zero, Counts.some_one, Counts.bit-there, Laws.remove-leaves}
 use Rattle.store_queues.proofs.remove.Goals as goal
-
--- the queue's count is at most that of all, and that at most the slots
-few : (o c : List ℕ) (q at : ℕ) → (q < 9) × (at < get_or c q 0) × Held o c → (get_or c q 0 ≤ get_or c 9 0) × (get_or c 9 0 ≤ slot_count)
-few o c q at r = (count_small c r.2.counted q r.0, r.2.counted.few)
 
 -- the queue's bit is in the mask
 there : (o c : List ℕ) (q at : ℕ) → (q < 9) × (at < get_or c q 0) × Held o c → 128 / 2 ^ q ≤ waiting c
@@ -31,28 +27,6 @@ returns-else-k-eq0 c =
     (remove-leaves a.o.now a.c.now f.requires.2 a.q.0 a.at f.requires.0 f.requires.1 _ _
     (mask-stays a.c.now f.requires.2.counted.long a.q.0 (k - 1) (get_or a.c.now 9 0 - 1) f.requires.0)
     (rw (some_one k (λ z. omega (arith, z, f.requires.1)), some_one (k - 1) c.if-k-eq0.false) (omega arith)))
-
-pub overflow_add-s : goal.overflow_add-s
-overflow_add-s c = omega (arith, few c.args.o.now c.args.c.now c.args.q.0 c.args.at c.requires)
-
-pub bounds-o-start : goal.bounds-o-start
-bounds-o-start c = omega (arith, few c.args.o.now c.args.c.now c.args.q.0 c.args.at c.requires)
-
-pub overflow_add-start : goal.overflow_add-start
-overflow_add-start c = omega (arith, few c.args.o.now c.args.c.now c.args.q.0 c.args.at c.requires)
-
-pub overflow_add-start-2 : goal.overflow_add-start-2
-overflow_add-start-2 c = omega (arith, few c.args.o.now c.args.c.now c.args.q.0 c.args.at c.requires)
-
-pub move_down-requires : goal.move_down-requires
-move_down-requires c = let f = c in
-    (omega arith, omega (arith, few c.args.o.now c.args.c.now c.args.q.0 c.args.at c.requires, f.requires.2.long))
-
-pub bounds-o-n : goal.bounds-o-n
-bounds-o-n c = omega (arith, few c.args.o.now c.args.c.now c.args.q.0 c.args.at c.requires)
-
-pub overflow_sub-c : goal.overflow_sub-c
-overflow_sub-c c = omega (arith, few c.args.o.now c.args.c.now c.args.q.0 c.args.at c.requires)
 
 pub overflow_sub-c-then-k-eq0 : goal.overflow_sub-c-then-k-eq0
 overflow_sub-c-then-k-eq0 c = omega (arith, there c.args.o.now c.args.c.now c.args.q.0 c.args.at c.requires)

@@ -10,5 +10,5 @@ returns c =
     let a = c.args in
     let l : length a.r ≡ 72 = search rules in
     let m : a.s * 72 ≤ length a.b.now = search rules in
-    let e = rw c.index.ensures.0 at c.save.ensures in
+    let e = rw c.from.ensures at c.save.ensures in
     record { here = rw e (part_same a.b.now (a.s * 72) a.r 72 m l); others = λ t n. rw e (slot-other 72 a.b.now a.r a.s t m l n) }

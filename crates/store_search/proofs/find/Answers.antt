@@ -1,95 +1,89 @@
-use Rattle.numbers.proofs.Basics.{◌≡◌, List, ℕ, refl, sym, ap, ◌∙◌, Bool, true, false, [], ◌+◌, ◌*◌, ◌≤◌, ◌<◌, arith}
-use Rattle.numbers.proofs.Basics.{length, get_or, ltb-true}
+use Rattle.numbers.proofs.Basics.{◌≡◌, List, ℕ, sym, ◌∙◌, Bool, true, false, [], ◌+◌, ◌*◌, ◌≤◌, ◌<◌, arith}
+use Rattle.numbers.proofs.Basics.{length, get_or}
 use Rattle.rules.specs.Bytes.{choose}
 use Rattle.store_queues.specs.{Slots.slot_count, Queues.queues, Queues.Held, Slots.slot}
 use Rattle.store_queues.proofs.Laws.{count_fits, length-queues, length-queue, queue-record}
 use Rattle.store_search.specs.{Search.wanted, Search.is_for_word}
-use Rattle.store_search.proofs.{Laws.search-over, Laws.search-queue, Laws.search-end, Laws.search-record, Laws.cleared, Laws.handed_out}
+use Rattle.store_search.proofs.{Laws.search-over, Laws.search-turn, Laws.search-end, Laws.search-record, Laws.cleared, Laws.handed_out}
 use Rattle.numbers.specs.declared.Queue.{Queue}
 use Rattle.store_search.proofs.find.Goals as goal
-use Rattle.store_search.proofs.find.Goals.{then-loop-q-test+else-k-n, else-loop-q-test, then-any-via-then-any, then-any-via-else-any+then-is_for}
+use Rattle.store_search.proofs.find.Goals.{then-any-via-then-any, then-any-via-else-any+then-is_for}
 
--- the queue's records are as many as counted, and no more than a row has
-size : (o c b : List ℕ) (isc n i : ℕ) → Held o c → isc < 9 → i ≡ isc → n ≡ get_or c i 0
-    → (length (get_or (queues o c b) isc []) ≡ n) × (n ≤ slot_count) × (get_or c isc 0 ≡ n)
-size o c b isc n i h small e k =
-    let m : n ≡ get_or c isc 0 = rw e at k in (
-      length-queue o c h b isc small ∙ sym m,
-      omega (arith, m, count_fits o c h isc small),
-      sym m,
-    )
+-- the queue that is searched, with the number of its records
+record Row (o c b : List ℕ) (isc n : ℕ) (q : Queue) : Type 0 where
+  is : q ≡ record { 0 = isc }
+  small : isc < 8
+  counted : n ≡ get_or c isc 0
+  size : length (get_or (queues o c b) isc []) ≡ n
+  few : n ≤ slot_count
+
+row : (o c b : List ℕ) (isc n : ℕ) (q : Queue) → Held o c → isc < 8 → q ≡ record { 0 = isc } → n ≡ get_or c q.0 0 → Row o c b isc n q
+row o c b isc n q h small e k =
+    let m : n ≡ get_or c isc 0 = rw e at k in
+    record {
+      is = e;
+      small = small;
+      counted = m;
+      size = length-queue o c h b isc (omega arith) ∙ sym m;
+      few = omega (arith, m, count_fits o c h isc (omega arith));
+    }
 
 -- the record that is looked at
-looked : (o c b : List ℕ) (isc k i s word : ℕ) → Held o c → isc < 9 → k < get_or c isc 0 → i ≡ isc → s ≡ get_or o (i * slot_count + k) 0
-    → (x : Bool) → x ≡ is_for_word word (slot 72 b s) → wanted false word (get_or (get_or (queues o c b) isc []) k []) ≡ x
-looked o c b isc k i s word h small below e at x f =
-    let t = rw e at at in
-    let r = queue-record o c h b isc k small below in
-    sym (rw (t, ← r) at f)
+looked : (o c b : List ℕ) (isc n : ℕ) (q : Queue) (z : Row o c b isc n q) → Held o c → (any : Bool) (at s word : ℕ) (x : Bool) → any ≡ false → at < n
+    → s ≡ get_or o (q.0 * slot_count + at) 0 → x ≡ is_for_word word (slot 72 b s) → wanted any word (get_or (get_or (queues o c b) isc []) at []) ≡ x
+looked o c b isc n q z h any at s word x f below es ex =
+    let t = rw z.is at es in
+    let r = queue-record o c h b isc at (omega arith) (omega arith) in
+    rw f (sym (rw (t, ← r) at ex))
 
-pub loop-q-init : goal.loop-q-init
-loop-q-init c =
-    let i = c in
-    let s = i in
-    let f = s in
-    let a = f.args in (
-      omega arith,
-      s.search.invariant.1,
-      rw c.has_bit-allowed.ensures (s.search.invariant.2 ∙ search-queue (queues a.o.now a.c.now a.b.now) _ _ _ i.search-test.true (length-queues a.o.now a.c.now f.requires a.b.now)),
-    )
-
-pub loop-q-preserved : goal.loop-q-preserved
+pub loop-k-init : goal.loop-k-init
 unfolding choose
-loop-q-preserved c =
-    let z = size c.args.o.now c.args.c.now c.args.b.now c.search.isc c.count-n.result c.of-q.result.0 c.requires (omega (arith, c.search-test.true)) (ap (λ (r : Queue). r.0) c.of-q.ensures) c.count-n.ensures in (
-      omega arith,
-      c.loop-q.invariant.1,
-      rw c.loop-q-test.true (search-record (queues c.args.o.now c.args.c.now c.args.b.now) _ _ _ c.loop-q.k _ _ false c.loop-q.invariant.2 c.loop-q-test.true (omega (arith, z.0)) (rw c.if-any.false (looked c.args.o.now c.args.c.now c.args.b.now c.search.isc c.loop-q.k c.of-q.result.0 _ c.args.word.0 c.requires (omega (arith, c.search-test.true)) (omega (arith, z.2)) (ap (λ (r : Queue). r.0) c.of-q.ensures) c.slot_of.ensures _ c.is_for.ensures ∙ c.if-is_for.false))),
-    )
+loop-k-init c =
+    let a = c.args in
+    (c.search.invariant.0, c.search.invariant.1 ∙ search-turn (queues a.o.now a.c.now a.b.now) _ _ _ true c.search-test.true (length-queues a.o.now a.c.now c.requires a.b.now) (sym c.if-not-has_bit.false ∙ c.has_bit.ensures))
+
+pub loop-k-preserved : goal.loop-k-preserved
+unfolding choose
+loop-k-preserved c =
+    let a = c.args in
+    let z = row a.o.now a.c.now a.b.now _ _ _ c.requires c.search-test.true c.of-q.ensures c.count-k-end.ensures in
+    (c.loop-k.invariant.0, c.loop-k.invariant.1 ∙ search-record (queues a.o.now a.c.now a.b.now) _ _ _ c.loop-k.k false (omega arith) (looked _ _ _ _ _ _ z c.requires _ _ _ _ _ c.if-any.false c.loop-k-test.true c.slot_of.ensures c.is_for.ensures ∙ c.if-is_for.false))
+
+pub search-preserved-then-not-has_bit : goal.search-preserved-then-not-has_bit
+unfolding choose
+search-preserved-then-not-has_bit c =
+    let a = c.args in
+    (c.search.invariant.0, c.search.invariant.1 ∙ search-turn (queues a.o.now a.c.now a.b.now) _ _ _ false c.search-test.true (length-queues a.o.now a.c.now c.requires a.b.now) (sym c.if-not-has_bit.true ∙ c.has_bit.ensures))
 
 pub search-preserved : goal.search-preserved
-unfolding choose
 search-preserved c =
-    let l = c in
-    let z = size c.args.o.now c.args.c.now c.args.b.now c.search.isc c.count-n.result c.of-q.result.0 c.requires (omega (arith, c.search-test.true)) (ap (λ (r : Queue). r.0) c.of-q.ensures) c.count-n.ensures in
-    let a = l.args in (
-      omega arith,
-      l.loop-q.invariant.1,
-      l.loop-q.invariant.2 ∙ elim c.loop-q-test.branch [
-        | then-loop-q-test+else-k-n w ↦ rw w.loop-q-test.true (search-end (queues a.o.now a.c.now a.b.now) _ _ _ l.loop-q.k (omega (arith, z.0)))
-        | else-loop-q-test w ↦ rw w.loop-q-test.false refl
-      ],
-    )
+    let a = c.args in
+    let z = row a.o.now a.c.now a.b.now _ _ _ c.requires c.search-test.true c.of-q.ensures c.count-k-end.ensures in
+    (c.loop-k.invariant.0, c.loop-k.invariant.1 ∙ search-end (queues a.o.now a.c.now a.b.now) _ _ _ c.loop-k.k (omega arith))
 
 pub returns-after-search : goal.returns-after-search
 returns-after-search c =
-    let s = c.search in
     let a = c.args in
     let qs = queues a.o.now a.c.now a.b.now in
-    let e = s.invariant.1 ∙ sym (s.invariant.2 ∙ search-over qs _ _ _ c.search-test.false) in
-    record { clears = cleared _ _ _ qs _ e; hands = handed_out _ _ _ qs _ e; place = rw s.invariant.1 tt }
+    let e = c.search.invariant.0 ∙ sym (c.search.invariant.1 ∙ search-over qs _ _ _ c.search-test.false) in
+    record { clears = cleared _ _ _ qs _ e; hands = handed_out _ _ _ qs _ e; place = rw c.search.invariant.0 tt }
 
 pub returns-then-any : goal.returns-then-any
 unfolding choose
 returns-then-any c =
-    let qs = queues c.args.o.now c.args.c.now c.args.b.now in
-    let z = size c.args.o.now c.args.c.now c.args.b.now c.search.isc c.count-n.result c.of-q.result.0 c.requires (omega (arith, c.search-test.true)) (ap (λ (r : Queue). r.0) c.of-q.ensures) c.count-n.ensures in
-    let e = sym (elim c.then-any.branch [ then-any-via-then-any w ↦ search-record (queues c.args.o.now c.args.c.now c.args.b.now) _ _ _ c.loop-q.k _ _ true c.loop-q.invariant.2 c.loop-q-test.true (omega (arith, z.0)) (rw w.if-any.true) | then-any-via-else-any+then-is_for w ↦ search-record (queues c.args.o.now c.args.c.now c.args.b.now) _ _ _ c.loop-q.k _ _ true c.loop-q.invariant.2 c.loop-q-test.true (omega (arith, z.0)) (rw w.if-any.false (looked c.args.o.now c.args.c.now c.args.b.now c.search.isc c.loop-q.k c.of-q.result.0 _ c.args.word.0 c.requires (omega (arith, c.search-test.true)) (omega (arith, z.2)) (ap (λ (r : Queue). r.0) c.of-q.ensures) w.slot_of.ensures _ w.is_for.ensures ∙ w.if-is_for.true)) ]) in
-    record { clears = cleared _ _ _ qs _ e; hands = handed_out _ _ _ qs _ e; place = (c.search-test.true, omega (arith, z.2)) }
-
-pub search-init : goal.search-init
-search-init c = (omega arith, refl, refl)
-
-pub count-n-requires : goal.count-n-requires
-count-n-requires c = rw c.of-q.ensures (omega arith)
+    let a = c.args in
+    let qs = queues a.o.now a.c.now a.b.now in
+    let z = row a.o.now a.c.now a.b.now _ _ _ c.requires c.search-test.true c.of-q.ensures c.count-k-end.ensures in
+    let w : wanted a.any a.word.0 (get_or (get_or qs c.search.isc []) c.loop-k.k []) ≡ true =
+    elim c.then-any.branch [
+      | then-any-via-then-any w ↦ rw w.if-any.true
+      | then-any-via-else-any+then-is_for w ↦ looked _ _ _ _ _ _ z c.requires _ _ _ _ _ w.if-any.false c.loop-k-test.true w.slot_of.ensures w.is_for.ensures ∙ w.if-is_for.true
+    ] in
+    let e = sym (c.loop-k.invariant.1 ∙ search-record qs _ _ _ c.loop-k.k true (omega arith) w) in
+    record { clears = cleared _ _ _ qs _ e; hands = handed_out _ _ _ qs _ e; place = (c.search-test.true, omega arith) }
 
 pub slot_of-requires : goal.slot_of-requires
-slot_of-requires c = let z = size c.args.o.now c.args.c.now c.args.b.now c.search.isc c.count-n.result c.of-q.result.0 c.requires (omega (arith, c.search-test.true)) (ap (λ (r : Queue). r.0) c.of-q.ensures) c.count-n.ensures in
-    (omega (arith, ap (λ (r : Queue). r.0) c.of-q.ensures, c.search-test.true), omega (arith, z.1))
-
-pub overflow_add-k : goal.overflow_add-k
-overflow_add-k c = let z = size c.args.o.now c.args.c.now c.args.b.now c.search.isc c.count-n.result c.of-q.result.0 c.requires (omega (arith, c.search-test.true)) (ap (λ (r : Queue). r.0) c.of-q.ensures) c.count-n.ensures in
-    omega (arith, ltb-true, z.1)
-
-pub loop-q-smaller : goal.loop-q-smaller
-loop-q-smaller c = omega (arith, ltb-true)
+slot_of-requires c =
+    let a = c.args in
+    let z = row a.o.now a.c.now a.b.now _ _ _ c.requires c.search-test.true c.of-q.ensures c.count-k-end.ensures in
+    (rw c.of-q.ensures (omega arith), omega arith)

@@ -1,27 +1,20 @@
 -- Nothing is found so far, and the search of what is left is the search of the whole.
-use Rattle.numbers.proofs.Basics.{◌≡◌, [], ◌-◌, ◌≤◌}
+use Rattle.numbers.proofs.Basics.{◌≡◌, []}
 use Rattle.numbers.proofs.Basics.{take, drop, get_or}
-use Rattle.rules.specs.Bytes.{choose}
 use Rattle.store_queues.specs.{Queues.queues}
 use Rattle.store_search.specs.{declared.Found.TheVariants.None, Search.wanted, Search.search_queue, Search.search_queues}
 use Rattle.store_search.proofs.{Laws.later}
 use Rattle.store_search.proofs.find.Given as goal
 
-abbrev pub invariant-loop-q : goal.invariant-loop-q
-invariant-loop-q l =
+abbrev pub invariant-loop-k : goal.invariant-loop-k
+invariant-loop-k l =
     let f = wanted l.any l.word.0 in
     let qs = queues l.o l.c l.b in
-    (l.k ≤ l.n) × (l.found ≡ None)
-    × (search_queues f l.subclasses 0 (take 8 qs) ≡ choose l.allowed (search_queue f l.isc l.k (drop l.k (get_or qs l.isc [])) (later qs f l.subclasses l.isc)) (later qs f l.subclasses l.isc))
-
-abbrev pub decreases-loop-q : goal.decreases-loop-q
-decreases-loop-q l = l.n - l.k
+    (l.found ≡ None)
+    × (search_queues f l.subclasses 0 (take 8 qs) ≡ search_queue f l.isc l.k (drop l.k (get_or qs l.isc [])) (later qs f l.subclasses l.isc))
 
 abbrev pub invariant-search : goal.invariant-search
 invariant-search l =
     let f = wanted l.any l.word.0 in
     let qs = take 8 (queues l.o l.c l.b) in
-    (l.isc ≤ 8) × (l.found ≡ None) × (search_queues f l.subclasses 0 qs ≡ search_queues f l.subclasses l.isc (drop l.isc qs))
-
-abbrev pub decreases-search : goal.decreases-search
-decreases-search l = 8 - l.isc
+    (l.found ≡ None) × (search_queues f l.subclasses 0 qs ≡ search_queues f l.subclasses l.isc (drop l.isc qs))

@@ -1,16 +1,11 @@
--- The first service record is saved; a second one changes nothing.
-use Rattle.numbers.proofs.{Basics.refl, Basics.arith, Laws.drop_past}
-use Rattle.rules.specs.Bytes.{byte, part}
-use Rattle.store_singles.specs.Singles.{service_of, mchk_of}
-use Rattle.store_singles.proofs.{Laws.absent, Laws.there, Laws.stored}
+-- The first service record is written; a second one changes nothing.
+use Rattle.numbers.proofs.Basics.{refl}
+use Rattle.store_singles.proofs.Laws.{single-absent, single-there}
+use Rattle.store_singles.specs.declared.Single.TheVariants.{Service}
 use Rattle.store_singles.proofs.add_service.Goals as goal
 
-pub returns-then-g-eq0 : goal.returns-then-g-eq0
-returns-then-g-eq0 c = unfold service_of mchk_of in let a = c.args in
-    let g = a.g.now in
-    rw (c.save.ensures, absent (byte 144 g) (part 0 72 g) c.if-g-eq0.true)
-    (stored g 0 a.r 144 (omega arith) (omega arith) (omega arith) 72 145 (omega arith) (omega arith) (omega arith) (rw (drop_past g 0 a.r 72 72 (omega arith) (omega arith) (omega arith))))
+pub returns-then-not-is_there : goal.returns-then-not-is_there
+returns-then-not-is_there c = (rw (single-absent c.args.g.now _ Service c.is_there.ensures c.if-not-is_there.true) c.put.ensures.0, c.put.ensures.1)
 
-pub returns-else-g-eq0 : goal.returns-else-g-eq0
-returns-else-g-eq0 c = unfold service_of mchk_of in let g = c.args.g.now in
-    (rw (there (byte 144 g) (part 0 72 g) c.if-g-eq0.false), refl)
+pub returns-else-not-is_there : goal.returns-else-not-is_there
+returns-else-not-is_there c = (rw (single-there c.args.g.now _ Service c.is_there.ensures c.if-not-is_there.false), refl)

@@ -1,9 +1,0 @@
--- The first i bytes of s stand in out from index at.
-use Rattle.numbers.proofs.Basics.{◌≡◌, ◌-◌, ◌≤◌, length, paste}
-use Rattle.listing_text.proofs.append.Given as goal
-
-abbrev pub invariant-loop-i : goal.invariant-loop-i
-invariant-loop-i l = (l.i ≤ length l.s) × (length l.out ≡ length l.initial.out) × (l.out ≡ paste l.initial.out l.at l.s l.i)
-
-abbrev pub decreases-loop-i : goal.decreases-loop-i
-decreases-loop-i l = length l.s - l.i

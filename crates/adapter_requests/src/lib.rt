@@ -16,7 +16,8 @@ use numbers::{
     ADAPTER_REGISTER, AISM, AISM_ALL, APF_DISABLE_WAIT, APF_ENABLE, AdapterId, NO_ADAPTER, Subclass,
 };
 
-// The id in a payload. A payload too short for one names no adapter.
+// The id in a payload. A payload too short for one names no adapter: by a number that no table has, and no Option,
+// since `DecidesPlace` looks up the id that every payload has.
 pub fn payload_id(payload: &[u8]) -> AdapterId
     ensures { result.0 ≡ payload_id payload.now }
 {
@@ -57,7 +58,7 @@ fn check_register(places: u64, place: Place, attr: u64, payload: &[u8]) -> Resul
     Ok(())
 }
 
-// Group 7: whether a MODIFY is accepted.
+// Group 7: whether a MODIFY is accepted. Its kind is a number, as the payload gives it: every byte is a request.
 fn check_modify(places: u64, place: Place, attr: u64, payload: &[u8]) -> Result<(), Refusal>
     ensures decides { DecidesPlace 7 places place attr payload.now result }
     ensures asked { OnOk result (PlaceAsked 7 payload.now place) }
@@ -89,7 +90,8 @@ fn check_modify(places: u64, place: Place, attr: u64, payload: &[u8]) -> Result<
     Ok(())
 }
 
-// Whether a request about an adapter's place is accepted.
+// Whether a request about an adapter's place is accepted. A request comes as group, attribute and payload, as C gives
+// them, and a group as its number, of which a test or two are made: every number is a request (`request`).
 pub fn check_place(
     places: u64,
     place: Place,
@@ -236,7 +238,8 @@ pub fn masks_in(payload: &[u8]) -> Masks
     }
 }
 
-// The device record after an accepted request about it, by value.
+// The device record after an accepted request about it, by value: paper 01 names this form and that over the lent
+// record.
 pub fn modes_after(device: Device, group: u32, payload: &[u8]) -> Device
     requires { ModesAsked group payload.now }
     ensures { device_of result ≡ modes_after group payload.now (device_of device) }

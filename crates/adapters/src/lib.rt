@@ -17,7 +17,8 @@ pub struct Device {
     pub apf: bool,
 }
 
-// An adapter place. Where it is not used the other fields are 0 and false.
+// An adapter place. Where it is not used the other fields are 0 and false. C's struct in flic.h: a flag and no Option
+// of the rest, and no invariant (`Canonical`), since C lends places with any content.
 #[repr(C)]
 #[derive(Clone, Copy)]
 pub struct Place {

@@ -17,7 +17,7 @@ pub enum Refusal {
 }
 
 impl Refusal {
-    // The code by which C knows the refusal.
+    // The code by which C knows the refusal. A method, no From: every number is a u32, and few are a code.
     pub fn code(self) -> u32
         ensures { result ≡ code_of self }
     {
@@ -25,7 +25,7 @@ impl Refusal {
     }
 }
 
-// A code, 0 if accepted, and a count: what a public call returns to C.
+// A code, 0 if accepted, and a count: what a public call returns to C. Drop alone: nothing copies it.
 #[repr(C)]
 #[derive(Drop)]
 pub struct Answer {

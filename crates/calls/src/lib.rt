@@ -151,7 +151,8 @@ fn set_modes(
     Ok(0)
 }
 
-// A set request that neither clears nor injects, which are the groups that a list may have and a few more.
+// A set request that neither clears nor injects, which are the groups that a list may have and a few more. Controller,
+// image and device record come one by one: C lends two of them apart, and a struct of references is not covered.
 pub fn set_listed(
     c: &mut Controller,
     image: &mut [u64; PLACES],

@@ -42,7 +42,7 @@ pub fn mask(t: &mut [Place], id: AdapterId, on: bool)
     }
 }
 
-// The device record as it is.
+// The device record as it is. This and the next are thin functions as well.
 pub fn read_device(d: &Device) -> Device
     ensures { result ≡ d.now }
 {

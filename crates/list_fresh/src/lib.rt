@@ -27,6 +27,7 @@ fn capable(list: &[u8]) -> bool
 pub fn play_fresh(c: &mut Controller, list: &[u8]) -> Result<u64, PlayError>
     ensures held { Held c.new.order c.new.counts }
     ensures answer { PlayedFresh list.now (pending_in c.new) (told result) }
+    ensures flag { header_bytes ≤ length list.now → c.new.ais ≡ eqb (ais_flag_in list.now) 1 }
 {
     store::fresh(c);
     c.ais = capable(list);

@@ -35,7 +35,7 @@ impl From<Refusal> for PlayError {
 }
 
 impl PlayError {
-    // Why the list was refused, as a whole or by its request.
+    // Why the list was refused, as a whole or by its request. A method, no From: the place is left out.
     pub fn refusal(self) -> Refusal
         ensures { result ≡ refusal_of self }
     {
@@ -55,7 +55,8 @@ pub fn made_fresh(played: Result<u64, PlayError>) -> bool
     }
 }
 
-// The answer to a list. Of one that is refused part-way the count is the place of the refused request.
+// The answer to a list. Of one that is refused part-way the count is the place of the refused request. No From: Answer
+// and Result are of other crates.
 pub fn answer(played: Result<u64, PlayError>) -> Answer
     ensures { result ≡ told played }
 {

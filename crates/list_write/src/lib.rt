@@ -164,7 +164,8 @@ pub fn put_adapter_payloads(out: &mut [u8], at: usize, image: &[u64; PLACES], en
     }
 }
 
-// How many REGISTER, MODIFY and pending records a list has, and whether it has AISM_ALL and APF_ENABLE.
+// How many REGISTER, MODIFY and pending records a list has, and whether it has AISM_ALL and APF_ENABLE. That the
+// numbers are those of an image and a listing is said where these are at hand (`Counted`, `WholeListing`).
 #[derive(Clone, Copy)]
 pub struct Parts {
     pub registers: usize,
@@ -239,7 +240,7 @@ fn put_listing(out: &mut [u8], c: &Controller, at: usize, n: usize)
     record_take::list_all(c, &mut out[at..]);
 }
 
-// Both masks, if they are written.
+// Both masks, if they are written. A flag for the reason that put_slot has.
 #[tactic(auto, using(crate::proofs::Entries::two), unfolding(rules::specs::Bytes::choose))]
 fn put_masks(out: &mut [u8], on: bool, at: usize, simm: u8, nimm: u8)
     requires { at + 2 * one_if on ≤ length out.old }

@@ -58,7 +58,7 @@ fn decimal_size(v: u64) -> usize
     v.max(1).ilog10() as usize + 1
 }
 
-// A text that is written piece by piece.
+// A text that is written piece by piece. No String: nothing is allocated.
 // It owns its bytes: with a borrowed buffer each clause would say as well that the field keeps its reference.
 #[derive(Drop)]
 struct Text {
@@ -228,7 +228,7 @@ pub fn write_refusal(out: &mut [u8; TEXT_BYTES], code: u32) -> usize
     ensures { Wrote out.old out.new 0 (refusal code) result }
 {
     let mut text = Text::new();
-    text.number(b"refused", code as u64);
+    text.number(b"refused", u64::from(code));
     text.copy_to(out)
 }
 

@@ -63,7 +63,8 @@ impl From<BadRecord> for Refusal {
     }
 }
 
-// Checks the first n records of b: how many of them go to a queue, where every one has an accepted type.
+// Checks the first n records of b, for any n that fits: how many of them go to a queue, where every one has an accepted
+// type.
 pub fn check(b: &[u8], n: usize) -> Result<usize, BadRecord>
     requires { (n * 72 ≤ enqueue_bytes) × (n * 72 ≤ length b.now) }
     ensures { result ≡ check_from 0 0 (records_in n b.now) }

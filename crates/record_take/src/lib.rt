@@ -142,8 +142,7 @@ pub fn clear_io(c: &mut Controller, attr: u64, payload: &[u8]) -> Result<u64, Re
         &c.order,
         &c.counts,
         255,
-        false,
-        Subchannel(word),
+        Some(Subchannel(word)),
     ) else {
         return Ok(0); // no record is for it
     };
@@ -175,20 +174,14 @@ fn next_queued(c: &Controller, subclasses: u8, external: bool) -> Option<(Queue,
         return Some((store_queues::done(), 0));
     }
     let allowed = subclasses & store_queues::nonempty(&c.counts);
-    let Found::At(isc, at) = store_search::find(
-        &c.slots,
-        &c.order,
-        &c.counts,
-        allowed,
-        true,
-        Subchannel(0),
-    ) else {
+    let Found::At(isc, at) = store_search::find(&c.slots, &c.order, &c.counts, allowed, None) else {
         return None;
     };
     Some((store_queues::of(isc), at))
 }
 
-// The guest take. A record is written to the buffer before it is removed: its bytes then go from slot to buffer.
+// The guest take. A record is written to the buffer before it is removed: its bytes then go from slot to buffer. The
+// two single records have a branch each, since each is asked for by a flag of its own.
 pub fn take(
     c: &mut Controller,
     subclasses: u8,

@@ -10,7 +10,8 @@ use numbers::{COUNTS, ORDER_BYTES, SINGLES_BYTES, SLOT_BYTES};
 use store_singles::Single;
 
 // A controller: the memory of its pending records, and its AIS capability. C lends it with any content to be made
-// fresh, so that the type can't say how the arrays hang together: clauses do (`Held`).
+// fresh, so that the type can't say how the arrays hang together: clauses do (`Held`). Arrays of fixed size, as flic.h
+// has them, and Drop alone: nothing copies them.
 #[repr(C)]
 #[derive(Drop)]
 pub struct Controller {

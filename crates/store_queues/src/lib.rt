@@ -37,7 +37,7 @@ pub fn read_slot(b: &[u8; SLOT_BYTES], s: u8) -> [u8; 72]
     numbers::load(b, usize::from(s) * 72)
 }
 
-// The queue of a subclass. Not From, for the reason that numbers::subclass_byte has.
+// The queue of a subclass. Not From: tests/kinds-apart wants another kind refused as a mismatch of types.
 pub fn of(isc: Subclass) -> Queue
     ensures { result ≡ record { 0 = isc.0 } }
 {

@@ -5,7 +5,9 @@ use Rattle.numbers.proofs.Basics.{take, drop, get_or, length-take, drop_of_lengt
 use Rattle.numbers.proofs.{Basics.and_step, Basics.eqb-true, Basics.eqb-false, Basics.eq-eqb, Basics.ne_eqb, Laws.field-part, Laws.each-subclass}
 use Rattle.rules.specs.{Bytes.choose, Bytes.field, State.Record, State.bit, State.has_bit, Requests.cons_to, Requests.without, Requests.or_in, Requests.without_first, Take.first_allowed, Take.keep}
 use Rattle.store_queues.specs.{Slots.remove_at, Slots.slot, Queues.without_at}
+use Rattle.std.specs.Prelude as std
 use Rattle.std.proofs.lemmas.Nat.{and_shr}
+use Rattle.numbers.specs.declared.Subchannel.{Subchannel}
 use Rattle.store_search.specs.{declared.Found.Found, declared.Found.TheVariants.At, declared.Found.TheVariants.None, Search.is_for_word, Search.wanted, Search.search_queue, Search.search_queues, Search.left_at, Search.handed_at}
 
 -- ---- a record is for a subchannel by one word of its slot, which is two halves
@@ -155,16 +157,16 @@ clear-from f n (q ∷ qs) h =
     (clear-here f n q qs (search_queues f 255 (suc n) qs) (from f 255 (suc n) qs) (look f q))
 
 -- what the rules do at what the search answers: the subchannel's first record, and any record of an allowed subclass
-module _ (any : Bool) (word subclasses : ℕ) (qs : List (List Record)) (v : Found) (e : v ≡ search_queues (wanted any word) subclasses 0 (take 8 qs)) where
-  pub cleared : any ≡ false → subclasses ≡ 255 → without_first (is_for_word word) (take 8 qs) ≡ left_at v (take 8 qs)
-  cleared a m =
-      clear-from (is_for_word word) 0 (take 8 qs) (omega (arith, length-take 8 qs))
-      ∙ ap (λ (u : Found). left_at u (take 8 qs)) (past-none _ ∙ sym (e ∙ (λ i. search_queues (wanted (a i) word) (m i) 0 (take 8 qs))))
+module _ (n : std.Option Subchannel) (subclasses : ℕ) (qs : List (List Record)) (v : Found) (e : v ≡ search_queues (wanted n) subclasses 0 (take 8 qs)) where
+  pub cleared : (word : Subchannel) → n ≡ std.Some word → subclasses ≡ 255 → without_first (is_for_word word.0) (take 8 qs) ≡ left_at v (take 8 qs)
+  cleared word a m =
+      clear-from (is_for_word word.0) 0 (take 8 qs) (omega (arith, length-take 8 qs))
+      ∙ ap (λ (u : Found). left_at u (take 8 qs)) (past-none _ ∙ sym (e ∙ (λ i. search_queues (wanted (a i)) (m i) 0 (take 8 qs))))
 
-  pub handed_out : any ≡ true → first_allowed 0 subclasses (take 8 qs) ≡ handed_at v (take 8 qs)
+  pub handed_out : n ≡ std.None → first_allowed 0 subclasses (take 8 qs) ≡ handed_at v (take 8 qs)
   handed_out a =
       take-from 0 subclasses (take 8 qs)
-      ∙ ap (λ (u : Found). handed_at u (take 8 qs)) (past-none _ ∙ sym (e ∙ (λ i. search_queues (wanted (a i) word) subclasses 0 (take 8 qs))))
+      ∙ ap (λ (u : Found). handed_at u (take 8 qs)) (past-none _ ∙ sym (e ∙ (λ i. search_queues (wanted (a i)) subclasses 0 (take 8 qs))))
 
 -- ---- a mask without the subclasses that have no records
 digit_and : (k a b : ℕ) → bit_and a b / 2 ^ k % 2 ≡ min (a / 2 ^ k % 2) (b / 2 ^ k % 2)

@@ -1,6 +1,8 @@
 -- The search over queues, record by record, and what the rules do at the place that it finds.
-use Rattle.std.specs.Prelude.{ℕ, suc, ◌/◌, ◌%◌, ◌<◌, Bool, ◌||◌, List, [], ◌∷◌, get_or}
+use Rattle.std.specs.Prelude as std
+use Rattle.std.specs.Prelude.{ℕ, suc, ◌/◌, ◌%◌, ◌<◌, Bool, true, List, [], ◌∷◌, get_or}
 use mathlib.Core.Option.{Option, none, some}
+use Rattle.numbers.specs.declared.Subchannel.{Subchannel}
 use Rattle.rules.specs.Bytes.{choose}
 use Rattle.rules.specs.State.{Record, has_bit}
 use Rattle.rules.specs.Requests.{is_for}
@@ -13,9 +15,10 @@ use Rattle.store_search.specs.declared.Found.TheVariants.{At, None}
 abbrev pub is_for_word : ℕ → Record → Bool
 is_for_word w r = is_for (w / 65536) (w % 65536) r
 
--- a record is wanted that is for the subchannel, unless any will do
-abbrev pub wanted : Bool → ℕ → Record → Bool
-wanted any w r = any || is_for_word w r
+-- a record is wanted that is for the subchannel; where none is named, any is
+abbrev pub wanted : std.Option Subchannel → Record → Bool
+wanted std.None r = true
+wanted (std.Some word) r = is_for_word word.0 r
 
 -- A search over queues, the first of which is that of subclass isc: the first record that is wanted, of one of the
 -- subclasses. Found are its subclass and its place in the queue. A queue is searched from place k on.

@@ -1,12 +1,12 @@
 // Inner crate: the search over subclasses and records.
 #![tactic(auto)]
 
-ghost use Rattle.std.specs.Prelude.{◌≡◌, true, false, take};
+ghost use Rattle.std.specs.Prelude.{◌≡◌, take, Some, None};
 ghost use Rattle.rules.specs.Requests.{without_first};
 ghost use Rattle.rules.specs.Take.{first_allowed};
 ghost use Rattle.store_queues.specs.Slots.{slot};
 ghost use Rattle.store_queues.specs.Queues.{queues, Held};
-ghost use Rattle.store_search.specs.Search.{is_for_word, FoundIn, left_at, handed_at};
+ghost use Rattle.store_search.specs.Search.{is_for_word, wanted, FoundIn, left_at, handed_at};
 
 use numbers::{COUNTS, ORDER_BYTES, SLOT_BYTES, Subchannel, Subclass};
 
@@ -25,20 +25,29 @@ fn is_for(b: &[u8; SLOT_BYTES], s: u8, word: Subchannel) -> bool
     Subchannel(numbers::read_word(b, usize::from(s) * 72 + 8)) == word
 }
 
-// The first record in listing order of one of the subclasses, and for the subchannel unless any will do.
+// Whether the record in slot s is wanted: any is where no subchannel is named.
+fn is_wanted(b: &[u8; SLOT_BYTES], s: u8, subchannel: Option<Subchannel>) -> bool
+    ensures { result ≡ wanted subchannel (slot 72 b.now s) }
+{
+    match subchannel {
+        None => true,
+        Some(word) => is_for(b, s, word),
+    }
+}
+
+// The first record in listing order of one of the subclasses, and for the subchannel if one is named.
 pub fn find(
     b: &[u8; SLOT_BYTES],
     o: &[u8; ORDER_BYTES],
     c: &[usize; COUNTS],
     subclasses: u8,
-    any: bool,
-    word: Subchannel,
+    subchannel: Option<Subchannel>,
 ) -> Found
     requires { Held o.now c.now }
-    ensures clears { any ≡ false → subclasses ≡ 255
+    ensures clears { (word : Subchannel) → subchannel ≡ Some word → subclasses ≡ 255
         → without_first (is_for_word word.0) (take 8 (queues o.now c.now b.now))
         ≡ left_at result (take 8 (queues o.now c.now b.now)) }
-    ensures hands { any ≡ true
+    ensures hands { subchannel ≡ None
         → first_allowed 0 subclasses (take 8 (queues o.now c.now b.now))
         ≡ handed_at result (take 8 (queues o.now c.now b.now)) }
     ensures place { FoundIn c.now result }
@@ -50,7 +59,7 @@ pub fn find(
         }
         let q = store_queues::of(Subclass(isc));
         for k in 0..store_queues::count(c, q) {
-            if any || is_for(b, store_queues::slot_of(o, q, k), word) {
+            if is_wanted(b, store_queues::slot_of(o, q, k), subchannel) {
                 found = Found::At(Subclass(isc), k);
                 break 'search;
             }

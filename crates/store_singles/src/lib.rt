@@ -1,5 +1,6 @@
 // Inner crate: the service record and the machine check, at most one of each, in lent bytes. The service record stands
-// from byte 0, the machine check from byte 72. Bytes 144 and 145 say whether each is there: 0 if not.
+// from byte 0, the machine check from byte 72. Bytes 144 and 145 say whether each is there: 0 if not. C's array: no
+// Option of a record.
 #![tactic(auto)]
 
 ghost use Rattle.std.specs.Prelude.{◌≡◌, ◌+◌, ◌≤◌, ◌<◌, not, take, drop, eqb};

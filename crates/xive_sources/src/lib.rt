@@ -10,6 +10,7 @@ ghost use Rattle.xive_sources.specs.Stored.{level_of, source_of, Looked, values_
 
 use answers::Refusal;
 
+// A number for each, in an array that C lends.
 pub const SOURCES: usize = 1024;
 
 pub const SERVERS: u64 = 16;
@@ -41,7 +42,7 @@ pub struct Targeting {
     pub effective: EffectiveNumber,
 }
 
-// What a reading answers and gives.
+// What a reading answers and gives, as C reads it (xive.h): numbers and flags, and Drop alone, since nothing copies it.
 #[repr(C)]
 #[derive(Drop)]
 pub struct Reading {
@@ -53,6 +54,7 @@ pub struct Reading {
     pub word: u64,
 }
 
+// No From, nor the two below: a word is any number, and not every targeting has one.
 pub fn server_in(word: u64) -> Server
     ensures { result.0 ≡ server_in word }
 {

@@ -25,10 +25,10 @@ returns-then-word-eq0-clause-answer c =
 pub returns-in_default-clause-answer : goal.returns-in_default-clause-answer
 returns-in_default-clause-answer c =
     let w = c.read_word-word.ensures in
-    λ L s g e. accepts L s _ _ 0 _ [] _ (clears-none c.args.payload.now _ w.value w.halves.1 L s _ c.if-attr-lt4.false c.if-payload-lt4.false c.if-word-eq0.false _ _ _ g e (c.in_default.ensures.clears refl refl)) refl
+    λ L s g e. accepts L s _ _ 0 _ [] _ (clears-none c.args.payload.now _ w.value w.halves.1 L s _ c.if-attr-lt4.false c.if-payload-lt4.false c.if-word-eq0.false _ _ _ g e (c.in_default.ensures.clears _ refl refl)) refl
 
 pub returns-clause-answer : goal.returns-clause-answer
 returns-clause-answer c =
     let w = c.read_word-word.ensures in
     let q = rw c.of.ensures at c.remove.ensures.queue in
-    λ L s g e. accepts L s _ _ 1 _ [] _ (clears-one c.args.payload.now _ w.value w.halves.1 L s _ c.if-attr-lt4.false c.if-payload-lt4.false c.if-word-eq0.false _ _ _ g e _ _ _ _ c.in-At.ensures.place.0 (c.in-At.ensures.clears refl refl) (q _)) refl
+    λ L s g e. accepts L s _ _ 1 _ [] _ (clears-one c.args.payload.now _ w.value w.halves.1 L s _ c.if-attr-lt4.false c.if-payload-lt4.false c.if-word-eq0.false _ _ _ g e _ _ _ _ c.in-At.ensures.place.0 (c.in-At.ensures.clears _ refl refl) (q _)) refl

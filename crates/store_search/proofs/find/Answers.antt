@@ -1,13 +1,13 @@
 use Rattle.numbers.proofs.Basics.{◌≡◌, List, ℕ, sym, ◌∙◌, Bool, true, false, [], ◌+◌, ◌*◌, ◌≤◌, ◌<◌, arith}
 use Rattle.numbers.proofs.Basics.{length, get_or}
 use Rattle.rules.specs.Bytes.{choose}
+use Rattle.rules.specs.State.{Record}
 use Rattle.store_queues.specs.{Slots.slot_count, Queues.queues, Queues.Held, Slots.slot}
+use Rattle.store_search.specs.Search.{wanted}
 use Rattle.store_queues.proofs.Laws.{count_fits, length-queues, length-queue, queue-record}
-use Rattle.store_search.specs.{Search.wanted, Search.is_for_word}
 use Rattle.store_search.proofs.{Laws.search-over, Laws.search-turn, Laws.search-end, Laws.search-record, Laws.cleared, Laws.handed_out}
 use Rattle.numbers.specs.declared.Queue.{Queue}
 use Rattle.store_search.proofs.find.Goals as goal
-use Rattle.store_search.proofs.find.Goals.{then-any-via-then-any, then-any-via-else-any+then-is_for}
 
 -- the queue that is searched, with the number of its records
 record Row (o c b : List ℕ) (isc n : ℕ) (q : Queue) : Type 0 where
@@ -29,12 +29,12 @@ row o c b isc n q h small e k =
     }
 
 -- the record that is looked at
-looked : (o c b : List ℕ) (isc n : ℕ) (q : Queue) (z : Row o c b isc n q) → Held o c → (any : Bool) (at s word : ℕ) (x : Bool) → any ≡ false → at < n
-    → s ≡ get_or o (q.0 * slot_count + at) 0 → x ≡ is_for_word word (slot 72 b s) → wanted any word (get_or (get_or (queues o c b) isc []) at []) ≡ x
-looked o c b isc n q z h any at s word x f below es ex =
+looked : (o c b : List ℕ) (isc n : ℕ) (q : Queue) (z : Row o c b isc n q) → Held o c → (f : Record → Bool) (at s : ℕ) (x : Bool) → at < n
+    → s ≡ get_or o (q.0 * slot_count + at) 0 → x ≡ f (slot 72 b s) → f (get_or (get_or (queues o c b) isc []) at []) ≡ x
+looked o c b isc n q z h f at s x below es ex =
     let t = rw z.is at es in
     let r = queue-record o c h b isc at (omega arith) (omega arith) in
-    rw f (sym (rw (t, ← r) at ex))
+    sym (rw (t, ← r) at ex)
 
 pub loop-k-init : goal.loop-k-init
 unfolding choose
@@ -47,7 +47,7 @@ unfolding choose
 loop-k-preserved c =
     let a = c.args in
     let z = row a.o.now a.c.now a.b.now _ _ _ c.requires c.search-test.true c.of-q.ensures c.count-k-end.ensures in
-    (c.loop-k.invariant.0, c.loop-k.invariant.1 ∙ search-record (queues a.o.now a.c.now a.b.now) _ _ _ c.loop-k.k false (omega arith) (looked _ _ _ _ _ _ z c.requires _ _ _ _ _ c.if-any.false c.loop-k-test.true c.slot_of.ensures c.is_for.ensures ∙ c.if-is_for.false))
+    (c.loop-k.invariant.0, c.loop-k.invariant.1 ∙ search-record (queues a.o.now a.c.now a.b.now) _ _ _ c.loop-k.k false (omega arith) (looked _ _ _ _ _ _ z c.requires (wanted a.subchannel) _ _ _ c.loop-k-test.true c.slot_of.ensures c.is_wanted.ensures ∙ c.if-is_wanted.false))
 
 pub search-preserved-then-not-has_bit : goal.search-preserved-then-not-has_bit
 unfolding choose
@@ -66,21 +66,17 @@ returns-after-search c =
     let a = c.args in
     let qs = queues a.o.now a.c.now a.b.now in
     let e = c.search.invariant.0 ∙ sym (c.search.invariant.1 ∙ search-over qs _ _ _ c.search-test.false) in
-    record { clears = cleared _ _ _ qs _ e; hands = handed_out _ _ _ qs _ e; place = rw c.search.invariant.0 tt }
+    record { clears = cleared _ _ qs _ e; hands = handed_out _ _ qs _ e; place = rw c.search.invariant.0 tt }
 
-pub returns-then-any : goal.returns-then-any
+pub returns-then-is_wanted : goal.returns-then-is_wanted
 unfolding choose
-returns-then-any c =
+returns-then-is_wanted c =
     let a = c.args in
     let qs = queues a.o.now a.c.now a.b.now in
     let z = row a.o.now a.c.now a.b.now _ _ _ c.requires c.search-test.true c.of-q.ensures c.count-k-end.ensures in
-    let w : wanted a.any a.word.0 (get_or (get_or qs c.search.isc []) c.loop-k.k []) ≡ true =
-    elim c.then-any.branch [
-      | then-any-via-then-any w ↦ rw w.if-any.true
-      | then-any-via-else-any+then-is_for w ↦ looked _ _ _ _ _ _ z c.requires _ _ _ _ _ w.if-any.false c.loop-k-test.true w.slot_of.ensures w.is_for.ensures ∙ w.if-is_for.true
-    ] in
+    let w = looked _ _ _ _ _ _ z c.requires (wanted a.subchannel) _ _ _ c.loop-k-test.true c.slot_of.ensures c.is_wanted.ensures ∙ c.if-is_wanted.true in
     let e = sym (c.loop-k.invariant.1 ∙ search-record qs _ _ _ c.loop-k.k true (omega arith) w) in
-    record { clears = cleared _ _ _ qs _ e; hands = handed_out _ _ _ qs _ e; place = (c.search-test.true, omega arith) }
+    record { clears = cleared _ _ qs _ e; hands = handed_out _ _ qs _ e; place = (c.search-test.true, omega arith) }
 
 pub slot_of-requires : goal.slot_of-requires
 slot_of-requires c =

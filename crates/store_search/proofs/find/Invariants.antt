@@ -8,13 +8,13 @@ use Rattle.store_search.proofs.find.Given as goal
 
 abbrev pub invariant-loop-k : goal.invariant-loop-k
 invariant-loop-k l =
-    let f = wanted l.any l.word.0 in
+    let f = wanted l.subchannel in
     let qs = queues l.o l.c l.b in
     (l.found ≡ None)
     × (search_queues f l.subclasses 0 (take 8 qs) ≡ search_queue f l.isc l.k (drop l.k (get_or qs l.isc [])) (later qs f l.subclasses l.isc))
 
 abbrev pub invariant-search : goal.invariant-search
 invariant-search l =
-    let f = wanted l.any l.word.0 in
+    let f = wanted l.subchannel in
     let qs = take 8 (queues l.o l.c l.b) in
     (l.found ≡ None) × (search_queues f l.subclasses 0 qs ≡ search_queues f l.subclasses l.isc (drop l.isc qs))

@@ -91,7 +91,7 @@ fn check_modify(places: u64, place: Place, attr: u64, payload: &[u8]) -> Result<
 }
 
 // Whether a request about an adapter's place is accepted. A request comes as group, attribute and payload, as C gives
-// them, and a group as its number, of which a test or two are made: every number is a request (`request`).
+// them, and a group as its number, of which one to four tests are made: every number is a request (`request`).
 pub fn check_place(
     places: u64,
     place: Place,

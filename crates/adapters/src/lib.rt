@@ -113,6 +113,7 @@ pub fn mode_set(d: Device, isc: Subclass, single: bool) -> Device
     }
 }
 
+// Two masks, and above a subclass with its mode: the structs of the two requests are declared with these, above.
 pub fn masks_set(d: Device, simm: u8, nimm: u8) -> Device
     ensures { result ≡ record { simm = simm; nimm = nimm; apf = d.apf } }
 {

@@ -65,7 +65,8 @@ pub fn answer_inject(
     }
 }
 
-// A get request, with the device record by value.
+// A get request, with the device record by value. Groups are told apart by their number, here and below, as C and a
+// list give it: every number is a request.
 pub fn answer_get(
     c: &Controller,
     device: Device,

@@ -11,7 +11,7 @@ use answers::Refusal;
 use numbers::{ADAPTER_REGISTER, AISM, AISM_ALL, APF_ENABLE, AdapterId, IDS};
 
 // The device record after an accepted request about it, by the thin functions: paper 01 names this form and that by
-// value.
+// value. Groups are told apart by their number, as C gives it.
 pub fn change_modes(d: &mut Device, group: u32, payload: &[u8])
     requires { ModesAsked group payload.now }
     ensures { d.new ≡

@@ -11,8 +11,8 @@ ghost use Rattle.list_image.specs.Image.{image_size, packed, unpacked};
 use adapters::Place;
 use numbers::{AdapterId, PLACES, Subclass};
 
-// The place at an id below `places`. Any other id reads as free. The lent table has a function of its own,
-// lent_table's: a slice can't be a type parameter.
+// The place at an id below `places`, which is one number here, and no bounds of a controller. Any other id reads as
+// free. The lent table has a function of its own, lent_table's: a slice can't be a type parameter.
 #[tactic(auto, using(crate::proofs::Laws::read_in, crate::proofs::Laws::read_out, crate::proofs::Laws::read_canonical))]
 pub fn look_up(image: &[u64; PLACES], places: u64, id: AdapterId) -> Place
     requires { (places ≤ image_size) × Imaged image.now }

@@ -111,7 +111,6 @@ fn put_payload(out: &mut [u8], at: usize, id: AdapterId, p: Place, entry: Entry)
 // How many adapters have an entry.
 #[tactic(auto, using(crate::proofs::Entries::turns))]
 pub fn count(image: &[u64; PLACES], entry: Entry) -> usize
-    requires { length image.now ≡ image_size }
     ensures { (result ≡ length (each entry image.now)) × (result ≤ image_size) }
 {
     // A loop, not a chain of iterators: the chain copies the image by memcpy, and flic.h says that the library needs
@@ -128,7 +127,7 @@ pub fn count(image: &[u64; PLACES], entry: Entry) -> usize
 // The table entries of the adapters, by rising id; the first payload begins at pay.
 #[tactic(auto, using(crate::proofs::Entries::turns))]
 pub fn put_slots(out: &mut [u8], at: usize, pay: usize, image: &[u64; PLACES], entry: Entry)
-    requires { (length image.now ≡ image_size) × (pay ≤ 65536)
+    requires { (pay ≤ 65536)
         × (at + table_entry_bytes * length (each entry image.now) ≤ length out.old) }
     ensures { out.new ≡ put out.old at
         (written_table pay (each entry image.now)) }
@@ -149,8 +148,7 @@ pub fn put_slots(out: &mut [u8], at: usize, pay: usize, image: &[u64; PLACES], e
 // The payloads of the adapters' entries, by rising id.
 #[tactic(auto, using(crate::proofs::Entries::turns))]
 pub fn put_adapter_payloads(out: &mut [u8], at: usize, image: &[u64; PLACES], entry: Entry)
-    requires { (length image.now ≡ image_size)
-        × (at + size_of entry * length (each entry image.now) ≤ length out.old) }
+    requires { (at + size_of entry * length (each entry image.now) ≤ length out.old) }
     ensures { out.new ≡ put out.old at (payloads (each entry image.now)) }
 {
     let size = entry.size();
@@ -284,7 +282,7 @@ pub fn write_list(
     image: &[u64; PLACES],
     out: &mut [u8],
 ) -> Result<u64, Refusal>
-    requires { Held c.now.order c.now.counts × (length image.now ≡ image_size) }
+    requires { Held c.now.order c.now.counts }
     ensures { Written c.now.ais device image.now (pending_in c.now) out.old out.new result }
 {
     let p = Parts {

@@ -58,8 +58,8 @@ fn decimal_size(v: u64) -> usize
     v.max(1).ilog10() as usize + 1
 }
 
-// A text that is written piece by piece. No String: nothing is allocated.
-// It owns its bytes: with a borrowed buffer each clause would say as well that the field keeps its reference.
+// A text that is written piece by piece. No String: nothing is allocated. It owns its bytes: with a borrowed buffer
+// each clause would say as well that the field keeps its reference. Drop alone: nothing copies it.
 #[derive(Drop)]
 struct Text {
     bytes: [u8; TEXT_BYTES],
@@ -236,7 +236,7 @@ pub fn write_refusal(out: &mut [u8; TEXT_BYTES], code: u32) -> usize
 pub const MOST_BYTES: usize = 65536;
 
 // Plays the list in input on a fresh controller of its flag. Writes the listing, or the refusal, from the start of out,
-// and answers the length of the text.
+// and answers the length of the text, as its promise says.
 pub fn print_list(input: &[u8], out: &mut [u8; TEXT_BYTES]) -> usize
     ensures text { (result ≡ length (printed input.now))
         × (out.new ≡ printed input.now ++ drop result out.old) }

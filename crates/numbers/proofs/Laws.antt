@@ -1,10 +1,10 @@
 -- Laws of copies within a list, of big-endian numbers, of the eight subclasses, and of a flag as a number.
 use mathlib.Core.{Bool.Bool, Bool.true, Bool.false, Path.◌≡◌, Path.refl, Path.sym, Path.ap, Path.◌∙◌, List.List, List.[], List.◌∷◌, List.◌++◌, List.append_assoc}
 use Prim.Native.Nat.{ℕ, zero, suc, ◌+◌, ◌-◌, ◌*◌, ◌/◌, ◌%◌, ◌^◌, ◌≤◌, ◌<◌}
-use native.Mathlib.Nat.{add-zero, add-suc, mul-one, pow-zero, mul_assoc, pow-suc, pow-le-pow_right, div-div-eq-div-mul}
+use native.Mathlib.Nat.{add-zero, mul_assoc, pow-suc, pow-le-pow_right, div-div-eq-div-mul}
 use native.Mathlib.{Numerals.add-one, Omega.arith}
 use lib.ListN.{length, take, drop, get_or, set, length-drop, length-append, length-set}
-use lib.Seq.{take_at, drop_at, take-append-le, take-take, take_all, take-suc, take-add, drop-cons, drop-drop, drop-paste, get_or-drop, length-take-le, set_at, paste, paste-zero, paste-suc}
+use lib.Seq.{take_at, drop_at, take-append-le, take-take, take_all, take-suc, drop-drop, drop-paste, get_or-drop, length-take-le, set_at, paste, paste-zero, paste-suc}
 pub use Rattle.std.proofs.lemmas.List.{take-map, drop-map, map-set, drop-take}
 use Rattle.std.specs.Int.{from_bool}
 use Rattle.rules.specs.{Bytes.number, Bytes.part, Bytes.field, MoveList.one_if}
@@ -53,32 +53,28 @@ module _ {A : Type 0} where
   part-before d at s n i w h k = sym (drop-take i w (paste d at s n)) ∙ ap (λ (x : List A). drop i x) (take-before d at s n (i + w) h k) ∙ drop-take i w d
 
 -- ---- big-endian numbers
--- a number in two parts
-pow-add : (a m n : ℕ) → a ^ (m + n) ≡ a ^ m * a ^ n
-pow-add a m zero = rw (add-zero, pow-zero, mul-one)
-pow-add a m (suc n) = rw (add-suc, pow-suc a (m + n), pow-add a m n, mul_assoc, pow-suc a n)
-
-number_append : (xs ys : List ℕ) → number (xs ++ ys) ≡ number xs * 256 ^ length ys + number ys
+number-snoc : (xs : List ℕ) (y : ℕ) → number (xs ++ y ∷ []) ≡ number xs * 256 + y
 unfolding number
-number_append [] ys = omega arith
-number_append (b ∷ xs) ys =
-    let e : b * 256 ^ length (xs ++ ys) ≡ b * 256 ^ length xs * 256 ^ length ys = rw (length-append, pow-add, mul_assoc) in
-    omega (arith, number_append xs ys)
+number-snoc [] y = omega arith
+number-snoc (b ∷ xs) y =
+    let e : b * 256 ^ length (xs ++ y ∷ []) ≡ b * 256 ^ length xs * 256 = rw (length-append, add-one, pow-suc, mul_assoc) in
+    omega (arith, number-snoc xs y)
+
+-- the number of the n bytes from index at, the last of which is that at index p
+pub next-byte : (l : List ℕ) (at i n p : ℕ) → n ≡ i + 1 → p ≡ at + i → p < length l → number (take n (drop at l)) ≡ number (take i (drop at l)) * 256 + get_or l p 0
+next-byte l at i n p e f h =
+    let k : i < length (drop at l) = simp length-drop (omega arith) in
+    rw (e, f, add-one i, take-suc (drop at l) i 0 k, get_or-drop, number-snoc)
 
 -- a turn of read_be
 pub read-turn : (l : List ℕ) (at i v x : ℕ) → at + i < length l → v ≡ number (take i (drop at l)) → v < 256 ^ i → x ≡ get_or l (at + i) 0 → x < 256
     → (v * 256 + x ≡ number (take (i + 1) (drop at l))) × (v * 256 + x < 256 ^ (i + 1))
-unfolding number
-read-turn l at i v x h e b ex bx =
-    let k : i < length (drop at l) = simp length-drop (omega arith) in
-    (rw (add-one i, take-suc (drop at l) i 0 k, get_or-drop, number_append, ex) (omega arith), rw (add-one i, pow-suc) (omega arith))
+read-turn l at i v x h e b ex bx = (omega (arith, next-byte l at i (i + 1) (at + i) refl refl h), rw (add-one i, pow-suc) (omega arith))
 
-pub number-parts : (l : List ℕ) (at m n : ℕ) → at + m + n ≤ length l
-    → number (take (m + n) (drop at l)) ≡ number (take m (drop at l)) * 256 ^ n + number (take n (drop (at + m) l))
-number-parts l at m n h =
-    let k : n ≤ length (drop (at + m) l) = simp length-drop (omega arith) in
-    let e : length (take n (drop (at + m) l)) ≡ n = length-take-le n (drop (at + m) l) k in
-    rw (take-add m n (drop at l), drop-drop m at l, number_append, e)
+-- the number of two bytes
+pub pair : (l : List ℕ) (at p : ℕ) → p ≡ at + 1 → p < length l → number (take 2 (drop at l)) ≡ get_or l at 0 * 256 + get_or l p 0
+unfolding number
+pair l at p e h = omega (arith, next-byte l at 0 1 at refl (omega arith) (omega arith), next-byte l at 1 2 p refl e h)
 
 -- a number within a part
 pub field-part : (at n w from : ℕ) (b : List ℕ) → at + n ≤ w → field at n (part from w b) ≡ field (from + at) n b
@@ -86,13 +82,6 @@ field-part at n w from b h =
     let d : drop at (take w (drop from b)) ≡ take (w - at) (drop at (drop from b)) =
     rw (let e : at + (w - at) ≡ w = omega arith in e) at (drop-take at (w - at) (drop from b)) in
     rw (d, take-take n (w - at) (drop at (drop from b)) (omega arith), drop-drop)
-
--- two bytes are below 65,536
-pub pair_small : (l : List ℕ) (at : ℕ) → at + 2 ≤ length l → ((i : ℕ) → get_or l i 0 < 256) → number (take 2 (drop at l)) < 65536
-unfolding number
-pair_small l at h f =
-    let e : take 2 (drop at l) ≡ get_or l at 0 ∷ get_or l (suc at) 0 ∷ [] = rw (drop-cons l at 0 (omega arith), drop-cons l (suc at) 0 (omega arith)) in
-    rw e (omega (arith, f at, f (suc at)))
 
 -- eight bytes fit
 pub read_fits : (v i n : ℕ) → v < 256 ^ i → i < n → n ≤ 8 → v * 256 + 256 ≤ 2 ^ 64

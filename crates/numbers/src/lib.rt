@@ -88,7 +88,8 @@ pub fn subclass_byte(isc: Subclass) -> u64
     u64::from(isc.0)
 }
 
-// The number that the n bytes from index at say, the first byte highest.
+// The number that the n bytes from index at say, the first byte highest. No from_be_bytes: its array has the size of
+// the type, and n is any number up to 8.
 pub fn read_be(b: &[u8], at: usize, n: usize) -> u64
     requires { (n ≤ 8) × (at + n ≤ length b.now) }
     ensures { (result ≡ field at n b.now) × (result < 256 ^ n) }
@@ -100,12 +101,21 @@ pub fn read_be(b: &[u8], at: usize, n: usize) -> u64
     v
 }
 
-// The number that the 8 bytes from index at say, read as two of 4: a loop over 8 bytes compiles to a load for each.
+// The number that the 8 bytes from index at say.
 pub fn read_doubleword(b: &[u8], at: usize) -> u64
     requires { at + 8 ≤ length b.now }
     ensures { (result ≡ field at 8 b.now) × (result < 256 ^ 8) }
 {
-    read_be(b, at, 4) * 4294967296 + read_be(b, at + 4, 4)
+    u64::from_be_bytes([
+        b[at],
+        b[at + 1],
+        b[at + 2],
+        b[at + 3],
+        b[at + 4],
+        b[at + 5],
+        b[at + 6],
+        b[at + 7],
+    ])
 }
 
 // The number that the 4 bytes from index at say, and its two halves.
@@ -114,10 +124,10 @@ pub fn read_word(b: &[u8], at: usize) -> u64
     ensures value { result ≡ field at 2 b.now * 65536 + field (at + 2) 2 b.now }
     ensures halves { (field at 2 b.now < 65536) × (field (at + 2) 2 b.now < 65536) }
 {
-    read_be(b, at, 4)
+    u64::from(u32::from_be_bytes([b[at], b[at + 1], b[at + 2], b[at + 3]]))
 }
 
-// Writes the n lowest bytes of v from index at, the highest of them first.
+// Writes the n lowest bytes of v from index at, the highest of them first. No to_be_bytes, for the same reason.
 pub fn write_be(b: &mut [u8], at: usize, n: usize, v: u64)
     requires { (n ≤ 8) × (at + n ≤ length b.old) }
     ensures { b.new ≡ paste b.old at (bytes n v) n }

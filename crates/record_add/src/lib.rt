@@ -35,7 +35,8 @@ fn subclass_at(b: &[u8], at: usize) -> Subclass
     Subclass((word / 134217728 % 8) as u8)
 }
 
-// The kind of the record at index at of b.
+// The kind of the record at index at of b. A record is given as bytes and an index, here and below, since it is checked
+// and added where it lies.
 pub fn kind_at(b: &[u8], at: usize) -> Kind
     requires { at + 72 ≤ length b.now }
     ensures { result ≡ kind_case (part at 72 b.now) }

@@ -1,4 +1,5 @@
-// Inner crate: the search over subclasses and records.
+// Inner crate: the search over subclasses and records. A function is lent the arrays that it reads, and no struct with
+// more, as in store_queues.
 #![tactic(auto)]
 
 ghost use Rattle.std.specs.Prelude.{◌≡◌, take, Some, None};

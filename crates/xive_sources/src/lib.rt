@@ -54,7 +54,7 @@ pub struct Reading {
     pub word: u64,
 }
 
-// No From, nor the two below: a word is any number, and not every targeting has one.
+// No From, nor for targeting_of and word_of: a word is any number, and not every targeting has one.
 pub fn server_in(word: u64) -> Server
     ensures { result.0 ≡ server_in word }
 {

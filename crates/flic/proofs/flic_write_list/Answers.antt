@@ -11,7 +11,7 @@ returns-then-t-ne-PLACES c =
     rw c.from.ensures (wrong-promises a.c.now a.d.now a.t.now a.out.now (wrong-length a.c.now _ c.if-t-ne-PLACES.true) write_list tt)
 
 pub write_list-requires : goal.write_list-requires
-write_list-requires c = ((c.requires (right-length c.args.c.now _ c.if-t-ne-PLACES.false)).ready, search rules)
+write_list-requires c = (c.requires (right-length c.args.c.now _ c.if-t-ne-PLACES.false)).ready
 
 pub returns : goal.returns
 returns c =

@@ -1,4 +1,5 @@
 -- The length is computed first; then the parts are put one behind the other.
+use Rattle.std.proofs.Common.{rules}
 use Rattle.numbers.proofs.Basics.{◌≡◌, refl, sym, ap, ◌∙◌, List, ℕ, ◌+◌, ◌*◌, arith, length}
 use Rattle.rules.specs.{State.State, State.Record, State.listing, MoveList.ListRequest, MoveList.list_requests, MoveList.total}
 use Rattle.rules.proofs.Reachable.{length-records}
@@ -25,7 +26,7 @@ module _ (c : After-payload_bytes) where
 
   counted : Counted c.args.image.now parts
   counted = record {
-    whole = c.requires.1;
+    whole = search rules;
     registers = c.count.ensures.0;
     modifies = c.count-2.ensures.0;
     few_registers = c.count.ensures.1;
@@ -64,4 +65,4 @@ returns-then-out-total c =
 pub put_payloads-requires : goal.put_payloads-requires
 put_payloads-requires c =
     let p = (goal.at.put_payloads-requires c).After-payload_bytes in
-    (c.requires.0, counted p, whole p, omega (arith, c.entry_count-n.ensures.1), rw (← c.payload_bytes.ensures.0) (omega (arith, c.if-out-total.false)))
+    (c.requires, counted p, whole p, omega (arith, c.entry_count-n.ensures.1), rw (← c.payload_bytes.ensures.0) (omega (arith, c.if-out-total.false)))

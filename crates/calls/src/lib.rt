@@ -97,7 +97,8 @@ fn inject_in(
     requires { Held c.old.order c.old.counts × Imaged image.now }
     ensures by_index { (b : List ℕ) → SetTo bounds.places bounds.room c.old.ais 10 id.0 b
         image.now (pending_in c.old) device.old image.now (pending_in c.new) device.new result }
-    ensures held { Held c.new.order c.new.counts × (c.new.ais ≡ c.old.ais) }
+    ensures held { Held c.new.order c.new.counts }
+    ensures others { (c.new.singles ≡ c.old.singles) × (c.new.ais ≡ c.old.ais) }
     ensures kept { OnErr result ((c.new ≡ c.old) × (device.new ≡ device.old)) }
 {
     let place = list_image::look_up(image, bounds.places, id);

@@ -1,6 +1,6 @@
 -- From the check of a request, and what it changes where that is passed, to what the request promises.
 use Rattle.numbers.proofs.Basics.{ℕ, ◌≡◌, refl, ap, sym, ◌∙◌, Bool, List, map, get_or, set}
-use Rattle.numbers.proofs.Basics.{length-set, list-get_or-map}
+use Rattle.numbers.proofs.Basics.{length-set, list-get_or-map, rules}
 use Rattle.rules.specs.{Bytes.choose, State.State, State.free, State.with_device, Outcome.result, Outcome.tell, Machine.answer_of}
 use Rattle.rules.proofs.Lists.{all_set, all-get}
 use Rattle.adapters.specs.{declared.Device.Device, declared.Place.Place, Values.place_of, Values.device_of, Values.device_from, Values.unused, Values.Canonical}
@@ -49,7 +49,7 @@ module _ (group attr : ℕ) (t : List Place) (b : List ℕ) where
   place-refused e f =
       record {
         answer = λ L s l h. ap (answer_of L s b) (f L s l (seen s h)) ∙ (λ i. tell (code_of e) 0 (with_table (h i) s) b);
-        kept = refl;
+        kept = search rules;
         canonical = λ c. c;
         same_length = refl;
       }
@@ -60,7 +60,7 @@ module _ (group attr : ℕ) (t : List Place) (b : List ℕ) where
       record {
         answer = λ L s l h. ap (answer_of L s b) (f L s l (seen s h))
             ∙ (λ i. tell 0 0 (with_table (((λ j. set (h j) id ((sym e) j)) ∙ sym (map-set place_of t id p)) i) s) b);
-        kept = tt;
+        kept = search rules;
         canonical = λ a. all_set Canonical t id p a (c (all-get Canonical t id unused a canonical-unused));
         same_length = length-set t id p;
       }

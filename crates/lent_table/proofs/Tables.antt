@@ -20,7 +20,7 @@ snap-next t i = rw (add-one i)
 
 pub ruleset snapping = (snap-none, snap-next)
 
-length-snap : (t : List Place) (n : ℕ) → length (snap_to t n) ≡ image_size
+pub length-snap : (t : List Place) (n : ℕ) → length (snap_to t n) ≡ image_size
 unfolding snap_to
 length-snap t zero = length-replicate {A = ℕ} image_size 0
 length-snap t (suc n) = length-set (snap_to t n) n _ ∙ length-snap t n
@@ -42,7 +42,7 @@ cleared-next t i h = rw (← restored-next t (replicate image_size 0) i, get_or-
 
 pub ruleset clearing = (restored-none, cleared-next)
 
-length-restored : (t : List Place) (all : List ℕ) (n : ℕ) → length (restored t all n) ≡ length t
+pub length-restored : (t : List Place) (all : List ℕ) (n : ℕ) → length (restored t all n) ≡ length t
 unfolding restored
 length-restored t all zero = refl
 length-restored t all (suc n) = length-set (restored t all n) n _ ∙ length-restored t all n
@@ -52,7 +52,7 @@ set_below : {A : Type 0} (l : List A) (n i : ℕ) (a d x : A) → n < length l �
 set_below l n i a d x h below here there = grind (arith, get_or-set_at, get_or-set_other)
 
 -- the first n numbers of an image are those of the places
-snap-at : (t : List Place) (n i d : ℕ) → i < n → n ≤ image_size → get_or (snap_to t n) i d ≡ packed (get_or t i unused)
+pub snap-at : (t : List Place) (n i d : ℕ) → i < n → n ≤ image_size → get_or (snap_to t n) i d ≡ packed (get_or t i unused)
 unfolding snap_to
 snap-at t zero i d h m = absurd (omega arith)
 snap-at t (suc n) i d h m = set_below (snap_to t n) n i _ d _ (omega (arith, length-snap t n)) h (λ e. rw e) (λ l. snap-at t n i d l (omega arith))
@@ -63,12 +63,17 @@ snap-all t e =
     ext_get_or (packed unused) (snap_to t image_size) (map packed t) (length-snap t image_size ∙ sym e ∙ sym (length-map t packed))
     (λ i h. snap-at t image_size i (packed unused) (omega (arith, length-snap t image_size)) (omega arith) ∙ sym (list-get_or-map packed t i unused))
 
--- the first n places are those of the image
-restored_at : (t : List Place) (all : List ℕ) (n i : ℕ) (d : Place) → i < n → n ≤ length t → get_or (restored t all n) i d ≡ unpacked (get_or all i 0)
+-- the first n places are those of the image, and the rest stays
+pub restored_at : (t : List Place) (all : List ℕ) (n i : ℕ) (d : Place) → i < n → n ≤ length t → get_or (restored t all n) i d ≡ unpacked (get_or all i 0)
 unfolding restored
 restored_at t all zero i d h m = absurd (omega arith)
 restored_at t all (suc n) i d h m =
     set_below (restored t all n) n i _ d _ (omega (arith, length-restored t all n)) h (λ e. rw e) (λ l. restored_at t all n i d l (omega arith))
+
+pub restored-rest : (t : List Place) (all : List ℕ) (n i : ℕ) (d : Place) → n ≤ i → get_or (restored t all n) i d ≡ get_or t i d
+unfolding restored
+restored-rest t all zero i d h = refl
+restored-rest t all (suc n) i d h = get_or-set_other (restored t all n) n i _ d (λ e. omega arith) ∙ restored-rest t all n i d (omega arith)
 
 -- a table of n places restored whole has the places of the image
 pub restored-all : (t : List Place) (all : List ℕ) (n : ℕ) → length t ≡ n → n ≤ length all → restored t all n ≡ map unpacked (take n all)

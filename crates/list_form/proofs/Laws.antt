@@ -103,7 +103,7 @@ slot-within b place h p =
     rw (← drop-drop (table_entry_bytes * place) header_bytes b) (within (length b) (payload_offset (count_in b)) (count_in b) place (drop header_bytes b) p h.slots)
 
 -- what the offsets say where they pass
-offsets-say : (t : Bool) (x y n : ℕ) → (t && (eqb x y && leb x n)) ≡ true → (x ≡ y) × (y ≤ n)
+pub offsets-say : (t : Bool) (x y n : ℕ) → (t && (eqb x y && leb x n)) ≡ true → (x ≡ y) × (y ≤ n)
 offsets-say t x y n h =
     let k = right t _ h in
     let e = eqb-true x y (left (eqb x y) _ k) in
@@ -117,7 +117,7 @@ abbrev well_formed : List ℕ → Bool
 well_formed b = formed (length b) (payload_offset (count_in b)) (slots_of b)
 
 module _ (ais : Bool) (b : List ℕ) where
-  refused-with : (refusal : Refusal) → ((L : Limits) (s : State) → s.ais ≡ ais → plays L s b ≡ refuse (code_of refusal)) → Form ais b (Err refusal)
+  pub refused-with : (refusal : Refusal) → ((L : Limits) (s : State) → s.ais ≡ ais → plays L s b ≡ refuse (code_of refusal)) → Form ais b (Err refusal)
   refused-with refusal f = record { good = tt; played = tt; refused = f }
 
   pub short : length b < header_bytes → Form ais b (Err Fault)

@@ -12,6 +12,7 @@ use Rattle.answers.specs.{declared.Refusal.Refusal, Answers.Answers, Answers.as_
 use Rattle.answers.proofs.Laws.{not-0}
 use Rattle.adapters.specs.{declared.Device.Device, Values.device_of}
 use Rattle.list_image.specs.Image.{image_size}
+use Rattle.list_image.specs.Places.{places_of}
 use Rattle.list_image.proofs.Laws.{places-none}
 use Rattle.list_form.specs.Form.{slot_at}
 use Rattle.list_form.proofs.Laws.{slots_from, next-slot, last-slot}
@@ -93,13 +94,13 @@ take-replicate zero n x h = refl
 take-replicate (suc m) zero x h = absurd (not-suc-le-zero h)
 take-replicate (suc m) (suc n) x h = rw (take-replicate m n x (le_of_suc-le-suc h))
 
-pub fresh-is : (places room : ℕ) (ais : Bool) (device : Device) (p : Pending) → places ≤ image_size → p ≡ nothing → device ≡ record { simm = 0; nimm = 0; apf = false }
-    → fresh (limits_from places room) ais ≡ image_state ais places (replicate image_size 0) p device
+pub fresh-is : (places room : ℕ) (ais : Bool) (image : List ℕ) (device : Device) (p : Pending) → places ≤ image_size → image ≡ replicate image_size 0 → p ≡ nothing → device ≡ record { simm = 0; nimm = 0; apf = false }
+    → fresh (limits_from places room) ais ≡ image_state ais places image p device
 unfolding fresh
-fresh-is places room ais device p h e d =
+fresh-is places room ais image device p h z e d =
     λ i. record {
       ais = ais;
-      adapters = (sym (ap (take places) (places-none image_size) ∙ take-replicate places image_size rules.free h)) i;
+      adapters = (sym (ap (λ (l : List ℕ). take places (places_of l)) z ∙ ap (take places) (places-none image_size) ∙ take-replicate places image_size rules.free h)) i;
       pending = sym e i;
       device = device_of (sym d i);
     }

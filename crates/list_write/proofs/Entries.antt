@@ -138,7 +138,7 @@ length-places image = length-map image (λ b. place_of (unpacked b))
 
 -- where none is left
 module _ (entry : Entry) (i : ℕ) (image : List ℕ) (h : length image ≤ i) where
-  each_last : each_from entry i image ≡ []
+  pub each_last : each_from entry i image ≡ []
   unfolding by_rising_id
   each_last = rw (drop_of_length-le (places_of image) {i = i} (rw (length-places image) h))
 
@@ -157,7 +157,7 @@ module _ (entry : Entry) (i : ℕ) (image : List ℕ) (h : i < length image) whe
   abbrev pub here : Place
   here = unpacked (get_or image i 0)
 
-  each_next : each_from entry i image ≡ maybe (is_written entry here) (entry_at entry i here) ++ each_from entry (i + 1) image
+  pub each_next : each_from entry i image ≡ maybe (is_written entry here) (entry_at entry i here) ++ each_from entry (i + 1) image
   unfolding places_of
   each_next =
       let k : drop i (places_of image) ≡ place_of here ∷ drop (i + 1) (places_of image) =

@@ -8,7 +8,7 @@ use Rattle.answers.specs.declared.Answer.{Answer}
 use Rattle.listing_text.specs.Wrote.{Wrote}
 
 -- the buffer is as long as it was
-wrote-long : {d e : List ℕ} {at : ℕ} {t : List ℕ} {i : ℕ} → Wrote d e at t i → length e ≡ length d
+pub wrote-long : {d e : List ℕ} {at : ℕ} {t : List ℕ} {i : ℕ} → Wrote d e at t i → length e ≡ length d
 wrote-long {d} {e} {at} {t} w = rw w.now (length-paste d at t (length t) (omega (arith, w.ends, w.fits)) (omega arith))
 
 -- text from the buffer's start

@@ -39,7 +39,7 @@ size-most zero (suc n) v h = omega (arith, size-one (suc n) v h)
 size-most (suc k) (suc n) v h =
     chosen-most (ltb v 10) (digit_count n (v / 10)) (suc k) (size-most k n (v / 10) ((div-lt_iff_lt-mul (omega arith)).1 (rw (← pow-suc) h)))
 
-size-next : (v : ℕ) → 10 ≤ v → digit_count v v ≡ suc (digit_count (v / 10) (v / 10))
+pub size-next : (v : ℕ) → 10 ≤ v → digit_count v v ≡ suc (digit_count (v / 10) (v / 10))
 unfolding digit_count choose
 size-next zero h = absurd (omega arith)
 size-next (suc n) h = rw (le-ltb (suc n) 10 h) (ap suc (size-enough n (suc n / 10) (suc n / 10) (omega arith) (omega arith)))

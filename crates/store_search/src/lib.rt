@@ -36,7 +36,9 @@ fn is_wanted(b: &[u8; SLOT_BYTES], s: u8, subchannel: Option<Subchannel>) -> boo
     }
 }
 
-// The first record in listing order of one of the subclasses, and for the subchannel if one is named.
+// The first record in listing order of one of the subclasses, and for the subchannel if one is named. It is compiled
+// into its callers: as a function of its own, a CLEAR_IO that finds nothing takes half as many instructions again.
+#[inline(always)]
 pub fn find(
     b: &[u8; SLOT_BYTES],
     o: &[u8; ORDER_BYTES],

@@ -3,6 +3,7 @@ use Rattle.numbers.proofs.Basics.{refl, sym, ◌∙◌, eq-eqb, ne_eqb}
 use Rattle.std.specs.Prelude.{Ok, Err}
 use Rattle.std.proofs.lemmas.Result.{err_from_is_err_and}
 use Rattle.rules.proofs.Checks.{chosen, passed}
+use Rattle.adapters.specs.Values.{injected_device}
 use Rattle.calls.proofs.{Requests.set-injected}
 use Rattle.calls.proofs.inject_in.Goals as goal
 
@@ -14,7 +15,8 @@ returns-in_err-appended c =
     rw (p.1, p.2) (
     record {
       by_index = λ b. rw e.others.0 (set-injected (Err x) e.injected _ c.look_up-place.ensures.0 _ (passed _ _ _ refl) c.args.c.now.singles b);
-      held = (e.held, e.others.1);
+      held = e.held;
+      others = e.others;
       kept = (e.kept, refl);
     })
 
@@ -22,8 +24,9 @@ pub returns-then-appended-eq1 : goal.returns-then-appended-eq1
 returns-then-appended-eq1 c =
     let e = c.in_ok-appended.ensures in record {
       by_index = λ b. rw e.others.0
-          (set-injected (Ok _) e.injected _ c.look_up-place.ensures.0 _ (chosen _ _ _ (eq-eqb _ 1 c.if-appended-eq1.true) ∙ sym (rw e.others.1 at c.after_injection.ensures)) c.args.c.now.singles b);
-      held = (e.held, e.others.1);
+          (set-injected (Ok _) e.injected _ c.look_up-place.ensures.0 _ (chosen _ _ _ (eq-eqb _ 1 c.if-appended-eq1.true) ∙ sym (c.after_injection.ensures ∙ (λ i. injected_device (e.others.1 i) c.args.device.now c.look_up-place.result))) c.args.c.now.singles b);
+      held = e.held;
+      others = e.others;
       kept = tt;
     }
 
@@ -31,6 +34,7 @@ pub returns-else-appended-eq1 : goal.returns-else-appended-eq1
 returns-else-appended-eq1 c =
     let e = c.in_ok-appended.ensures in record {
       by_index = λ b. rw e.others.0 (set-injected (Ok _) e.injected _ c.look_up-place.ensures.0 _ (passed _ _ _ (ne_eqb _ 1 c.if-appended-eq1.false)) c.args.c.now.singles b);
-      held = (e.held, e.others.1);
+      held = e.held;
+      others = e.others;
       kept = tt;
     }

@@ -25,6 +25,6 @@ pub returns-then-group-eq-AIRQ_INJECT : goal.returns-then-group-eq-AIRQ_INJECT
 returns-then-group-eq-AIRQ_INJECT c =
     let e = c.inject_in.ensures in record {
       set_to = as-answer _ _ _ _ _ 10 c.if-group-eq-AIRQ_INJECT.true refl (e.by_index _);
-      held = (e.held.0, c.requires.1, e.held.1);
+      held = (e.held, c.requires.1, e.others.1);
       kept = on_err_weaker c.inject_in.result (λ k. (k.0, refl, k.1)) e.kept;
     }

@@ -27,11 +27,3 @@ returns-then-on_place c =
 pub set_modes-requires : goal.set_modes-requires
 set_modes-requires c =
     (c.if-group-eq-ENQUEUE.false, c.requires.2, c.requires.3, c.requires.4, sym c.on_place.ensures ∙ c.if-on_place.false)
-
-pub returns : goal.returns
-returns c =
-    let e = c.set_modes.ensures in record {
-      set_to = e.by_index _ _ _ _;
-      held = (c.requires.0, c.requires.1, refl);
-      kept = on_err_weaker c.set_modes.result (λ k. (refl, refl, k)) e.kept;
-    }

@@ -62,7 +62,7 @@ returns-in_err-appended c =
     let p = err_from_is_err_and c.from_residual.result c.from_residual.ensures.1 in
     rw (p.1, p.2)
     (noted-promises a.attr a.c.now _ a.d.now a.t.now a.payload.now (Err c.in_err-appended.field-0.0) right (c.requires right) (record { injected = f.injected; held = f.held; singles = f.others.0; ais = f.others.1; kept = f.kept }) a.group c.if-group-eq-AIRQ_INJECT.true _
-    (passed _ (injected_device a.c.now.ais a.d.now place) a.d.now refl))
+    (passed _ (injected_device a.c.now.ais a.d.now place) a.d.now refl ∙ grind arith))
 
 pub note_injection-requires : goal.note_injection-requires
 note_injection-requires c =
@@ -75,9 +75,8 @@ returns-then-appended-eq1 c =
     let right = right-length a.c.now _ c.if-t-ne-PLACES.false in
     let place = get_or a.t.now a.attr unused in
     let f = rw (c.read_device-device.ensures, c.look_up-place.ensures) at c.in_ok-appended.ensures in
-    let n = rw (c.look_up-place.ensures, f.others.1) at c.note_injection.ensures in
     noted-promises a.attr a.c.now _ a.d.now a.t.now a.payload.now (Ok _) right (c.requires right) (record { injected = f.injected; held = f.held; singles = f.others.0; ais = f.others.1; kept = f.kept }) a.group c.if-group-eq-AIRQ_INJECT.true _
-    (chosen _ (injected_device a.c.now.ais a.d.now place) a.d.now (eq-eqb _ 1 c.if-appended-eq1.true) ∙ sym n)
+    (chosen _ (injected_device a.c.now.ais a.d.now place) a.d.now (eq-eqb _ 1 c.if-appended-eq1.true) ∙ grind arith)
 
 pub returns-else-appended-eq1 : goal.returns-else-appended-eq1
 returns-else-appended-eq1 c =
@@ -86,7 +85,7 @@ returns-else-appended-eq1 c =
     let place = get_or a.t.now a.attr unused in
     let f = rw (c.read_device-device.ensures, c.look_up-place.ensures) at c.in_ok-appended.ensures in
     noted-promises a.attr a.c.now _ a.d.now a.t.now a.payload.now (Ok _) right (c.requires right) (record { injected = f.injected; held = f.held; singles = f.others.0; ais = f.others.1; kept = f.kept }) a.group c.if-group-eq-AIRQ_INJECT.true _
-    (passed _ (injected_device a.c.now.ais a.d.now place) a.d.now (ne_eqb _ 1 c.if-appended-eq1.false))
+    (passed _ (injected_device a.c.now.ais a.d.now place) a.d.now (ne_eqb _ 1 c.if-appended-eq1.false) ∙ grind arith)
 
 pub returns-then-on_place : goal.returns-then-on_place
 returns-then-on_place c =

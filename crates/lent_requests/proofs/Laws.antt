@@ -31,7 +31,7 @@ module _ (ais : Bool) (group attr : ℕ) (d : Device) (b : List ℕ) where
         kept = tt;
       }
 
--- ---- the table
+-- ---- the table. `kept` is searched for, so that another clause is judged by what it says and not by the form of its proof.
 module _ (group attr : ℕ) (t : List Place) (b : List ℕ) where
   abbrev id : ℕ
   id = payload_id b

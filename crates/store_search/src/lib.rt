@@ -37,8 +37,8 @@ fn is_wanted(b: &[u8; SLOT_BYTES], s: u8, subchannel: Option<Subchannel>) -> boo
 }
 
 // The first record in listing order of one of the subclasses, and for the subchannel if one is named. It is compiled
-// into its callers: as a function of its own, a CLEAR_IO that finds nothing, with one record pending, takes half as many
-// instructions again.
+// into its callers: as a function of its own it made a CLEAR_IO that finds nothing, with one record pending, take half
+// as many instructions again.
 #[inline(always)]
 pub fn find(
     b: &[u8; SLOT_BYTES],

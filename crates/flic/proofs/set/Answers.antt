@@ -1,4 +1,5 @@
--- The table's length is looked at first; then each class of requests does what the machine does.
+-- The table's length is looked at first; then each class of requests does what the machine does. What an injection leaves in
+-- the device record is found among the facts (`grind`), not named: code that notes otherwise then fails at that goal.
 use Rattle.numbers.proofs.Basics.{refl, ◌∙◌, sym, get_or, arith, eq-eqb, ne_eqb}
 use Rattle.std.specs.Prelude.{Ok, Err}
 use Rattle.std.proofs.lemmas.Result.{err_from_is_err_and}
